@@ -14,6 +14,9 @@ const FIRST_PLACES: usize = 1 << 10;
 /// How many it has at most, a power of four times as many.
 const MOST_PLACES: usize = 1 << 18;
 
+/// From `n` places more than `n^2` divided by this are recalled before there are more: a large memory has to be of more use than a small one.
+const USE: usize = 1 << 15;
+
 /// Nine squares and the answer for them, by the numbers of their Ids. Where the number of the answer is 0 there is none.
 #[derive(Clone, Copy)]
 pub(crate) struct Place {
@@ -28,8 +31,8 @@ const EMPTY: Place = Place {
 };
 
 /// Answers for nine squares side by side, found by the numbers of their Ids in constant time. It forgets: each nine have one place, which the last
-/// that came there hold. It begins with 1,024 places of 40 bytes when the first answer is put, and has four times as many each time that an eighth
-/// as many answers were recalled as it has places, up to 2^18. Where memory is refused it does without.
+/// that came there hold. It begins with 1,024 places of 40 bytes when the first answer is put, and n places become four times as many when more than
+/// n^2 / 2^15 answers were recalled from them, up to 2^18. Where memory is refused it does without.
 #[derive(Drop)]
 pub struct NeighbourhoodMemory {
     /// None, or a power of two.
@@ -125,7 +128,8 @@ impl NeighbourhoodMemory {
         ensures { (p : PlaceValue) → Holds self.new p → Holds self.old p }
     {
         let count = self.places.len();
-        if count == 0 || (count < MOST_PLACES && self.hits > count / 8) {
+        let enough = count.saturating_mul(count) / USE;
+        if count == 0 || (count < MOST_PLACES && self.hits > enough) {
             make_places(&mut self.places);
             self.hits = 0;
         }

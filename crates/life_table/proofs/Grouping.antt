@@ -2,6 +2,8 @@
 use Rattle.std.proofs.Common.{◌≡◌, ◌≢◌, ℕ, zero, suc, ◌+◌, ◌<◌, ◌≤◌, List, [], ◌∷◌, ◌++◌, length, take, set, get_or, cond, nat_eq, Bool, true, false, refl, ap, sym, ◌∙◌, subst, ◌⊎◌, inl, inr, arith, ◌||◌, eq-eqb}
 use Rattle.std.specs.Prelude.{All, IsTrue}
 use Rattle.std.specs.List.{list_any}
+use Rattle.std.specs.List.Sorted.{IsPermutation}
+use Rattle.std.proofs.lemmas.List.Sorted.{sum_by-IsPermutation, list_any-IsPermutation}
 use Rattle.std.proofs.lemmas.Bool.Decides.{eqb_tells}
 use Rattle.std.proofs.lemmas.List.Elements.{All-head, All-tail, All-cons}
 use Rattle.std.proofs.lemmas.List.Folds.{list_any-append}
@@ -108,14 +110,14 @@ first_add number (g ∷ groups) h = elim (eqb_tells number g.variable) [
       (0 < length new) × (first_variable new ≡ g.variable)) (sym diff.0) (omega arith, refl)
 ]
 
-either : (a b : Bool) → (a || b) ≡ true → (a ≡ true) ⊎ (b ≡ true)
+pub either : (a b : Bool) → (a || b) ≡ true → (a ≡ true) ⊎ (b ≡ true)
 either true b h = inl refl
 either false b h = inr h
 
-left_true : (a b : Bool) → a ≡ true → (a || b) ≡ true
+pub left_true : (a b : Bool) → a ≡ true → (a || b) ≡ true
 left_true a b h = ap (λ x. x || b) h
 
-right_true : (a b : Bool) → b ≡ true → (a || b) ≡ true
+pub right_true : (a b : Bool) → b ≡ true → (a || b) ≡ true
 right_true true b h = refl
 right_true false b h = h
 
@@ -312,3 +314,18 @@ small_add number n groups d h = all_add (λ g. g.times ≤ n) (λ g. g.times ≤
 
 pub small_more : (n : ℕ) (groups : List Group) → All (λ (g : Group). g.times ≤ n) groups → All (λ (g : Group). g.times ≤ n + 1) groups
 small_more n groups h = λ k d below. let p = h k d below in omega (arith, p)
+
+-- the groups of inputs are those of the same inputs in another order
+pub grouped_moved : (first output : Entry) (es moved : List Entry) (groups : List Group) → IsPermutation es moved → IsGrouped first output moved groups
+    → IsGrouped first output es groups
+grouped_moved first output es moved groups same h = record {
+  counts = λ choice t. h.counts choice t ∙ sum_by-IsPermutation (open_state first choice t) es moved same;
+  distinct = h.distinct;
+  unsettled = h.unsettled;
+  stands = λ k d below. elim (h.stands k d below) [
+    | inl s ↦ inl (list_any-IsPermutation (is_variable (get_or groups k d).variable) es moved same ∙ s)
+    | inr s ↦ inr s
+  ];
+  some = λ k d below s. h.some k d below (sym (list_any-IsPermutation (is_variable (get_or groups k d).variable) es moved same) ∙ s);
+  output_first = h.output_first;
+}

@@ -1,9 +1,9 @@
 -- Which neighbours an entry may be, place by place.
-use Rattle.std.proofs.Common.{◌≡◌, ◌≢◌, ℕ, ◌+◌, ◌-◌, ◌*◌, ◌%◌, ◌/◌, ◌^◌, ◌<◌, List, length, get_or, set, slice_index, cond, nat_lt, Bool, true, false, refl, ap, sym, ◌∙◌, subst, inl, inr, arith, bit_or, bit_and}
+use Rattle.std.proofs.Common.{◌≡◌, ◌≢◌, ℕ, ◌+◌, ◌-◌, ◌*◌, ◌%◌, ◌/◌, ◌^◌, ◌<◌, List, length, get_or, set, slice_index, replicate, cond, nat_lt, Bool, true, false, refl, ap, sym, ◌∙◌, subst, inl, inr, arith, bit_or, bit_and}
 use Rattle.std.specs.Prelude.{IsTrue, Option, Some, None, slice_get, ◌⊎◌}
 use Rattle.std.specs.Int.{bit_at, w16}
 use Rattle.std.proofs.lemmas.Bool.Decides.{eqb_tells}
-use Rattle.std.proofs.lemmas.List.{get_or-set_same, get_or-set_other, get_or_default}
+use Rattle.std.proofs.lemmas.List.{get_or-set_same, get_or-set_other, get_or_default, get_or-replicate}
 use Rattle.std.proofs.lemmas.Nat.Bits.{bit_at_and, bit_at_or, bit_at_set_same, bit_at_set_other, bit_at_ones, same_from_bits_below, bit_at-lt, bit_at-zero}
 use Rattle.std.specs.Option.{option_map_or}
 use Rattle.std.proofs.Math.Nat.{div-div-eq-div-mul}
@@ -131,4 +131,21 @@ seen_is vars others around fixed listed same states variables (entries.Var i) k 
       ap (λ b. bit_at (cond b (slice_index listed i) (2 ^ 16 - 1)) k) is_listed
       ∙ variables i k r.1 below room r.0 r.2 (subst (λ s. IsTrue (has_state r.0 s)) (sym (same k room)) r.3)
   | inr unlisted ↦ ap (λ b. bit_at (cond b (slice_index listed i) (2 ^ 16 - 1)) k) unlisted ∙ bit_at_ones 16 k room
+]
+
+-- where nothing is told, each entry may be each neighbour
+pub untold_is : (vars : List Var) (others : List ℕ) → ((i : ℕ) → slice_index others i < 256)
+    → IsSeen vars others (record { fixed = replicate 256 (2 ^ 16 - 1); listed = replicate 64 (2 ^ 16 - 1) })
+untold_is vars others small (entries.Fixed s) k room h = elim (eqb_tells s (slice_index others (k % length others))) [
+  | inl is ↦
+      let below = small (k % length others) in
+      ap (λ n. bit_at n k) (get_or-replicate 256 s (2 ^ 16 - 1) 0 (omega (arith, is.1, below))) ∙ bit_at_ones 16 k room
+  | inr other ↦ absurd (let e : true ≡ false = sym h ∙ other.0 in let z : ⊥ = cc in z)
+]
+untold_is vars others small (entries.Var i) k room h = elim (known (nat_lt i 64)) [
+  | inl is_listed ↦
+      let below : i < 64 = grind (arith, nat_tests, is_listed) in
+      ap (λ b. bit_at (cond b (slice_index (replicate 64 (2 ^ 16 - 1)) i) (2 ^ 16 - 1)) k) is_listed
+      ∙ ap (λ n. bit_at n k) (get_or-replicate 64 i (2 ^ 16 - 1) 0 below) ∙ bit_at_ones 16 k room
+  | inr unlisted ↦ ap (λ b. bit_at (cond b (slice_index (replicate 64 (2 ^ 16 - 1)) i) (2 ^ 16 - 1)) k) unlisted ∙ bit_at_ones 16 k room
 ]

@@ -1,16 +1,21 @@
 -- Lines that may fit some order of the neighbours: as many inputs may be one of some states as there are neighbours of one.
-use Rattle.std.proofs.Common.{◌≡◌, ℕ, suc, ◌+◌, ◌-◌, ◌*◌, ◌<◌, ◌≤◌, ◌∷◌, List, [], take, length, get_or, slice_index, cond, Bool, true, false, nat_eq, ap, sym, ◌∙◌, subst, ◌⊎◌, inl, inr, refl, arith}
+use Rattle.std.proofs.Common.{◌≡◌, ℕ, suc, ◌+◌, ◌-◌, ◌*◌, ◌<◌, ◌≤◌, ◌∷◌, List, [], take, length, get_or, set, slice_index, cond, Bool, true, false, nat_eq, ap, sym, ◌∙◌, subst, ◌⊎◌, inl, inr, refl, arith, eq-eqb, ◌||◌, length-take, bit_or}
 use Rattle.std.specs.Prelude.{Contains, count_by}
 use Rattle.std.specs.Int.{bit_at}
 use Rattle.std.specs.List.{sum_by}
 use Rattle.std.proofs.lemmas.Bool.Decides.{eqb_tells, leb_tells}
-use Rattle.std.proofs.lemmas.List.{get_or_default}
-use Rattle.std.proofs.lemmas.List.Sums.{count_by_more_yes, count_by_more_no, sum_by-cons}
+use Rattle.std.proofs.lemmas.List.{get_or_default, get_or-set_same, get_or-set_other, get_or-take, take_more_set}
+use Rattle.std.proofs.lemmas.List.Folds.{list_any-append, list_any_more}
+use Rattle.std.proofs.lemmas.List.Sums.{count_by_more_yes, count_by_more_no, sum_by-cons, sum_by-take-drop}
 use Rattle.std.proofs.lemmas.Map.Views.{Contains-from_any}
-use Rattle.life_table.specs.Index.{is_among, MayBeBehind, MayFit}
+use Rattle.life_table.specs.Index.{is_among, AreCounts, MayBeBehind, MayFit}
 use Rattle.life_table.specs.Orders.{orders}
-use Rattle.life_table.proofs.Counts.{sum-order}
+use Rattle.life_table.specs.Meaning.{count_of}
+use Rattle.life_table.proofs.Counts.{sum-order, count-order, count-cons, is_one}
+use Rattle.life_table.proofs.Grouping.{either, left_true, right_true, is_clash}
+use Rattle.life_table.proofs.Seeing.{or_left, or_right}
 use Rattle.life_table.specs.declared.block.Block.{Block}
+use Rattle.life_table.specs.declared.some_order.Counts.{Counts}
 
 -- which of the states it is
 pub is_among_at : (states : List ℕ) (s : ℕ) → is_among states s ≡ true → (i : ℕ) × (i < length states) × (slice_index states i ≡ s)
@@ -47,6 +52,67 @@ length_is_sum (x ∷ xs) = let first = sum_by-cons (λ _. 1) x xs in let rest = 
 pub order_length : (v w : List ℕ) → Contains (orders v) w → length w ≡ length v
 order_length v w h = sym (length_is_sum w) ∙ sum-order (λ _. 1) v w h ∙ length_is_sum v
 
+-- a number that is counted is among the numbers
+among_counted : (t : ℕ) (v : List ℕ) → 0 < count_of t v → is_among v t ≡ true
+among_counted t [] h = absurd (omega (arith, h))
+among_counted t (y ∷ ys) h = elim (eqb_tells t y) [
+  | inl same ↦ left_true (nat_eq y t) (is_among ys t) (eq-eqb y t (sym same.1))
+  | inr other ↦
+      let first = count-cons t y ys in
+      let none : is_one t y ≡ 0 = ap (λ b. cond b 1 0) other.0 in
+      right_true (nat_eq y t) (is_among ys t) (among_counted t ys (omega (arith, h, first, none)))
+]
+
+-- what stands in an order of numbers is among them
+pub among_order : (v w : List ℕ) (p : ℕ) → Contains (orders v) w → p < length w → is_among v (slice_index w p) ≡ true
+among_order v w p order inside =
+    let t = slice_index w p in
+    let one = count_by_more_yes (nat_eq t) w p 0 inside (eq-eqb t (get_or w p 0) refl) in
+    let split = sum_by-take-drop (is_one t) w (p + 1) in
+    let same = count-order t v w order in
+    among_counted t v (omega (arith, one, split, same))
+
+-- one more number: its state is among those that there were, or is put behind them
+module _ (others states : List ℕ) (i count : ℕ) (inside : i < length others)
+    (each : (s : ℕ) → is_among (take i others) s ≡ true → is_among (take count states) s ≡ true) where
+  one_of : (s : ℕ) → is_among (take (i + 1) others) s ≡ true → (is_among (take i others) s ≡ true) ⊎ (nat_eq (slice_index others i) s ≡ true)
+  one_of s h = either (is_among (take i others) s) (nat_eq (slice_index others i) s) (sym (list_any_more (λ t. nat_eq t s) others i 0 inside) ∙ h)
+
+  pub among_before : is_among (take i others) (slice_index others i) ≡ true → (s : ℕ) → is_among (take (i + 1) others) s ≡ true
+      → is_among (take count states) s ≡ true
+  among_before there s h = elim (one_of s h) [
+    | inl before ↦ each s before
+    | inr here ↦ each s (elim (eqb_tells (slice_index others i) s) [
+      | inl same ↦ subst (λ t. is_among (take i others) t ≡ true) same.1 there
+      | inr other ↦ absurd (is_clash (nat_eq (slice_index others i) s) here other.0)
+    ])
+  ]
+
+  pub among_pushed : count < length states → (s : ℕ) → is_among (take (i + 1) others) s ≡ true
+      → is_among (take (count + 1) (set states count (slice_index others i))) s ≡ true
+  among_pushed room s h =
+      let y = slice_index others i in
+      ap (λ xs. is_among xs s) (take_more_set states count y room) ∙ list_any-append (λ t. nat_eq t s) (take count states) (y ∷ [])
+      ∙ elim (one_of s h) [
+        | inl before ↦ left_true (is_among (take count states) s) (nat_eq y s || false) (each s before)
+        | inr here ↦ right_true (is_among (take count states) s) (nat_eq y s || false) (left_true (nat_eq y s) false here)
+      ]
+
+-- one more state is counted
+pub counted_more : (others states times : List ℕ) (count y n : ℕ) → count < length states → count < length times → n ≡ count_by (is_among (y ∷ [])) others
+    → ((j : ℕ) → j < count → slice_index times j ≡ count_by (is_among (slice_index states j ∷ [])) others) → (j : ℕ) → j < count + 1
+    → slice_index (set times count n) j ≡ count_by (is_among (slice_index (set states count y) j ∷ [])) others
+counted_more others states times count y n room space is before j below = elim (eqb_tells j count) [
+  | inl same ↦
+      let there : slice_index (set states count y) j ≡ y = ap (slice_index (set states count y)) same.1 ∙ get_or-set_same states count y 0 room in
+      ap (slice_index (set times count n)) same.1 ∙ get_or-set_same times count n 0 space ∙ is
+      ∙ ap (λ s. count_by (is_among (s ∷ [])) others) (sym there)
+  | inr other ↦
+      let there : slice_index (set states count y) j ≡ slice_index states j = get_or-set_other states count j y 0 other.1 in
+      get_or-set_other times count j n 0 other.1 ∙ before j (omega (arith, below, other.1))
+      ∙ ap (λ s. count_by (is_among (s ∷ [])) others) (sym there)
+]
+
 -- behind the centre
 pub behind : (block : Block) (centre : ℕ) (v : List ℕ) (k : ℕ) → MayFit block (centre ∷ v) k → MayBeBehind block v k
 behind block centre v k fit = λ p below small.
@@ -60,3 +126,46 @@ pub centre_may : (block : Block) (centre : ℕ) (v : List ℕ) (k : ℕ) → May
 centre_may block centre v k fit small =
     let first : 0 + centre ≡ centre = omega arith in
     subst (λ n. bit_at (slice_index block.sets n) k ≡ 1) first (fit.states 0 (omega arith) small)
+
+-- the state of some neighbour has its place among the counts
+pub counted_index : (others : List ℕ) (counts : Counts) → AreCounts others counts → (s : ℕ) → is_among others s ≡ true
+    → (i : ℕ) × (i < counts.count) × (slice_index counts.states i ≡ s) × (slice_index counts.times i ≡ count_by (is_among (s ∷ [])) others)
+counted_index others counts are s h =
+    let at = is_among_at (take counts.count counts.states) s (are.each s h) in
+    let size = length-take counts.count counts.states in
+    let inside : at.0 < counts.count = omega (arith, at.1, size) in
+    let is : slice_index counts.states at.0 ≡ s = sym (get_or-take counts.count counts.states at.0 0 inside) ∙ at.2 in
+    (at.0, inside, is, are.times at.0 inside ∙ ap (λ t. count_by (is_among (t ∷ [])) others) is)
+
+-- what stands at two places is counted twice
+counted_twice : (P : ℕ → Bool) (v : List ℕ) (q p : ℕ) → q < p → p < length v → P (slice_index v q) ≡ true → P (slice_index v p) ≡ true → 1 < count_by P v
+counted_twice P v q p before inside first second =
+    let f : ℕ → ℕ = λ x. cond (P x) 1 0 in
+    let size = length-take p v in
+    let there : P (slice_index (take p v) q) ≡ true = ap P (get_or-take p v q 0 before) ∙ first in
+    let one = count_by_more_yes P (take p v) q 0 (omega (arith, size, before, inside)) there in
+    let rest = sum_by-take-drop f (take p v) (q + 1) in
+    let two = count_by_more_yes P v p 0 inside second in
+    let whole = sum_by-take-drop f v (p + 1) in
+    omega (arith, one, rest, two, whole)
+
+-- two inputs are different entries, or may be a state that two neighbours have
+pub pair_fits : (block : Block) (centre : ℕ) (others v : List ℕ) (k p q set : ℕ) → Contains (orders others) v → MayFit block (centre ∷ v) k → p < length v
+    → q < p → ((s : ℕ) → is_among others s ≡ true → 1 < count_by (is_among (s ∷ [])) others
+    → (s < 256 → bit_at (slice_index block.sets (256 * (p + 1) + s)) k ≡ 1) → bit_at set k ≡ 1)
+    → bit_at (bit_or (slice_index block.apart (9 * (p + 1) + (q + 1))) set) k ≡ 1
+pair_fits block centre others v k p q set order fit inside before in_set =
+    let s = slice_index v p in
+    let apart = slice_index block.apart (9 * (p + 1) + (q + 1)) in
+    let next : (i : ℕ) → slice_index (centre ∷ v) (i + 1) ≡ slice_index v i = λ i.
+    let e : i + 1 ≡ suc i = omega arith in ap (slice_index (centre ∷ v)) e in
+    elim (eqb_tells s (slice_index v q)) [
+      | inl same ↦
+          let P = is_among (s ∷ []) in
+          let is : (t : ℕ) → s ≡ t → P t ≡ true = λ t e. left_true (nat_eq s t) false (eq-eqb s t e) in
+          let twice = counted_twice P v q p before inside (is (slice_index v q) same.1) (is s refl) in
+          let moved = counts_same P others v order in
+          or_right apart set k (in_set s (among_order others v p order inside) (omega (arith, twice, moved)) (behind block centre v k fit p inside))
+      | inr other ↦ or_left apart set k
+          (fit.apart (p + 1) (q + 1) (omega (arith, inside)) (omega (arith, before)) (λ e. other.1 (sym (next p) ∙ e ∙ next q)))
+    ]

@@ -1,16 +1,18 @@
 -- An index of the lines of a table: sets of lines, among which is each line that gives something at a cell.
-use Rattle.std.specs.Prelude.{◌≡◌, ◌≢◌, ℕ, ◌+◌, ◌-◌, ◌*◌, ◌<◌, ◌≤◌, ◌∷◌, [], List, All, Contains, take, drop, length, slice_index, slice_index_or, Bool, true, nat_eq, Option, Result, MatchOption, MatchResult}
+use Rattle.std.specs.Prelude.{◌≡◌, ◌≢◌, ℕ, ◌+◌, ◌-◌, ◌*◌, ◌<◌, ◌≤◌, ◌∷◌, [], List, All, Contains, take, drop, length, slice_index, slice_index_or, count_by, Bool, true, nat_eq, Option, Result, MatchOption, MatchResult}
 use Rattle.std.specs.Int.{bit_at}
 use Rattle.std.specs.List.{list_any}
 use Rattle.life_base.specs.declared.fault.Fault.{Fault}
 use Rattle.life_base.specs.declared.kind.Kind.TheVariants as kinds
 use Rattle.life_table.specs.Meaning.{Gives, GivesNothing, Decides, Becomes, Ambiguous}
-use Rattle.life_table.specs.Orders.{turn, reflected_turn, images, orders}
+use Rattle.life_table.specs.Orders.{turn, reflected_turn, orders}
 use Rattle.life_table.specs.Site.{centre_of, others_of}
 use Rattle.life_table.specs.Taking.{can_be_state}
 use Rattle.life_table.specs.declared.block.Block.{Block}
-use Rattle.life_table.specs.declared.image_list.Images.{Images}
+use Rattle.life_table.specs.declared.index.Query.{Query}
+use Rattle.life_table.specs.declared.index.Query.TheVariants as queries
 use Rattle.life_table.specs.declared.site.Site.{Site}
+use Rattle.life_table.specs.declared.some_order.Counts.{Counts}
 use Rattle.life_table.specs.declared.table.Entry.{Entry}
 use Rattle.life_table.specs.declared.table.Entry.TheVariants as entries
 use Rattle.life_table.specs.declared.table.Symmetry.{Symmetry}
@@ -72,10 +74,21 @@ pub record IsImage (ways : Turns) (cells : List ℕ) (j : ℕ) (image : List ℕ
   pub turned : j < ways.count → take (length cells) image ≡ slice_index cells 0 ∷ turn (drop 1 cells) (j * ways.step)
   pub reflected : ways.count ≤ j → take (length cells) image ≡ slice_index cells 0 ∷ reflected_turn (drop 1 cells) ((j - ways.count) * ways.step)
 
--- each image of the neighbours is there, behind the centre
-abbrev pub HasImages : Symmetry → Site → Images → Type 0
-HasImages symmetry site turned = (v : List ℕ) → Contains (images symmetry (others_of site)) v
-    → (j : ℕ) × (j < turned.count) × (take (length site.cells.now) (slice_index_or turned.cells j []) ≡ centre_of site ∷ v)
+-- the states of neighbours, each of them, and how many have each
+pub record AreCounts (others : List ℕ) (counts : Counts) : Type 0 where
+  pub few : counts.count ≤ 8
+  pub each : (s : ℕ) → is_among others s ≡ true → is_among (take counts.count counts.states) s ≡ true
+  pub times : (i : ℕ) → i < counts.count → slice_index counts.times i ≡ count_by (is_among (slice_index counts.states i ∷ [])) others
+
+-- an index can be asked this of a cell
+abbrev pub IsQuery : Site → Query → Type 0
+IsQuery site (queries.Images turned) = turned.count ≤ 16
+IsQuery site (queries.Counts counts) = AreCounts (others_of site) counts
+
+-- it is asked of these neighbours: they are one of the images, behind the centre, or it is asked of every order
+abbrev pub Asks : Site → Query → List ℕ → Type 0
+Asks site (queries.Images turned) v = (j : ℕ) × (j < turned.count) × (take (length site.cells.now) (slice_index_or turned.cells j []) ≡ centre_of site ∷ v)
+Asks site (queries.Counts counts) v = Contains (orders (others_of site)) v
 
 module _ (symmetry : Symmetry) (vars : List Var) (centre : ℕ) (others : List ℕ) (lines : List Transition) where
   -- each of 64 lines that gives something is in the set

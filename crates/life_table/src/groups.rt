@@ -1,5 +1,6 @@
 //! What a line asks of the neighbours once its centre is known: settled inputs are one state, and the others are grouped by their variable.
 ghost use Rattle.std.specs.Prelude.{◌≡◌, ℕ, ◌+◌, ◌^◌, ◌<◌, ◌≤◌, length, take, All, IfSome};
+ghost use Rattle.std.specs.List.Sorted.{IsPermutation};
 ghost use Rattle.life_table.specs.Meaning.{count_of};
 ghost use Rattle.life_table.specs.Taking.{free_count, settled, settled_count, add_to, IsGrouped};
 
@@ -72,8 +73,8 @@ fn add_variable(groups: &mut [Group; 9], count: usize, number: u64) -> usize
     count + 1
 }
 
-/// The groups of the open inputs, and how many they are. An open output's is the first.
-pub(crate) fn groups_of(inputs: &[Entry], first: Entry, output: Entry) -> ([Group; 9], usize)
+/// The groups of the open inputs in their order, and how many they are. An open output's is the first.
+fn groups_in_order(inputs: &[Entry], first: Entry, output: Entry) -> ([Group; 9], usize)
     requires { length inputs.now ≤ 8 }
     ensures count { result.1 ≤ 9 }
     ensures grouped { IsGrouped first output inputs.now (take result.1 result.0) }
@@ -97,4 +98,34 @@ pub(crate) fn groups_of(inputs: &[Entry], first: Entry, output: Entry) -> ([Grou
         }
     }
     (groups, count)
+}
+
+/// How many of the inputs are another entry.
+fn others_than(inputs: &[Entry], entry: Entry) -> usize {
+    inputs.iter().filter(|other| **other != entry).count()
+}
+
+/// The inputs, those first that stand most often.
+fn most_first(inputs: &[Entry]) -> [Entry; 8]
+    requires { length inputs.now ≤ 8 }
+    ensures { IsPermutation inputs.now (take (length inputs.now) result) }
+{
+    let mut ordered = [Entry::Fixed(0); 8];
+    let places = &mut ordered[..inputs.len()];
+    places.copy_from_slice(inputs);
+    places.sort_unstable_by_key(|entry| others_than(inputs, *entry));
+    ordered
+}
+
+/// The groups of the open inputs, those first that have most inputs, and how many they are. An open output's is the first of all.
+pub(crate) fn groups_of(inputs: &[Entry], first: Entry, output: Entry) -> ([Group; 9], usize)
+    requires { length inputs.now ≤ 8 }
+    ensures count { result.1 ≤ 9 }
+    ensures grouped { IsGrouped first output inputs.now (take result.1 result.0) }
+{
+    let (groups, count) = groups_in_order(inputs, first, output);
+    if groups[..count].iter().all(|group| group.times < 2) {
+        return (groups, count);
+    }
+    groups_in_order(&most_first(inputs)[..inputs.len()], first, output)
 }

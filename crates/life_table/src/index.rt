@@ -5,7 +5,7 @@ ghost use Rattle.life_table.specs.Meaning.{Gives, GivesNothing, Decides, Becomes
 ghost use Rattle.life_table.specs.Valid.{neighbour_count};
 ghost use Rattle.life_table.specs.Around.{cells_of};
 ghost use Rattle.life_table.specs.Orders.{images, family};
-ghost use Rattle.life_table.specs.Index.{AnswersAmong, MayGive, MayFit, AreBlocks, HasImages};
+ghost use Rattle.life_table.specs.Index.{AnswersAmong, MayGive, MayFit, AreBlocks, IsQuery, Asks};
 ghost use Rattle.life_table.specs.Site.{IsSite, IsLineAt, GoesRound, centre_of, others_of};
 ghost use Rattle.life_table.specs.declared.table.Symmetry.TheVariants.{Permute};
 
@@ -15,6 +15,7 @@ use crate::image_list::Images;
 use crate::next::{Neighbours, given_by};
 use crate::seen::Seen;
 use crate::site::Site;
+use crate::some_order::Counts;
 use crate::table::{Symmetry, Table, Transition};
 use crate::turn::turns_of;
 use life_base::{Fault, Kind, Place, State};
@@ -82,17 +83,37 @@ fn answer_among(
     None
 }
 
-/// The lines of a block that may give something: all of them that do are there.
-fn of_block(symmetry: Symmetry, site: &Site, block: &Block, turned: &Images) -> u64
-    requires some { 0 < length site.now.cells.now }
-    requires room { length site.now.cells.now ≤ 9 }
-    requires few { turned.now.count ≤ 16 }
-    requires each { symmetry ≢ Symmetry.Permute → HasImages symmetry site.now turned.now }
-    ensures { (k : ℕ) (v : List ℕ) → k < 64 → Contains (images symmetry (others_of site.now)) v → MayFit block.now (centre_of site.now ∷ v) k → bit_at result k ≡ 1 }
+/// What the index is asked of a cell: the lines that may give something at one of its images, or in any order of its neighbours.
+#[derive(Clone, Copy)]
+pub(crate) enum Query {
+    Images(Images),
+    Counts(Counts),
+}
+
+/// What the index is asked of a cell under a symmetry.
+fn query_of(symmetry: Symmetry, site: &Site) -> Query
+    requires site { IsSite site.now }
+    requires turns { GoesRound site.now }
+    requires images { symmetry ≢ Symmetry.Permute → images symmetry (others_of site.now) ≡ family site.now.ways.reflect site.now.ways.step (others_of site.now) }
+    ensures query { IsQuery site.now result }
+    ensures asks { (v : List ℕ) → Contains (images symmetry (others_of site.now)) v → Asks site.now result v }
 {
     match symmetry {
-        Symmetry::Permute => block.that_may_give_in_some_order(site.cells),
-        _ => block.that_may_give(turned, site.cells.len()),
+        Symmetry::Permute => Query::Counts(Counts::of(&site.cells[1..])),
+        _ => Query::Images(Images::new(site.cells, site.ways)),
+    }
+}
+
+/// The lines of a block that may give something: all of them that do are there.
+fn of_block(site: &Site, block: &Block, query: &Query) -> u64
+    requires some { 0 < length site.now.cells.now }
+    requires room { length site.now.cells.now ≤ 9 }
+    requires query { IsQuery site.now query.now }
+    ensures { (k : ℕ) (v : List ℕ) → k < 64 → Asks site.now query.now v → MayFit block.now (centre_of site.now ∷ v) k → bit_at result k ≡ 1 }
+{
+    match query {
+        Query::Images(turned) => block.that_may_give(turned, site.cells.len()),
+        Query::Counts(counts) => block.that_may_give_in_some_order(site.cells, counts),
     }
 }
 
@@ -102,20 +123,18 @@ fn answer_by_blocks(
     site: &Site,
     lines: &[Transition],
     blocks: &[Block],
-    turned: &Images,
 ) -> Option<Result<State, Fault>>
     requires site { IsSite site.now }
     requires turns { GoesRound site.now }
     requires images { symmetry ≢ Symmetry.Permute → images symmetry (others_of site.now) ≡ family site.now.ways.reflect site.now.ways.step (others_of site.now) }
     requires lines { All (IsLineAt site.now) lines.now }
     requires blocks { AreBlocks site.now.vars.now lines.now blocks.now }
-    requires few { turned.now.count ≤ 16 }
-    requires each { symmetry ≢ Symmetry.Permute → HasImages symmetry site.now turned.now }
     ensures { AnswersAmong symmetry site.now.vars.now (centre_of site.now) (others_of site.now) lines.now (length lines.now) result }
 {
+    let query = query_of(symmetry, site);
     for b in 0..lines.len() / LINES + 1 {
         let may = if b < blocks.len() {
-            of_block(symmetry, site, &blocks[b], turned)
+            of_block(site, &blocks[b], &query)
         } else {
             u64::MAX
         };
@@ -137,7 +156,7 @@ fn next_by_blocks(table: &Table, blocks: &[Block], around: &Neighbours) -> Resul
     let cells = around.as_slice();
     let vars = table.vars.as_slice();
     let lines = table.lines.as_slice();
-    let seen = Seen::new(vars, &cells[1..]);
+    let seen = Seen::of_lines(vars, &cells[1..], blocks.len() > lines.len() / LINES);
     let ways = turns_of(table.symmetry, cells.len() - 1);
     let site = Site {
         vars,
@@ -145,8 +164,7 @@ fn next_by_blocks(table: &Table, blocks: &[Block], around: &Neighbours) -> Resul
         seen: &seen,
         ways,
     };
-    let turned = Images::new(cells, ways);
-    match answer_by_blocks(table.symmetry, &site, lines, blocks, &turned) {
+    match answer_by_blocks(table.symmetry, &site, lines, blocks) {
         Some(answer) => answer,
         None => Ok(cells[0]),
     }

@@ -1,5 +1,5 @@
 //! Which neighbours of a cell an entry may be. It is told once for a cell, since most lines fail by it.
-ghost use Rattle.std.specs.Prelude.{◌≡◌, ◌≢◌, ℕ, ◌%◌, ◌<◌, length, slice_index, slice_index_or, IsTrue};
+ghost use Rattle.std.specs.Prelude.{◌≡◌, ◌≢◌, ℕ, ◌%◌, ◌<◌, List, length, slice_index, slice_index_or, IsTrue};
 ghost use Rattle.std.specs.Int.{bit_at};
 ghost use Rattle.life_table.specs.Meaning.{has_state};
 ghost use Rattle.life_table.specs.Seen.{places, IsSeen};
@@ -75,6 +75,28 @@ impl Seen {
         Seen {
             fixed: places_of_states(&around),
             listed: places_of_variables(vars, &around),
+        }
+    }
+
+    /// Nothing is told: each entry may be each neighbour.
+    fn untold() -> Seen
+        ensures { (vars : List Var) (others : List ℕ) → ((i : ℕ) → slice_index others i < 256) → IsSeen vars others result }
+    {
+        Seen {
+            fixed: [u16::MAX; 256],
+            listed: [u16::MAX; LISTED],
+        }
+    }
+
+    /// The same, or nothing where few lines are asked: it would take longer than they do.
+    pub(crate) fn of_lines(vars: &[Var], others: &[State], are_few: bool) -> Seen
+        requires { 0 < length others.now }
+        ensures { IsSeen vars.now others.now result }
+    {
+        if are_few {
+            Seen::untold()
+        } else {
+            Seen::new(vars, others)
         }
     }
 

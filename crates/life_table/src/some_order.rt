@@ -1,9 +1,9 @@
 //! The lines of a block that may give something in some order of the neighbours. However many of them have one of some states, as many inputs
 //! must be able to be one of these.
-ghost use Rattle.std.specs.Prelude.{◌≡◌, ℕ, ◌+◌, ◌*◌, ◌<◌, ◌≤◌, List, Contains, count_by, length, slice_index};
+ghost use Rattle.std.specs.Prelude.{◌≡◌, ℕ, ◌+◌, ◌*◌, ◌<◌, ◌≤◌, ◌∷◌, List, Contains, count_by, drop, length, slice_index};
 ghost use Rattle.std.specs.Int.{bit_at};
 ghost use Rattle.life_table.specs.Orders.{orders};
-ghost use Rattle.life_table.specs.Index.{Stay, is_among, MayBeBehind, MayFitInSomeOrder};
+ghost use Rattle.life_table.specs.Index.{Stay, is_among, AreCounts, MayBeBehind, MayFit, MayFitInSomeOrder};
 
 use crate::block::Block;
 use life_base::State;
@@ -24,20 +24,36 @@ fn count_among(others: &[State], states: &[State]) -> usize
     count
 }
 
-/// The states of the neighbours, each once, and how many they are.
-fn each_once(others: &[State]) -> ([State; 8], usize)
-    requires { length others.now ≤ 8 }
-    ensures { result.1 ≤ 8 }
-{
-    let mut states = [0; 8];
-    let mut count = 0;
-    for (i, s) in others.iter().enumerate() {
-        if !others[..i].contains(s) {
-            states[count] = *s;
-            count += 1;
+/// The states of a cell's neighbours, each once, and how many have it: `count` states.
+#[derive(Clone, Copy)]
+pub(crate) struct Counts {
+    pub states: [State; 8],
+    pub times: [usize; 8],
+    pub count: usize,
+}
+
+impl Counts {
+    /// The counts of neighbours.
+    pub(crate) fn of(others: &[State]) -> Counts
+        requires { length others.now ≤ 8 }
+        ensures { AreCounts others.now result }
+    {
+        let mut states = [0; 8];
+        let mut times = [0; 8];
+        let mut count = 0;
+        for (i, s) in others.iter().enumerate() {
+            if !others[..i].contains(s) {
+                states[count] = *s;
+                times[count] = count_among(others, &[*s]);
+                count += 1;
+            }
+        }
+        Counts {
+            states,
+            times,
+            count,
         }
     }
-    (states, count)
 }
 
 /// The states whose bits are set, and how many they are.
@@ -56,13 +72,13 @@ fn chosen(states: &[State], bits: usize) -> ([State; 8], usize)
     (found, count)
 }
 
-/// With one set of lines more, those that were in `c` sets before and are in this one are in `c + 1`, for `c` from one number to another.
-fn count_set(reached: &mut [u64; 9], set: u64, from: usize, to: usize)
+/// With one set of lines more, those that were in `c` sets before and are in this one are in `c + 1`, for `c` below a number.
+fn count_set(reached: &mut [u64; 9], set: u64, to: usize)
     requires { to ≤ 8 }
     ensures stay { Stay reached.old reached.new }
-    ensures more { (k c : ℕ) → from ≤ c → c < to → bit_at (slice_index reached.old c) k ≡ 1 → bit_at set k ≡ 1 → bit_at (slice_index reached.new (c + 1)) k ≡ 1 }
+    ensures more { (k c : ℕ) → c < to → bit_at (slice_index reached.old c) k ≡ 1 → bit_at set k ≡ 1 → bit_at (slice_index reached.new (c + 1)) k ≡ 1 }
 {
-    for c in (from..to).rev() {
+    for c in (0..to).rev() {
         reached[c + 1] |= reached[c] & set;
     }
 }
@@ -90,12 +106,7 @@ impl Block {
         reached[0] = u64::MAX;
         for p in 0..n {
             let set = self.with_input_among(p + 1, states);
-            count_set(
-                &mut reached,
-                set,
-                times.saturating_sub(n - p),
-                times.min(p + 1),
-            );
+            count_set(&mut reached, set, times);
         }
         reached[times]
     }
@@ -109,17 +120,80 @@ impl Block {
         self.with_inputs_among(others.len(), states, times)
     }
 
-    /// Of these lines those that have inputs enough for the neighbours of each state.
-    fn with_each_state(&self, others: &[State], states: &[State], lines: u64) -> u64
-        requires { length others.now ≤ 8 }
+    /// Of these lines those of which each input behind the centre's may be some neighbour.
+    fn with_each_input(&self, others: &[State], counts: &Counts, lines: u64) -> u64
+        requires room { length others.now ≤ 8 }
+        requires counts { AreCounts others.now counts.now }
         ensures { (k : ℕ) (v : List ℕ) → k < 64 → Contains (orders others.now) v → MayBeBehind self.now v k → bit_at lines k ≡ 1 → bit_at result k ≡ 1 }
     {
         let mut rest = lines;
-        for i in 0..states.len() {
+        for p in 0..others.len() {
             if rest == 0 {
                 return rest;
             }
-            rest &= self.with_enough_among(others, &states[i..i + 1]);
+            rest &= self.with_input_among(p + 1, &counts.states[..counts.count]);
+        }
+        rest
+    }
+
+    /// Of these lines those that have inputs enough for the neighbours of each state.
+    fn with_each_state(&self, others: &[State], counts: &Counts, lines: u64) -> u64
+        requires room { length others.now ≤ 8 }
+        requires counts { AreCounts others.now counts.now }
+        ensures { (k : ℕ) (v : List ℕ) → k < 64 → Contains (orders others.now) v → MayBeBehind self.now v k → bit_at lines k ≡ 1 → bit_at result k ≡ 1 }
+    {
+        let mut rest = lines;
+        for i in 0..counts.count {
+            if rest == 0 {
+                return rest;
+            }
+            rest &= self.with_inputs_among(others.len(), &[counts.states[i]], counts.times[i]);
+        }
+        rest
+    }
+
+    /// The lines whose input at place `p` may be a state that more than one neighbour has.
+    fn with_input_of_two(&self, counts: &Counts, p: usize) -> u64
+        requires place { p < 9 }
+        requires few { counts.now.count ≤ 8 }
+        ensures { (k i : ℕ) → i < counts.now.count → 1 < slice_index counts.now.times i → (slice_index counts.now.states i < 256 → bit_at (slice_index self.now.sets (256 * p + slice_index counts.now.states i)) k ≡ 1) → bit_at result k ≡ 1 }
+    {
+        let mut lines = 0;
+        for i in 0..counts.count {
+            if counts.times[i] > 1 {
+                lines |= self.with_input_among(p, &[counts.states[i]]);
+            }
+        }
+        lines
+    }
+
+    /// Of these lines those whose input at place `p` behind the centre's is another entry than each before it, or may be a state that more than one
+    /// neighbour has.
+    fn with_pair_at(&self, others: &[State], counts: &Counts, p: usize, lines: u64) -> u64
+        requires place { p < length others.now }
+        requires room { length others.now ≤ 8 }
+        requires counts { AreCounts others.now counts.now }
+        ensures { (k centre : ℕ) (v : List ℕ) → k < 64 → Contains (orders others.now) v → MayFit self.now (centre ∷ v) k → bit_at lines k ≡ 1 → bit_at result k ≡ 1 }
+    {
+        let of_two = self.with_input_of_two(counts, p + 1);
+        let mut rest = lines;
+        for q in 0..p {
+            rest &= self.apart[9 * (p + 1) + (q + 1)] | of_two;
+        }
+        rest
+    }
+
+    /// Of these lines those that have two neighbours of one state for each two inputs that are one entry.
+    fn with_pairs(&self, others: &[State], counts: &Counts, lines: u64) -> u64
+        requires room { length others.now ≤ 8 }
+        requires counts { AreCounts others.now counts.now }
+        ensures { (k centre : ℕ) (v : List ℕ) → k < 64 → Contains (orders others.now) v → MayFit self.now (centre ∷ v) k → bit_at lines k ≡ 1 → bit_at result k ≡ 1 }
+    {
+        let mut rest = lines;
+        for p in 0..others.len() {
+            if rest & self.twice[p + 1] != 0 {
+                rest = self.with_pair_at(others, counts, p, rest);
+            }
         }
         rest
     }
@@ -158,20 +232,18 @@ impl Block {
         rest
     }
 
-    /// The lines that may give something at a cell in some order of its neighbours.
-    pub(crate) fn that_may_give_in_some_order(&self, cells: &[State]) -> u64
+    /// The lines that may give something at a cell in some order of its neighbours, of which these are the counts.
+    pub(crate) fn that_may_give_in_some_order(&self, cells: &[State], counts: &Counts) -> u64
         requires some { 0 < length cells.now }
         requires room { length cells.now ≤ 9 }
+        requires counts { AreCounts (drop 1 cells.now) counts.now }
         ensures { (k : ℕ) → k < 64 → MayFitInSomeOrder self.now cells.now k → bit_at result k ≡ 1 }
     {
         let others = &cells[1..];
-        let (states, count) = each_once(others);
-        let states = &states[..count];
-        let mut lines = self.sets[cells[0] as usize];
-        if lines != 0 {
-            lines &= self.with_enough_among(others, states);
-        }
-        lines = self.with_each_state(others, states, lines);
+        let states = &counts.states[..counts.count];
+        let mut lines = self.with_each_input(others, counts, self.sets[cells[0] as usize]);
+        lines = self.with_each_state(others, counts, lines);
+        lines = self.with_pairs(others, counts, lines);
         if lines.count_ones() <= FEW {
             return lines;
         }

@@ -20,7 +20,7 @@ answer_among-requires-clause-may c = λ k d room inside s g.
           (let empty : Block = record { sets = []; apart = []; twice = [] } in
           may_give_of c.args.symmetry site.vars.now (get_or lines (64 * b + k) d) (centre_of site) (others_of site) (get_or c.args.blocks.now b empty) k
           w.of_block-may.result (c.requires.blocks b empty w.if-b-blocks.true k d room inside) (c.requires.lines (64 * b + k) d inside).inputs
-          (λ v h fit. w.of_block-may.ensures k v room h fit) s g)
+          (λ v h fit. w.of_block-may.ensures k v room (c.query_of-query.ensures.asks v h) fit) s g)
       | else-b-blocks w ↦ subst (λ n. bit_at n k ≡ 1) (sym w.may-is) (bit_at_ones 64 k room)
     ]
 

@@ -1,5 +1,5 @@
-use Rattle.std.proofs.Common.{◌≡◌, ℕ, ◌+◌, List, length, drop, refl, ap, sym, ◌∙◌, subst, slice_index, arith, length-drop}
-use Rattle.std.specs.Prelude.{Contains, MatchResult}
+use Rattle.std.proofs.Common.{◌≡◌, ◌+◌, List, length, drop, refl, ap, sym, ◌∙◌, subst, slice_index, arith}
+use Rattle.std.specs.Prelude.{MatchResult}
 use Rattle.life_base.specs.declared.fault.Fault.{Fault}
 use Rattle.life_base.specs.declared.kind.Kind.TheVariants as kinds
 use Rattle.life_table.specs.Around.{cells_of}
@@ -25,19 +25,13 @@ answer_by_blocks-requires-clause-site c =
       some = omega (arith, few.0, size);
       room = omega (arith, few.1, size);
       choosable = rw c.as_slice-vars.ensures (choosable table.n_states table.vars table.sound.variables);
-      seen = subst (λ others. IsSeen c.as_slice-vars.result.now others c.new-seen.result) (rest_of c.as_slice-cells.result.now) c.new-seen.ensures;
+      seen = subst (λ others. IsSeen c.as_slice-vars.result.now others c.of_lines-seen.result) (rest_of c.as_slice-cells.result.now) c.of_lines-seen.ensures;
     }
 
 pub answer_by_blocks-requires-clause-blocks : goal.answer_by_blocks-requires-clause-blocks
 answer_by_blocks-requires-clause-blocks c =
     subst (λ (v : List Var). AreBlocks v c.as_slice-lines.result.now c.args.blocks.now) (sym c.as_slice-vars.ensures)
     (subst (λ (l : List Transition). AreBlocks c.args.table.now.vars l c.args.blocks.now) (sym c.as_slice-lines.ensures) c.requires.blocks)
-
-pub answer_by_blocks-requires-clause-each : goal.answer_by_blocks-requires-clause-each
-answer_by_blocks-requires-clause-each c = λ other v h.
-    c.new-turned.ensures.each v
-    (subst (λ (ws : List (List ℕ)). Contains ws v)
-    (c.turns_of-ways.ensures.images other (drop 1 c.as_slice-cells.result.now) (length-drop 1 c.as_slice-cells.result.now)) h)
 
 pub returns-in-Some : goal.returns-in-Some
 returns-in-Some c =

@@ -8,7 +8,7 @@ abbrev pub invariant-loop-c : goal.invariant-loop-c
 invariant-loop-c l = record {
   stay : Stay l.initial.reached l.reached;
   same : (i : ℕ) → i ≤ l.c → slice_index l.reached i ≡ slice_index l.initial.reached i;
-  done : (k c : ℕ) → l.from ≤ c → l.c ≤ c → c < l.to → bit_at (slice_index l.initial.reached c) k ≡ 1 → bit_at l.set k ≡ 1
+  done : (k c : ℕ) → l.c ≤ c → c < l.to → bit_at (slice_index l.initial.reached c) k ≡ 1 → bit_at l.set k ≡ 1
       → bit_at (slice_index l.reached (c + 1)) k ≡ 1;
   size : length l.reached ≡ 9;
 }

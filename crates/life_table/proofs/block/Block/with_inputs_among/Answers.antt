@@ -1,8 +1,7 @@
-use Rattle.std.proofs.Common.{◌≡◌, ◌+◌, ◌-◌, ◌*◌, ◌<◌, ◌≤◌, ◌∷◌, [], length, take, slice_index, ap, sym, ◌∙◌, subst, refl, inl, inr, arith}
+use Rattle.std.proofs.Common.{◌≡◌, ◌+◌, ◌-◌, ◌*◌, ◌<◌, ◌≤◌, ◌∷◌, [], length, slice_index, ap, sym, ◌∙◌, subst, refl, inl, inr, arith}
 use Rattle.std.specs.Prelude.{count_by}
 use Rattle.std.specs.Int.{bit_at}
-use Rattle.std.proofs.lemmas.List.{take_all, length-take-le}
-use Rattle.std.proofs.lemmas.List.Sums.{count_by-le-length}
+use Rattle.std.proofs.lemmas.List.{take_all}
 use Rattle.std.proofs.lemmas.Nat.Bits.{bit_at_ones}
 use Rattle.life_table.specs.Index.{is_among}
 use Rattle.life_table.proofs.SomeOrder.{is_among_at, counts_more}
@@ -10,7 +9,7 @@ use Rattle.life_table.proofs.block.Block.with_inputs_among.Goals as goal
 
 pub loop-p-init : goal.loop-p-init
 loop-p-init c = record {
-  reached = λ k i v room size may few enough none.
+  reached = λ k i v room size may few none.
       let zero : i ≡ 0 = omega (arith, none) in
       ap (λ n. bit_at (slice_index (18446744073709551615 ∷ 0 ∷ 0 ∷ 0 ∷ 0 ∷ 0 ∷ 0 ∷ 0 ∷ 0 ∷ []) n) k) zero ∙ bit_at_ones 64 k room;
   size = refl;
@@ -23,28 +22,23 @@ loop-p-preserved c =
     let sets = c.args.self.now.sets in
     let set = c.with_input_among-set.result in
     record {
-      reached = λ k i v room size may few enough count.
+      reached = λ k i v room size may few count.
           let inside : p < length v = omega (arith, size, c.loop-p-test.true) in
           elim (counts_more (is_among states) v p i inside count) [
-            | inl before ↦ c.count_set.ensures.stay i k (c.loop-p.invariant.reached k i v room size may few (omega (arith, enough)) before)
+            | inl before ↦ c.count_set.ensures.stay i k (c.loop-p.invariant.reached k i v room size may few before)
             | inr more ↦
                 let at = is_among_at states (slice_index v p) more.2 in
                 let there : bit_at set k ≡ 1 = c.with_input_among-set.ensures k at.0 at.1 (λ small.
                 subst (λ s. bit_at (slice_index sets (256 * (p + 1) + s)) k ≡ 1) (sym at.2) (may p inside (subst (λ s. s < 256) at.2 small))) in
-                let most : count_by (is_among states) (take p v) ≤ p =
-                let e = count_by-le-length (is_among states) (take p v) in let f = length-take-le p v (omega (arith, inside)) in omega (arith, e, f) in
                 let back : i - 1 + 1 ≡ i = omega (arith, more.0) in
                 subst (λ n. bit_at (slice_index c.count_set.new.reached n) k ≡ 1) back
-                (c.count_set.ensures.more k (i - 1)
-                (omega (arith, c.saturating_sub.ensures, enough, more.0, c.loop-p-test.true))
-                (omega (arith, c.min.ensures, few, most, more.0, more.1))
-                (c.loop-p.invariant.reached k (i - 1) v room size may (omega (arith, few))
-                (omega (arith, enough, more.0, c.loop-p-test.true)) more.1) there)
+                (c.count_set.ensures.more k (i - 1) (omega (arith, few, more.0))
+                (c.loop-p.invariant.reached k (i - 1) v room size may (omega (arith, few)) more.1) there)
           ];
       size = omega (arith, c.count_set.array_long);
     }
 
 pub returns : goal.returns
 returns c = λ k v room size may few.
-    c.loop-p.invariant.reached k c.args.times v room size may (omega arith) (omega arith)
+    c.loop-p.invariant.reached k c.args.times v room size may (omega arith)
     (subst (λ w. c.args.times ≤ count_by (is_among c.args.states.now) w) (sym (take_all c.loop-p.p v (omega (arith, size, c.loop-p-test.false)))) few)

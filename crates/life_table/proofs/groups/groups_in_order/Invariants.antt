@@ -1,7 +1,7 @@
 use Rattle.std.proofs.Common.{◌+◌, ◌≤◌, take}
 use Rattle.std.specs.Prelude.{All}
 use Rattle.life_table.specs.Taking.{IsGrouped}
-use Rattle.life_table.proofs.groups.groups_of.Given as goal
+use Rattle.life_table.proofs.groups.groups_in_order.Given as goal
 
 -- the groups of the inputs so far
 abbrev pub invariant-loop-entry : goal.invariant-loop-entry
