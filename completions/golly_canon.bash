@@ -2,7 +2,7 @@
 
 _golly_canon() {
     local commands="canon convert same show step help"
-    local formats="rle mc"
+    local formats="rle mc" forms="placed moved turned"
     local word=${COMP_WORDS[COMP_CWORD]} previous=${COMP_WORDS[COMP_CWORD - 1]} front=
     COMPREPLY=()
     if [ "$COMP_CWORD" -eq 1 ]; then
@@ -25,12 +25,17 @@ _golly_canon() {
         COMPREPLY=($(compgen -P "$front" -W "$formats" -- "$word"))
         return
     fi
+    if [[ ${COMP_WORDS[1]} =~ ^(canon|same)$ ]] && [ "$previous" = --form ]; then
+        COMPREPLY=($(compgen -P "$front" -W "$forms" -- "$word"))
+        return
+    fi
     case $word in
         -*)
             case ${COMP_WORDS[1]} in
                 convert) COMPREPLY=($(compgen -W "--to --help -h" -- "$word")) ;;
                 step) COMPREPLY=($(compgen -W "--table --help -h" -- "$word")) ;;
-                canon | same | show) COMPREPLY=($(compgen -W "--help -h" -- "$word")) ;;
+                canon | same) COMPREPLY=($(compgen -W "--form --help -h" -- "$word")) ;;
+                show) COMPREPLY=($(compgen -W "--help -h" -- "$word")) ;;
             esac
             ;;
         *)

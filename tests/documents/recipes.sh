@@ -331,11 +331,10 @@ for document in README.md docs/QUESTIONS.md; do
 done
 
 # Keys that pass over the place and the direction: of a glider in two places, turned by a quarter, and reflected; and of another pattern.
-program_with '"""The key of what' > turned.py
 printf 'x = 3, y = 3\n3o$o$bo!\n' > turned.rle
 printf 'x = 3, y = 3\n3o$o$2o!\n' > other.rle
 for file in glider.rle glider.mc turned.rle other.rle; do
-    golly_canon convert --to rle $file | python3 -B turned.py || echo "$file has no key"
+    golly_canon canon --form turned $file | sha256sum || echo "$file has no key"
 done > out 2>&1
 problems=
 equal "how many keys" "$(sort out | uniq -c | sort -n | awk '{ print $1, length($2) }' | tr '\n' ' ')" "1 64 3 64 "

@@ -4,6 +4,7 @@ docs/golly_canon.1 say them."""
 from functools import cached_property
 from typing import NamedTuple
 
+from .forms import is_same_in, text_in
 from .generations import MOST_CELLS, step_by_rule, step_by_table
 from .lines import Fault
 from .patterns import canonical_text, listed, read
@@ -69,8 +70,8 @@ def answer_of(call):
     return Answer(2, fault=outcome.text()) if isinstance(outcome, Fault) else Answer(*outcome)
 
 
-def canon(file):
-    return answer_of(lambda: (0, file.text))
+def canon(file, form="placed"):
+    return answer_of(lambda: (0, file.text if form == "placed" else text_in(file.squares, file.pattern, form)))
 
 
 def convert_to_mc(file):
@@ -81,8 +82,8 @@ def convert_to_rle(file):
     return answer_of(lambda: (0, rle_of(file.pattern)))
 
 
-def same(first, second):
-    return answer_of(lambda: (0, b"same\n") if is_same(first, second) else (1, b"different\n"))
+def same(first, second, form="placed"):
+    return answer_of(lambda: (0, b"same\n") if is_same(first, second, form) else (1, b"different\n"))
 
 
 def show(file):
@@ -100,9 +101,11 @@ def rle_of(pattern):
     return rle_text(pattern.rule, pattern.generation, cells)
 
 
-def is_same(first, second):
-    """Whether two files say one rule, one generation and one state of each cell. The first file is looked at, and refused, first."""
+def is_same(first, second, form):
+    """Whether two files say one rule, one generation and one state of each cell, in a form. The first file is looked at, and refused, first."""
     one, other = first.pattern, second.pattern
+    if form != "placed":
+        return is_same_in(one, other, form)
     return one.rule == other.rule and one.generation == other.generation and has_same_cells(one.plane, other.plane, set())
 
 

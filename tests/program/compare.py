@@ -30,6 +30,8 @@ from shared import counting, processes  # noqa: E402
 REPLACED_BY = [0, 10, ord("$"), ord("9"), ord("o"), ord("!"), ord(","), 127, 128, 255]
 # A pattern with more cells than this, and no more than the program takes, is neither stepped nor written as RLE: the reader is slow there.
 MOST_CELLS = 2**12
+# One with more cells than this, and no more than the program takes, is neither moved nor turned: the reader makes eight of it.
+MOST_TURNED = 2**9
 # Files above this size are not respelled, since that could make a line too long.
 LARGE = 2**19
 # What files and their patterns can be refused by. Want of memory or room, devices and inputs above 2^30 bytes are other tests' part.
@@ -112,9 +114,9 @@ def random_case(seed, number):
 # ---- One case
 
 
-def is_slow(file):
+def is_slow(file, most=MOST_CELLS):
     """Whether the reader would take long to list the cells of a file."""
-    return not isinstance(file.reading, commands.Fault) and MOST_CELLS < file.reading.plane.population <= commands.MOST_CELLS
+    return not isinstance(file.reading, commands.Fault) and most < file.reading.plane.population <= commands.MOST_CELLS
 
 
 def wanted_answers(case):
@@ -133,6 +135,12 @@ def wanted_answers(case):
     if case.respelling is not None:
         yield ["convert", name, "--to", "mc"], commands.convert_to_mc(file)
         yield ["same", "other", name], commands.same(other, file)
+        if not is_slow(file, MOST_TURNED):
+            yield ["canon", name, "--form", "moved"], commands.canon(file, "moved")
+            yield ["canon", name, "--form", "turned"], commands.canon(file, "turned")
+            if not is_slow(other, MOST_TURNED):
+                form = "moved" if len(case.pattern) % 2 else "turned"
+                yield ["same", name, "other", "--form", form], commands.same(file, other, form)
 
 
 def escaped(data):
@@ -174,12 +182,14 @@ def compared(judged, case):
             judged.put(name, data)
     problems, answers, text = [], collections.Counter(), None
     for words, wanted in wanted_answers(case):
+        if "--form" in words and not judged.takes_forms:
+            continue
         got = judged.answer(words, "pattern")
         if got != wanted:
             problems.append(told(case, words, got, wanted))
         answers[f"status {got.status}"] += 1
         answers.update(got.fault.split()[-1:])
-        if words[0] == "canon" and got.status == 0:
+        if words[0] == "canon" and words[-1] == words[1] and got.status == 0:
             text = got.output
     if case.respelling is not None and text is not None:
         problems += respelling_problems(judged, case, text)

@@ -14,6 +14,8 @@ CALLS = {"canon": "canon", "show": "show", "step": "step", "rle": "to_rle", "mc"
 class Program:
     """The program. Its files stand in the folder of the cases."""
 
+    takes_forms = True
+
     def __init__(self, path):
         self.path = path
 
@@ -34,6 +36,8 @@ def store():
 
 class Library:
     """The calls of the shared library for the words of the program. What the program would read from a pipe comes in pieces by a stream."""
+
+    takes_forms = False
 
     def __init__(self, path):
         self.path = path

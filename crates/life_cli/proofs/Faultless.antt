@@ -19,8 +19,9 @@ use Rattle.clap.specs.declared.error.kind.ErrorKind.TheVariants.{TooManyValues}
 use Rattle.clap.specs.declared.parser.matches.ValueSource.TheVariants.{CommandLine}
 use Rattle.life_cli.specs.Plans.{AreWhole}
 use Rattle.life_cli.specs.declared.plans.Job.TheVariants.{Canon, Convert, Same, Show, Step as StepJob}
+use Rattle.life_cli.specs.declared.plans.Form.TheVariants.{Placed}
 use Rattle.life_cli.specs.declared.plans.Target.TheVariants.{Rle}
-use Rattle.life_cli.specs.CommandLine.{program, one_file_line, convert_line, same_line, step_line}
+use Rattle.life_cli.specs.CommandLine.{program, one_file_line, canon_line, convert_line, same_line, step_line}
 use Rattle.std.proofs.lemmas.Slice.Eq.{bytes_eq-Decides}
 
 -- no fault in two steps is none in either
@@ -419,14 +420,14 @@ leaf line = built_leaf (inherited (on_top with_leaf_noted (on_top marked_built p
 abbrev IsWholeAt : List Text → Shape → Type 0
 IsWholeAt words s = level_fault s [] nothing_held words false [] ≡ [] → AreWhole (Some (rows_at s words))
 
-canon_whole : (words : List Text) → IsWholeAt words (leaf (one_file_line (codes "canon")))
+canon_whole : (words : List Text) → IsWholeAt words (leaf canon_line)
 canon_whole words none =
-    let s = leaf (one_file_line (codes "canon")) in
-    let all : ArePlain s.rules = ((refl, inl (refl, omega arith)), ((refl, inr refl), tt)) in
+    let s = leaf canon_line in
+    let all : ArePlain s.rules = ((refl, inl (refl, omega arith)), ((refl, inl (refl, omega arith)), ((refl, inr refl), tt))) in
     let filled = leaf_filled s words all none in
     let rows = rows_after s.rules [] words in
     let given = one_given (is_given (codes "FILE") rows) _ filled.1 in
-    (Canon, refl, given_first (codes "FILE") rows filled.0 given)
+    (Canon Placed, refl, given_first (codes "FILE") rows filled.0 given)
 
 show_whole : (words : List Text) → IsWholeAt words (leaf (one_file_line (codes "show")))
 show_whole words none =
@@ -458,11 +459,12 @@ convert_whole words none =
 same_whole : (words : List Text) → IsWholeAt words (leaf same_line)
 same_whole words none =
     let s = leaf same_line in
-    let all : ArePlain s.rules = ((refl, inl (refl, omega arith)), ((refl, inl (refl, omega arith)), ((refl, inr refl), tt))) in
+    let all : ArePlain s.rules =
+    ((refl, inl (refl, omega arith)), ((refl, inl (refl, omega arith)), ((refl, inl (refl, omega arith)), ((refl, inr refl), tt)))) in
     let filled = leaf_filled s words all none in
     let rows = rows_after s.rules [] words in
     let given = two_given (is_given (codes "A") rows) (is_given (codes "B") rows) _ filled.1 in
-    (Same, refl, (given_first (codes "A") rows filled.0 given.0, given_first (codes "B") rows filled.0 given.1))
+    (Same Placed, refl, (given_first (codes "A") rows filled.0 given.0, given_first (codes "B") rows filled.0 given.1))
 
 -- ---- the program
 

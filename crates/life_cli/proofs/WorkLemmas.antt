@@ -12,7 +12,7 @@ use Rattle.life_base.specs.declared.kind.Kind.{Kind}
 use Rattle.life_base.specs.declared.kind.Kind.TheVariants.{Full, Memory, TooManyCells, ReadFault, InputTooLong}
 use Rattle.life_base.specs.declared.rule.Rule.{Rule}
 use Rattle.life_quad.specs.Store.{Nodes}
-use Rattle.life_canon.specs.Files.{Accepted, Reads, Refuses, Same as AreSame, is_file_kind}
+use Rattle.life_canon.specs.Files.{Accepted, Reads, Refuses, is_file_kind}
 use Rattle.life_canon.specs.Laws.{RefusalsHaveKinds}
 use Rattle.life_canon.specs.Running.{HasRead, ReadRefuses, LacksForRead}
 use Rattle.life_canon.specs.Running as reading
@@ -23,18 +23,21 @@ use Rattle.life_canon.specs.declared.pattern.Pattern.{Pattern}
 use Rattle.life_table.specs.Grammar.{IsFile}
 use Rattle.life_table.specs.Reading.{Refuses as RefusesTable}
 use Rattle.life_table.specs.declared.table.Table.{Table}
+use Rattle.life_cli.specs.declared.plans.Form.{Form}
+use Rattle.life_cli.specs.declared.plans.Form.TheVariants.{Placed, Moved, Turned}
 use Rattle.life_cli.specs.declared.plans.Job.{Job}
 use Rattle.life_cli.specs.declared.plans.Job.TheVariants.{Canon, Convert, Same, Show, Step, StepTable}
 use Rattle.life_cli.specs.declared.plans.Target.TheVariants.{Rle, Mc}
 use Rattle.life_cli.specs.declared.telling.Refusal.{Refusal}
 use Rattle.life_cli.specs.declared.working.Made.{Made}
 use Rattle.life_cli.specs.declared.working.Made.TheVariants.{Comparison}
+use Rattle.life_cli.specs.Forms.{AreSameIn, IsTextIn}
 use Rattle.life_cli.specs.Plans.{HasSecond, WritesCanonical}
 use Rattle.life_step.specs.Stepped.{IsStepped, IsSteppedBy}
 use Rattle.life_cli.specs.Jobs.{InputRefuses, by_length, by_source, HasNoText, by_input, by_file, by_want, AreUncompared}
-use Rattle.life_cli.specs.Jobs.{by_first, by_second, by_first_shortage, by_second_shortage}
-use Rattle.life_cli.specs.Jobs.{IsWantFor, WantsToStep, RefusesRle, Compares, made_text, made_status, HasAnswer, Makes, Writes, Worked, Breaks, HasText, FileRefuses}
-use Rattle.life_cli.specs.Jobs.{by_writing, by_telling}
+use Rattle.life_cli.specs.Jobs.{by_first, by_second, by_form, by_first_shortage, by_second_shortage, RefusesIn, RefusesSame}
+use Rattle.life_cli.specs.Jobs.{IsWantFor, WantsFor, RefusesMany, Compares, made_text, made_status, HasAnswer, Makes, Writes, Worked, Breaks, HasText, FileRefuses}
+use Rattle.life_cli.specs.Jobs.{by_reading, by_writing, by_telling}
 use Rattle.life_cli.specs.Jobs.{RefusesStep, HasTable, HasNoTable, table_by_input, table_by_lines}
 use Rattle.life_cli.specs.Jobs.{table_by_memory, OfFile, JobRefuses}
 
@@ -57,10 +60,24 @@ pub refused_rle : {X : Type 0} (source : SourceRun) (store : Nodes) (pattern : P
     → HasRead MAX_LEVEL (2 ^ 30) store source pattern
     → IfErr r (λ fault. (fault ≡ fault_of Memory)
     ⊎ ((fault ≡ fault_of TooManyCells) × ((b : List ℕ) → IsRead MAX_LEVEL b store pattern → HasMoreCells MAX_LEVEL b (2 ^ 20))))
-    → IfErr r (HasNoText RefusesRle source)
+    → IfErr r (HasNoText RefusesMany source)
 refused_rle source store pattern (Ok x) has h = tt
 refused_rle source store pattern (Err fault) has (inl memory) = by_want (inl memory)
 refused_rle source store pattern (Err fault) has (inr many) = by_file has.bytes has.read (inr (many.0, many.1 has.bytes has.is))
+
+-- no text in a form
+pub refused_in : (form : Form) (bytes : List ℕ) (fault : Fault) → Refuses MAX_LEVEL bytes fault → RefusesIn form bytes fault
+refused_in Placed bytes fault h = h
+refused_in Moved bytes fault h = inl (inl h)
+refused_in Turned bytes fault h = inl h
+
+pub refused_text : {X : Type 0} (form : Form) (source : SourceRun) (store : Nodes) (pattern : Pattern) (r : Result X Fault)
+    → HasRead MAX_LEVEL (2 ^ 30) store source pattern
+    → IfErr r (λ fault. (fault ≡ fault_of Memory) ⊎ ((b : List ℕ) → IsRead MAX_LEVEL b store pattern → RefusesIn form b fault))
+    → IfErr r (HasNoText (RefusesIn form) source)
+refused_text form source store pattern (Ok x) has h = tt
+refused_text form source store pattern (Err fault) has (inl memory) = by_want (inl memory)
+refused_text form source store pattern (Err fault) has (inr refuses) = by_file has.bytes has.read (refuses has.bytes has.is)
 
 -- a fault of a kind that isn't a file's is none of a file
 pub no_file : (source : SourceRun) (store : Nodes) (fault : Fault) → RefusalsHaveKinds MAX_LEVEL → ReadRefuses MAX_LEVEL (2 ^ 30) store source fault
@@ -79,32 +96,61 @@ no_file source store fault law (reading.by_length is came) lacks k = inl (by_len
 no_file source store fault law (reading.by_source is failed) lacks k = inl (by_source is failed)
 
 -- two files aren't compared
-pub no_first_input : (first second : SourceRun) (store : Nodes) (fault : Fault) → store.limit ≡ 2 ^ 31 → InputRefuses first fault ⊎ IsWantFor first store fault
-    → AreUncompared first second fault
-no_first_input first second store fault limit (inl unread) = by_first unread
-no_first_input first second store fault limit (inr want) = by_first_shortage (inr (store, limit, want))
+pub no_first_input : (form : Form) (first second : SourceRun) (store : Nodes) (fault : Fault) → store.limit ≡ 2 ^ 31
+    → InputRefuses first fault ⊎ IsWantFor first store fault → AreUncompared form first second fault
+no_first_input form first second store fault limit (inl unread) = by_first unread
+no_first_input form first second store fault limit (inr want) = by_first_shortage (inr (store, limit, want))
 
-pub no_second_input : (first second : SourceRun) (a : List ℕ) (store : Nodes) (fault : Fault) → ReadAll (2 ^ 30) first.before first.after a
-    → store.limit ≡ 2 ^ 31 → InputRefuses second fault ⊎ IsWantFor second store fault → AreUncompared first second fault
-no_second_input first second a store fault read limit (inl unread) = by_second a read unread
-no_second_input first second a store fault read limit (inr want) = by_second_shortage a read (inr (store, limit, want))
+pub no_second_input : (form : Form) (first second : SourceRun) (a : List ℕ) (store : Nodes) (fault : Fault)
+    → ReadAll (2 ^ 30) first.before first.after a → store.limit ≡ 2 ^ 31 → InputRefuses second fault ⊎ IsWantFor second store fault
+    → AreUncompared form first second fault
+no_second_input form first second a store fault read limit (inl unread) = by_second a read unread
+no_second_input form first second a store fault read limit (inr want) = by_second_shortage a read (inr (store, limit, want))
 
 -- what a comparison answers is its status and its line
-answers : (a b : List ℕ) (answer : Bool) → IsTrue answer ↔ AreSame MAX_LEVEL a b
-    → Compares a b (made_status (Comparison answer)) (made_text (Comparison answer))
-answers a b true is = inl (refl, is.0 refl, refl)
-answers a b false is = inr (refl, (λ same. let bad : false ≡ true = is.1 same in absurd cc), refl)
+answers : (form : Form) (a b : List ℕ) (answer : Bool) → IsTrue answer ↔ AreSameIn form MAX_LEVEL a b
+    → Compares form a b (made_status (Comparison answer)) (made_text (Comparison answer))
+answers form a b true is = inl (refl, is.0 refl, refl)
+answers form a b false is = inr (refl, (λ same. let bad : false ≡ true = is.1 same in absurd cc), refl)
 
-pub compared_files : (first second : SourceRun) (a b : List ℕ) (answer : Bool) → ReadAll (2 ^ 30) first.before first.after a
-    → ReadAll (2 ^ 30) second.before second.after b → Accepted MAX_LEVEL a → Accepted MAX_LEVEL b → IsTrue answer ↔ AreSame MAX_LEVEL a b
-    → Makes Same first second (Comparison answer)
-compared_files first second a b answer one two first_is second_is is = record {
+compared_files : (form : Form) (first second : SourceRun) (a b : List ℕ) (answer : Bool) → ReadAll (2 ^ 30) first.before first.after a
+    → ReadAll (2 ^ 30) second.before second.after b → Accepted MAX_LEVEL a → Accepted MAX_LEVEL b → IsTrue answer ↔ AreSameIn form MAX_LEVEL a b
+    → Makes (Same form) first second (Comparison answer)
+compared_files form first second a b answer one two first_is second_is is = record {
   first_bytes = a;
   second_bytes = b;
   first_read = one;
   second_read = λ _. two;
-  writes = (first_is, second_is, answers a b answer is);
+  writes = (first_is, second_is, answers form a b answer is);
 }
+
+-- two files were read into one store, and their patterns compared in a form, or not
+module _ (form : Form) (first second : SourceRun) (store : Nodes) (a b : List ℕ) (p q : Pattern) (r : Result Bool Fault)
+    (one : ReadAll (2 ^ 30) first.before first.after a) (two : ReadAll (2 ^ 30) second.before second.after b) (reads : IsRead MAX_LEVEL a store p)
+    (others : IsRead MAX_LEVEL b store q) where
+  pub compared_in : IfOk r (λ answer. (f s : List ℕ) → IsRead MAX_LEVEL f store p → IsRead MAX_LEVEL s store q → IsTrue answer ↔ AreSameIn form MAX_LEVEL f s)
+      → IfOk r (λ answer. Makes (Same form) first second (Comparison answer))
+  compared_in h = go r h
+    where
+      go : (r : Result Bool Fault)
+          → IfOk r (λ answer. (f s : List ℕ) → IsRead MAX_LEVEL f store p → IsRead MAX_LEVEL s store q → IsTrue answer ↔ AreSameIn form MAX_LEVEL f s)
+          → IfOk r (λ answer. Makes (Same form) first second (Comparison answer))
+      go (Ok answer) h =
+          compared_files form first second a b answer one two (reads.universe, reads.reads) (others.universe, others.reads) (h a b reads others)
+      go (Err fault) h = tt
+
+  pub uncompared_in : IfErr r (λ fault. (fault ≡ fault_of Memory)
+      ⊎ ((f s : List ℕ) → IsRead MAX_LEVEL f store p → IsRead MAX_LEVEL s store q → RefusesSame form f s fault))
+      → IfErr r (AreUncompared form first second)
+  uncompared_in h = go r h
+    where
+      go : (r : Result Bool Fault) → IfErr r (λ fault. (fault ≡ fault_of Memory)
+          ⊎ ((f s : List ℕ) → IsRead MAX_LEVEL f store p → IsRead MAX_LEVEL s store q → RefusesSame form f s fault))
+          → IfErr r (AreUncompared form first second)
+      go (Ok answer) h = tt
+      go (Err fault) (inl memory) = by_second_shortage a one (inl memory)
+      go (Err fault) (inr refuses) =
+          by_form a b one two (reads.universe, reads.reads) (others.universe, others.reads) (refuses a b reads others)
 
 -- all of a file was read, and a call on its pattern gave its text
 pub text_of_pattern : {X : Type 0} (gives : List ℕ → List ℕ → Type 0) (items : X → List ℕ) (source : SourceRun) (store : Nodes) (pattern : Pattern)
@@ -127,7 +173,7 @@ pub refused_step : {X : Type 0} (lacks : Rule → Tree → Nodes → Type 0) (re
     → IfErr r (λ fault. IsWant new fault ⊎ ((bytes : List ℕ) → IsRead MAX_LEVEL bytes old pattern → refuses bytes fault))
     → (r ≡ Err (fault_of Full) → lacks pattern.rule (content old pattern.root) new)
     → IfErr r (HasNoText (λ bytes fault. Refuses MAX_LEVEL bytes fault
-    ⊎ (WantsToStep (λ store. (u : Universe) × Reads MAX_LEVEL bytes u × lacks u.rule (whole MAX_LEVEL u) store) fault ⊎ refuses bytes fault)) source)
+    ⊎ (WantsFor (λ store. (u : Universe) × Reads MAX_LEVEL bytes u × lacks u.rule (whole MAX_LEVEL u) store) fault ⊎ refuses bytes fault)) source)
 refused_step lacks refuses source old new pattern (Ok x) has limit h needed = tt
 refused_step lacks refuses source old new pattern (Err fault) has limit (inl want) needed =
     let lacking : fault ≡ fault_of Full → (u : Universe) × Reads MAX_LEVEL has.bytes u × lacks u.rule (whole MAX_LEVEL u) new =
@@ -185,11 +231,15 @@ broken_text gives refuses source output bytes text fault read is broken = by_wri
 
 pub unwritten : (job : Job) (first second : SourceRun) (output : SinkRun) (made : Made) (refusal : Refusal) → ¬ WritesCanonical job
     → Makes job first second made → OfFile (Breaks output (made_text made)) refusal → JobRefuses job first second output refusal
-unwritten Canon first second output made refusal other makes broken = absurd (other tt)
+unwritten (Canon Placed) first second output made refusal other makes broken = absurd (other tt)
+unwritten (Canon Moved) first second output made refusal other makes broken =
+    (broken.0, broken_text (IsTextIn Moved MAX_LEVEL) (RefusesIn Moved) first output _ _ refusal.fault makes.first_read makes.writes.1 broken.1)
+unwritten (Canon Turned) first second output made refusal other makes broken =
+    (broken.0, broken_text (IsTextIn Turned MAX_LEVEL) (RefusesIn Turned) first output _ _ refusal.fault makes.first_read makes.writes.1 broken.1)
 unwritten (Convert Rle) first second output made refusal other makes broken =
-    (broken.0, broken_text (IsRleOf MAX_LEVEL (2 ^ 20)) RefusesRle first output _ _ refusal.fault makes.first_read makes.writes.1 broken.1)
+    (broken.0, broken_text (IsRleOf MAX_LEVEL (2 ^ 20)) RefusesMany first output _ _ refusal.fault makes.first_read makes.writes.1 broken.1)
 unwritten (Convert Mc) first second output made refusal other makes broken = absurd (other tt)
-unwritten Same first second output made refusal other makes broken = (broken.0, by_telling _ _ makes broken.1)
+unwritten (Same form) first second output made refusal other makes broken = (broken.0, by_telling _ _ makes broken.1)
 unwritten Show first second output made refusal other makes broken =
     (broken.0, broken_text (IsShown MAX_LEVEL) (Refuses MAX_LEVEL) first output _ _ refusal.fault makes.first_read makes.writes.1 broken.1)
 unwritten Step first second output made refusal other makes broken =
@@ -201,10 +251,19 @@ unwritten StepTable first second output made refusal other makes broken =
     record { bytes = makes.first_bytes; read = makes.first_read; is = makes.writes.1.2 } in
     inr (broken.0, (made_text made, (table, has, stepped), broken.1))
 
--- a job that writes the canonical text of its file
-canonical_as : (job : Job) (first second : SourceRun) (output : SinkRun) → WritesCanonical job → Worked Canon 0 first second output
+-- nothing comes of a pattern in a form
+pub refused_form : (form : Form) (first second : SourceRun) (output : SinkRun) (refusal : Refusal) → ¬ WritesCanonical (Canon form)
+    → OfFile (HasNoText (RefusesIn form) first) refusal → JobRefuses (Canon form) first second output refusal
+refused_form Placed first second output refusal other h = absurd (other tt)
+refused_form Moved first second output refusal other h = (h.0, by_reading h.1)
+refused_form Turned first second output refusal other h = (h.0, by_reading h.1)
+
+-- a job that writes the canonical text of its file's pattern as that lies
+canonical_as : (job : Job) (first second : SourceRun) (output : SinkRun) → WritesCanonical job → Worked (Canon Placed) 0 first second output
     → Worked job 0 first second output
-canonical_as Canon first second output is done = done
+canonical_as (Canon Placed) first second output is done = done
+canonical_as (Canon Moved) first second output is done = absurd is
+canonical_as (Canon Turned) first second output is done = absurd is
 canonical_as (Convert Rle) first second output is done = absurd is
 canonical_as (Convert Mc) first second output is done = record {
   text = done.text;
@@ -217,13 +276,13 @@ canonical_as (Convert Mc) first second output is done = record {
   };
   written = done.written;
 }
-canonical_as Same first second output is done = absurd is
+canonical_as (Same form) first second output is done = absurd is
 canonical_as Show first second output is done = absurd is
 canonical_as Step first second output is done = absurd is
 canonical_as StepTable first second output is done = absurd is
 
 pub worked_canonical : (job : Job) (first second : SourceRun) (output : SinkRun) (r : Result ℕ Refusal) → WritesCanonical job
-    → IfOk r (λ status. status ≡ 0) → OnOk r ((second : SourceRun) → Worked Canon 0 first second output)
+    → IfOk r (λ status. status ≡ 0) → OnOk r ((second : SourceRun) → Worked (Canon Placed) 0 first second output)
     → IfOk r (λ status. Worked job status first second output)
 worked_canonical job first second output (Ok status) is zero done =
     let P : ℕ → Type 0 = λ n. Worked job n first second output in subst P (sym zero) (canonical_as job first second output is (done second))

@@ -17,17 +17,25 @@ option id = record (new_rule id) { long = Some id; action = Some Set; value_name
 abbrev pub required_option : Text → Rule
 required_option id = record (new_rule id) { long = Some id; required = true; action = Some Set; value_names = 1 }
 
--- canon FILE, show FILE
+-- show FILE
 abbrev pub one_file_line : Text → App
 one_file_line name = with_rule (new_app name) (required_file (codes "FILE"))
+
+-- canon FILE, with an optional --form FORM
+abbrev pub canon_line : App
+canon_line = with_rule (one_file_line (codes "canon")) (option (codes "form"))
 
 -- convert FILE --to FORMAT
 abbrev pub convert_line : App
 convert_line = with_rule (one_file_line (codes "convert")) (required_option (codes "to"))
 
--- same A B
+-- a command over two files
+abbrev pub two_files_line : Text → App
+two_files_line name = with_rule (with_rule (new_app name) (required_file (codes "A"))) (required_file (codes "B"))
+
+-- same A B, with an optional --form FORM
 abbrev pub same_line : App
-same_line = with_rule (with_rule (new_app (codes "same")) (required_file (codes "A"))) (required_file (codes "B"))
+same_line = with_rule (two_files_line (codes "same")) (option (codes "form"))
 
 -- step FILE, with an optional --table RULE
 abbrev pub step_line : App
@@ -42,7 +50,7 @@ named =
 -- the program
 abbrev pub program : App
 program = with_subcommand (with_subcommand (with_subcommand (with_subcommand (with_subcommand named
-    (one_file_line (codes "canon")).top)
+    canon_line.top)
     convert_line.top)
     same_line.top)
     (one_file_line (codes "show")).top)

@@ -10,7 +10,7 @@ use Rattle.life_base.specs.declared.fault.Fault.{Fault}
 use Rattle.life_base.specs.declared.cell.TheConstants.{MAX_LEVEL}
 use Rattle.life_base.specs.declared.kind.Kind.TheVariants.{Full, InputTooLong, Memory, ReadFault, WriteFault, TooManyCells}
 use Rattle.life_quad.specs.Store.{Nodes}
-use Rattle.life_canon.specs.Files.{Accepted, Reads, Same as AreSame, Refuses}
+use Rattle.life_canon.specs.Files.{Accepted, Reads, Refuses}
 use Rattle.life_canon.specs.Running.{RunRefuses, LacksForRead}
 use Rattle.life_canon.specs.Store.{IsRead, IsWant}
 use Rattle.life_canon.specs.Texts.{IsCanonical, IsRleOf, IsShown, HasMoreCells}
@@ -21,7 +21,11 @@ use Rattle.life_table.specs.Reading.{Refuses as RefusesTable}
 use Rattle.life_table.specs.declared.table.Table.{Table}
 use Rattle.life_step.specs.Refusals.{LacksForNext, LacksForNextBy, LifeRefusal, TableRefusal}
 use Rattle.life_step.specs.Stepped.{IsStepped, IsSteppedBy}
+use Rattle.life_forms.specs.Needed.{LacksForMoved}
+use Rattle.life_cli.specs.Forms.{AreSameIn, IsTextIn}
 use Rattle.life_cli.specs.Plans.{HasSecond}
+use Rattle.life_cli.specs.declared.plans.Form.{Form}
+use Rattle.life_cli.specs.declared.plans.Form.TheVariants.{Placed, Moved, Turned}
 use Rattle.life_cli.specs.declared.plans.Job.{Job}
 use Rattle.life_cli.specs.declared.plans.Job.TheVariants.{Canon, Convert, Same, Show, Step, StepTable}
 use Rattle.life_cli.specs.declared.plans.Target.TheVariants.{Rle, Mc}
@@ -29,18 +33,18 @@ use Rattle.life_cli.specs.declared.telling.Refusal.{Refusal}
 use Rattle.life_cli.specs.declared.working.Made.{Made}
 use Rattle.life_cli.specs.declared.working.Made.TheVariants.{Text, Comparison}
 
--- the status and the line of two files that are compared
-abbrev pub Compares : List ℕ → List ℕ → ℕ → List ℕ → Type 0
-Compares first second status text =
-    ((status ≡ 0) × AreSame MAX_LEVEL first second × (text ≡ codes "same\n"))
-    ⊎ ((status ≡ 1) × (¬ AreSame MAX_LEVEL first second) × (text ≡ codes "different\n"))
+-- the status and the line of two files that are compared in a form
+abbrev pub Compares : Form → List ℕ → List ℕ → ℕ → List ℕ → Type 0
+Compares form first second status text =
+    ((status ≡ 0) × AreSameIn form MAX_LEVEL first second × (text ≡ codes "same\n"))
+    ⊎ ((status ≡ 1) × (¬ AreSameIn form MAX_LEVEL first second) × (text ≡ codes "different\n"))
 
 -- the status and the text of a job on the bytes of its files
 abbrev pub Writes : Job → List ℕ → List ℕ → ℕ → List ℕ → Type 0
-Writes Canon first second status text = (status ≡ 0) × IsCanonical MAX_LEVEL first text
+Writes (Canon form) first second status text = (status ≡ 0) × IsTextIn form MAX_LEVEL first text
 Writes (Convert Rle) first second status text = (status ≡ 0) × IsRleOf MAX_LEVEL (2 ^ 20) first text
 Writes (Convert Mc) first second status text = (status ≡ 0) × IsCanonical MAX_LEVEL first text
-Writes Same first second status text = Accepted MAX_LEVEL first × Accepted MAX_LEVEL second × Compares first second status text
+Writes (Same form) first second status text = Accepted MAX_LEVEL first × Accepted MAX_LEVEL second × Compares form first second status text
 Writes Show first second status text = (status ≡ 0) × IsShown MAX_LEVEL first text
 Writes Step first second status text = (status ≡ 0) × IsStepped first text
 Writes StepTable first second status text = (status ≡ 0) × ((table : Table) × IsFile (lines_of second) table × IsSteppedBy table first text)
@@ -116,47 +120,68 @@ pub record IsHeld (store : Nodes) (source : SourceRun) (held : Result Pattern Fa
   pub pattern : IfOk held (IsRead MAX_LEVEL bytes store)
   pub fault : IfErr held (Refuses MAX_LEVEL bytes)
 
+-- a call found that a store of 2^31 squares holds its limit and lacks what the call needs, or a growth of memory was refused to it
+abbrev pub WantsFor : (Nodes → Type 0) → Fault → Type 0
+WantsFor Lacks fault = (store : Nodes) × (store.limit ≡ 2 ^ 31) × IsWant store fault × (fault ≡ fault_of Full → Lacks store)
+
+-- the store lacks a square of the moved pattern of a file
+abbrev pub LacksToMove : List ℕ → Nodes → Type 0
+LacksToMove bytes store = (u : Universe) × Reads MAX_LEVEL bytes u × LacksForMoved u store
+
+-- why two files aren't compared in a form: one of them has too many cells, or room or memory is wanted to move them
+abbrev pub RefusesSame : Form → List ℕ → List ℕ → Fault → Type 0
+RefusesSame Placed a b fault = ⊥
+RefusesSame Moved a b fault =
+    ((fault ≡ fault_of TooManyCells) × (HasMoreCells MAX_LEVEL a (2 ^ 20) ⊎ HasMoreCells MAX_LEVEL b (2 ^ 20)))
+    ⊎ WantsFor (λ store. LacksToMove a store ⊎ LacksToMove b store) fault
+RefusesSame Turned a b fault = (fault ≡ fault_of TooManyCells) × (HasMoreCells MAX_LEVEL a (2 ^ 20) ⊎ HasMoreCells MAX_LEVEL b (2 ^ 20))
+
 -- Why two files aren't compared: the first isn't read; all of it was read, and the second isn't; all of both was read, and the first is no
--- file, or it is one and the second isn't; or room or memory is wanted for the first, or, once all of it was read, for the second.
-pub data AreUncompared (first second : SourceRun) (fault : Fault) : Type 0 where
-  by_first : InputRefuses first fault → AreUncompared first second fault
-  by_second : (a : List ℕ) → ReadAll (2 ^ 30) first.before first.after a → InputRefuses second fault → AreUncompared first second fault
+-- file, or it is one and the second isn't, or both are, and aren't compared in the form; or room or memory is wanted for the first, or, once all
+-- of it was read, for the second.
+pub data AreUncompared (form : Form) (first second : SourceRun) (fault : Fault) : Type 0 where
+  by_first : InputRefuses first fault → AreUncompared form first second fault
+  by_second : (a : List ℕ) → ReadAll (2 ^ 30) first.before first.after a → InputRefuses second fault → AreUncompared form first second fault
   by_files : (a b : List ℕ) → ReadAll (2 ^ 30) first.before first.after a → ReadAll (2 ^ 30) second.before second.after b
-      → Refuses MAX_LEVEL a fault ⊎ (Accepted MAX_LEVEL a × Refuses MAX_LEVEL b fault) → AreUncompared first second fault
-  by_first_shortage : Wants first fault → AreUncompared first second fault
-  by_second_shortage : (a : List ℕ) → ReadAll (2 ^ 30) first.before first.after a → Wants second fault → AreUncompared first second fault
+      → Refuses MAX_LEVEL a fault ⊎ (Accepted MAX_LEVEL a × Refuses MAX_LEVEL b fault) → AreUncompared form first second fault
+  by_form : (a b : List ℕ) → ReadAll (2 ^ 30) first.before first.after a → ReadAll (2 ^ 30) second.before second.after b
+      → Accepted MAX_LEVEL a → Accepted MAX_LEVEL b → RefusesSame form a b fault → AreUncompared form first second fault
+  by_first_shortage : Wants first fault → AreUncompared form first second fault
+  by_second_shortage : (a : List ℕ) → ReadAll (2 ^ 30) first.before first.after a → Wants second fault → AreUncompared form first second fault
 
 -- why the comparison of two files is refused: there is none, or its line could not be written
-pub data SameRefuses (first second : SourceRun) (output : SinkRun) (fault : Fault) : Type 0 where
-  by_comparing : AreUncompared first second fault → SameRefuses first second output fault
-  by_telling : (status : ℕ) (text : List ℕ) → HasAnswer Same first second status text → Breaks output text fault
-      → SameRefuses first second output fault
+pub data SameRefuses (form : Form) (first second : SourceRun) (output : SinkRun) (fault : Fault) : Type 0 where
+  by_comparing : AreUncompared form first second fault → SameRefuses form first second output fault
+  by_telling : (status : ℕ) (text : List ℕ) → HasAnswer (Same form) first second status text → Breaks output text fault
+      → SameRefuses form first second output fault
 
--- why bytes have no text in extended RLE: they are no file, or one with too many cells
-abbrev pub RefusesRle : List ℕ → Fault → Type 0
-RefusesRle bytes fault = Refuses MAX_LEVEL bytes fault ⊎ ((fault ≡ fault_of TooManyCells) × HasMoreCells MAX_LEVEL bytes (2 ^ 20))
+-- why bytes have no text that takes a list of cells: they are no file, or one with too many cells
+abbrev pub RefusesMany : List ℕ → Fault → Type 0
+RefusesMany bytes fault = Refuses MAX_LEVEL bytes fault ⊎ ((fault ≡ fault_of TooManyCells) × HasMoreCells MAX_LEVEL bytes (2 ^ 20))
+
+-- why bytes have no text in a form
+abbrev pub RefusesIn : Form → List ℕ → Fault → Type 0
+RefusesIn Placed bytes fault = Refuses MAX_LEVEL bytes fault
+RefusesIn Moved bytes fault = RefusesMany bytes fault ⊎ WantsFor (LacksToMove bytes) fault
+RefusesIn Turned bytes fault = RefusesMany bytes fault
 
 -- why a run of `run_canon` in a store of 2^31 squares is refused
 abbrev pub CanonRefuses : SourceRun → SinkRun → Fault → Type 0
 CanonRefuses first output fault = (store : Nodes) × (store.limit ≡ 2 ^ 31) × RunRefuses MAX_LEVEL (2 ^ 30) store first output fault
     × (fault ≡ fault_of Full → LacksForRead MAX_LEVEL (2 ^ 30) store first)
 
--- a step found that a store of 2^31 squares holds its limit and lacks what the step needs, or a growth of memory was refused to it
-abbrev pub WantsToStep : (Nodes → Type 0) → Fault → Type 0
-WantsToStep Lacks fault = (store : Nodes) × (store.limit ≡ 2 ^ 31) × IsWant store fault × (fault ≡ fault_of Full → Lacks store)
-
 -- why bytes aren't stepped under their own rule: they are no file, room or memory is wanted, or they are one whose pattern has no next
 -- generation
 abbrev pub RefusesStep : List ℕ → Fault → Type 0
 RefusesStep bytes fault =
     Refuses MAX_LEVEL bytes fault
-    ⊎ (WantsToStep (LacksForNext bytes) fault ⊎ ((u : Universe) × Reads MAX_LEVEL bytes u × LifeRefusal MAX_LEVEL u (Some fault)))
+    ⊎ (WantsFor (LacksForNext bytes) fault ⊎ ((u : Universe) × Reads MAX_LEVEL bytes u × LifeRefusal MAX_LEVEL u (Some fault)))
 
 -- the same by a table
 abbrev pub RefusesStepBy : Table → List ℕ → Fault → Type 0
 RefusesStepBy table bytes fault =
     Refuses MAX_LEVEL bytes fault
-    ⊎ (WantsToStep (LacksForNextBy table bytes) fault ⊎ ((u : Universe) × Reads MAX_LEVEL bytes u × TableRefusal MAX_LEVEL table u (Some fault)))
+    ⊎ (WantsFor (LacksForNextBy table bytes) fault ⊎ ((u : Universe) × Reads MAX_LEVEL bytes u × TableRefusal MAX_LEVEL table u (Some fault)))
 
 -- all of a file was read, and it is this rule table
 pub record HasTable (source : SourceRun) (table : Table) : Type 0 where
@@ -193,10 +218,11 @@ HasNoTextByTable first second refusal = (OfTable (HasNoTable second) refusal × 
 
 -- why a job is refused with this fault, and what it left of its files and the output
 abbrev pub JobRefuses : Job → (first second : SourceRun) → SinkRun → Refusal → Type 0
-JobRefuses Canon first second output refusal = OfFile (CanonRefuses first output) refusal
-JobRefuses (Convert Rle) first second output refusal = OfFile (FileRefuses (IsRleOf MAX_LEVEL (2 ^ 20)) RefusesRle first output) refusal
+JobRefuses (Canon Placed) first second output refusal = OfFile (CanonRefuses first output) refusal
+JobRefuses (Canon form) first second output refusal = OfFile (FileRefuses (IsTextIn form MAX_LEVEL) (RefusesIn form) first output) refusal
+JobRefuses (Convert Rle) first second output refusal = OfFile (FileRefuses (IsRleOf MAX_LEVEL (2 ^ 20)) RefusesMany first output) refusal
 JobRefuses (Convert Mc) first second output refusal = OfFile (CanonRefuses first output) refusal
-JobRefuses Same first second output refusal = OfFile (SameRefuses first second output) refusal
+JobRefuses (Same form) first second output refusal = OfFile (SameRefuses form first second output) refusal
 JobRefuses Show first second output refusal = OfFile (FileRefuses (IsShown MAX_LEVEL) (Refuses MAX_LEVEL) first output) refusal
 JobRefuses Step first second output refusal = OfFile (FileRefuses IsStepped RefusesStep first output) refusal
 JobRefuses StepTable first second output refusal = HasNoTextByTable first second refusal

@@ -1,4 +1,5 @@
 pub mod Faults
+pub mod Forms
 pub mod Jobs
 pub mod CommandLine
 pub mod Plans

@@ -5,6 +5,8 @@ use Rattle.std.specs.Str.{bytes_eq}
 use Rattle.clap.specs.Words.{Row, Text, Kinds, IsAmong, first_of, kind_of}
 use Rattle.clap.specs.declared.error.Error.{Error}
 use Rattle.clap.specs.declared.error.kind.ErrorKind.TheVariants.{InvalidValue, OutOfMemory}
+use Rattle.life_cli.specs.declared.plans.Form.{Form}
+use Rattle.life_cli.specs.declared.plans.Form.TheVariants.{Placed, Moved, Turned}
 use Rattle.life_cli.specs.declared.plans.Job.{Job}
 use Rattle.life_cli.specs.declared.plans.Job.TheVariants.{Canon, Convert, Same, Show, Step, StepTable}
 use Rattle.life_cli.specs.declared.plans.Target.{Target}
@@ -18,32 +20,32 @@ abbrev pub target_word : Target → Text
 target_word Rle = codes "rle"
 target_word Mc = codes "mc"
 
+-- the word of a form
+abbrev pub form_word : Form → Text
+form_word Placed = codes "placed"
+form_word Moved = codes "moved"
+form_word Turned = codes "turned"
+
 -- the command of a job
 abbrev pub command_of : Job → Text
-command_of Canon = codes "canon"
+command_of (Canon form) = codes "canon"
 command_of (Convert target) = codes "convert"
-command_of Same = codes "same"
+command_of (Same form) = codes "same"
 command_of Show = codes "show"
 command_of Step = codes "step"
 command_of StepTable = codes "step"
 
 -- the job has a second file
 abbrev pub HasSecond : Job → Type 0
-HasSecond Same = Unit {0}
+HasSecond (Same form) = Unit {0}
 HasSecond StepTable = Unit {0}
 HasSecond _ = ⊥
 
--- the job writes the canonical text of its file
+-- the job writes the canonical text of its file's pattern as that lies
 abbrev pub WritesCanonical : Job → Type 0
-WritesCanonical Canon = Unit {0}
+WritesCanonical (Canon Placed) = Unit {0}
 WritesCanonical (Convert Mc) = Unit {0}
 WritesCanonical _ = ⊥
-
--- the command of the job takes a file and nothing more
-abbrev pub TakesFileAlone : Job → Type 0
-TakesFileAlone Canon = Unit {0}
-TakesFileAlone Show = Unit {0}
-TakesFileAlone _ = ⊥
 
 -- the only file is FILE
 abbrev pub HoldsFile : List Row → Plan → Type 0
@@ -54,11 +56,16 @@ abbrev pub HoldsFiles : Text → Text → List Row → Plan → Type 0
 HoldsFiles first second rows p = (first_of first rows ≡ Some (string_bytes p.first))
     × (first_of second rows ≡ option_map string_bytes p.second) × IsSome p.second
 
+-- the form is the one that was asked for, or where none was, that of the pattern as it lies
+abbrev pub HoldsForm : List Row → Form → Type 0
+HoldsForm rows form =
+    ((first_of (codes "form") rows ≡ None) × (form ≡ Placed)) ⊎ (first_of (codes "form") rows ≡ Some (form_word form))
+
 -- the plan's files and options are those that were found for the job's command
 abbrev pub HoldsMatches : Job → List Row → Plan → Type 0
-HoldsMatches Canon rows p = HoldsFile rows p
+HoldsMatches (Canon form) rows p = HoldsFile rows p × HoldsForm rows form
 HoldsMatches (Convert target) rows p = HoldsFile rows p × (first_of (codes "to") rows ≡ Some (target_word target))
-HoldsMatches Same rows p = HoldsFiles (codes "A") (codes "B") rows p
+HoldsMatches (Same form) rows p = HoldsFiles (codes "A") (codes "B") rows p × HoldsForm rows form
 HoldsMatches Show rows p = HoldsFile rows p
 HoldsMatches Step rows p = HoldsFile rows p × (first_of (codes "table") rows ≡ None)
 HoldsMatches StepTable rows p = HoldsFiles (codes "FILE") (codes "table") rows p
@@ -75,7 +82,7 @@ IsFound id rows = IsSome (first_of id rows)
 -- the files and options were found without which the job can't be done
 abbrev pub HasWanted : Job → List Row → Type 0
 HasWanted (Convert target) rows = IsFound (codes "FILE") rows × IsFound (codes "to") rows
-HasWanted Same rows = IsFound (codes "A") rows × IsFound (codes "B") rows
+HasWanted (Same form) rows = IsFound (codes "A") rows × IsFound (codes "B") rows
 HasWanted _ rows = IsFound (codes "FILE") rows
 
 -- the matches are those of a job's command, with what the job wants
@@ -87,17 +94,26 @@ AreWhole (Some matches) = (job : Job) × (matches.0 ≡ command_of job) × HasWa
 abbrev pub HasNoFormat : List Row → Type 0
 HasNoFormat rows = (word : Text) × (first_of (codes "to") rows ≡ Some word) × ((t : Target) → word ≢ target_word t)
 
--- the refusal of such a word, or for want of memory
-abbrev pub RefusesFormat : List Row → Usage → Type 0
-RefusesFormat rows (Words error) = HasNoFormat rows × (kind_of error ≡ InvalidValue)
-RefusesFormat rows TwoInputs = ⊥
-RefusesFormat rows NoText = ⊥
-RefusesFormat rows Memory = Unit {0}
+-- the word behind --form is that of no form
+abbrev pub HasNoForm : List Row → Type 0
+HasNoForm rows = (word : Text) × (first_of (codes "form") rows ≡ Some word) × ((f : Form) → word ≢ form_word f)
 
--- the matches are those of `convert` with such a word
+-- the refusal of such a word, or for want of memory
+abbrev pub RefusesWord : Type 0 → Usage → Type 0
+RefusesWord is_such (Words error) = is_such × (kind_of error ≡ InvalidValue)
+RefusesWord is_such TwoInputs = ⊥
+RefusesWord is_such NoText = ⊥
+RefusesWord is_such Memory = Unit {0}
+
+-- the matches are those of `convert` with a word that is that of no format
 abbrev pub NamesNoFormat : Option (Text × List Row) → Type 0
 NamesNoFormat None = ⊥
 NamesNoFormat (Some matches) = (matches.0 ≡ codes "convert") × HasNoFormat matches.1
+
+-- the matches are those of `canon` or `same` with a word that is that of no form
+abbrev pub NamesNoForm : Option (Text × List Row) → Type 0
+NamesNoForm None = ⊥
+NamesNoForm (Some matches) = ((matches.0 ≡ codes "canon") ⊎ (matches.0 ≡ codes "same")) × HasNoForm matches.1
 
 -- the value is standard input
 abbrev pub is_input : Option Text → Bool
@@ -113,10 +129,11 @@ NamesInputTwice None = ⊥
 NamesInputTwice (Some matches) = 1 < input_count matches.1
 
 -- Why words are refused in which `clap` finds these faults and these matches: by the kind of a fault; in words without a fault, since the word
--- behind --to is that of no format, or since standard input is named twice, which is told before that; or for want of memory.
+-- behind --to is that of no format or the one behind --form that of no form, or since standard input is named twice, which is told before that; or
+-- for want of memory.
 abbrev pub Explains : Kinds → Option (Text × List Row) → Usage → Type 0
 Explains faults matches (Words error) = IsAmong (kind_of error) faults
-    ⊎ ((faults ≡ []) × NamesNoFormat matches × ¬ NamesInputTwice matches × (kind_of error ≡ InvalidValue))
+    ⊎ ((faults ≡ []) × (NamesNoFormat matches ⊎ NamesNoForm matches) × ¬ NamesInputTwice matches × (kind_of error ≡ InvalidValue))
 Explains faults matches TwoInputs = (faults ≡ []) × NamesInputTwice matches
 Explains faults matches NoText = ⊥
 Explains faults matches Memory = Unit {0}

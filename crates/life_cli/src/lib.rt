@@ -1,6 +1,7 @@
 //! What the program `golly_canon` does, over any words, sources and sinks.
 #![tactic(auto)]
 
+mod forming;
 mod opening;
 pub mod plans;
 mod reporting;

@@ -8,18 +8,29 @@ use std::io;
 /// What a run is asked to do.
 #[derive(Clone, Copy, PartialEq, Eq, Debug)]
 pub enum Job {
-    /// Write the canonical text.
-    Canon,
+    /// Write the canonical text of the pattern, in a form.
+    Canon(Form),
     /// Write the pattern in a format.
     Convert(Target),
-    /// Tell whether two files are the same pattern.
-    Same,
+    /// Tell whether two files are the same pattern, in a form.
+    Same(Form),
     /// Write what the pattern is, in five lines.
     Show,
     /// Write the next generation, under the pattern's own B/S rule.
     Step,
     /// Write the next generation, by the rule table that is the second file.
     StepTable,
+}
+
+/// The form that a pattern is taken in.
+#[derive(Clone, Copy, PartialEq, Eq, Debug)]
+pub enum Form {
+    /// The pattern as it lies.
+    Placed,
+    /// Moved, so that its place doesn't count.
+    Moved,
+    /// Turned or reflected, and moved, so that neither its direction nor its place counts.
+    Turned,
 }
 
 /// The format that a pattern is converted to.

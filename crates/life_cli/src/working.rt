@@ -8,16 +8,17 @@ ghost use Rattle.life_canon.specs.Files.{Refuses};
 ghost use Rattle.life_canon.specs.Store.{Keeps};
 ghost use Rattle.life_canon.specs.Texts.{IsRleOf, IsShown};
 ghost use Rattle.life_cli.specs.Faults.{fault_line, status_of, Tells};
-ghost use Rattle.life_cli.specs.Jobs.{made_status, made_text, Makes, Worked, OfFile, InputRefuses, Breaks, HasText, HasNoText, AreUncompared, CanonRefuses, IsHeld, IsWantFor, JobRefuses, RefusesRle};
+ghost use Rattle.life_cli.specs.Jobs.{made_status, made_text, Makes, Worked, OfFile, InputRefuses, Breaks, HasText, HasNoText, AreUncompared, CanonRefuses, IsHeld, IsWantFor, JobRefuses, RefusesMany};
 ghost use Rattle.life_cli.specs.Plans.{HasSecond, WritesCanonical};
 
-use crate::plans::{Job, Target};
+use crate::forming::{are_same_in, text_of_source};
+use crate::plans::{Form, Job, Target};
 use crate::seeds::Seeds;
 use crate::stepping::{next_by_table_of, next_of};
 use crate::telling::{Refusal, status, tell};
 use life_base::{Fault, Kind, MAX_LEVEL, Sink, Source, deliver};
-use life_canon::laws::{patterns_stay, patterns_tell_files, refusals_have_kinds};
-use life_canon::{Pattern, are_same, five_lines_of, read_from, rle_of, run_canon};
+use life_canon::laws::{patterns_stay, refusals_have_kinds};
+use life_canon::{Pattern, five_lines_of, read_from, rle_of, run_canon};
 use life_quad::Shared;
 use std::alloc::Global;
 
@@ -29,7 +30,7 @@ pub(crate) const MOST_SQUARES: u64 = 1 << 31;
 pub enum Made {
     /// A text.
     Text(Vec<u8>),
-    /// Whether the two files are the same pattern.
+    /// Whether the two files are the same pattern in the form.
     Comparison(bool),
 }
 
@@ -75,7 +76,7 @@ fn write_whole<W: Sink>(writer: &mut W, text: &[u8]) -> Result<(), Refusal>
 fn rle_of_source<A: Source>(alloc: Global, seeds: &Seeds, first: &mut A) -> Result<Vec<u8>, Fault>
     requires { A.failures first.old ≡ 0 }
     ensures ok { IfOk result (λ text. HasText (IsRleOf MAX_LEVEL (2 ^ 20)) (source_run A.remaining A.failures first.old first.new) text.items) }
-    ensures err { IfErr result (HasNoText RefusesRle (source_run A.remaining A.failures first.old first.new)) }
+    ensures err { IfErr result (HasNoText RefusesMany (source_run A.remaining A.failures first.old first.new)) }
     ensures told { A.failures first.new ≡ 1 → IsErrAnd result (λ fault. fault.kind ≡ Kind.ReadFault) }
 {
     let mut store = Shared::new(alloc, seeds.squares, MOST_SQUARES);
@@ -129,28 +130,28 @@ fn held<A: Source>(
     }
 }
 
-/// Whether two sources have the same pattern. What keeps `other` from being read is told before the fault of the file of `one`.
+/// Whether two sources have the same pattern in a form. What keeps `other` from being read is told before the fault of the file of `one`.
 fn compared<A: Source, B: Source>(
     alloc: Global,
     seeds: &Seeds,
+    form: Form,
     one: &mut A,
     other: &mut B,
 ) -> Result<bool, Fault>
     requires one { A.failures one.old ≡ 0 }
     requires other { B.failures other.old ≡ 0 }
-    ensures ok { IfOk result (λ is_same. Makes Job.Same (source_run A.remaining A.failures one.old one.new) (source_run B.remaining B.failures other.old other.new) (Made.Comparison is_same)) }
-    ensures err { IfErr result (AreUncompared (source_run A.remaining A.failures one.old one.new) (source_run B.remaining B.failures other.old other.new)) }
+    ensures ok { IfOk result (λ is_same. Makes (Job.Same form) (source_run A.remaining A.failures one.old one.new) (source_run B.remaining B.failures other.old other.new) (Made.Comparison is_same)) }
+    ensures err { IfErr result (AreUncompared form (source_run A.remaining A.failures one.old one.new) (source_run B.remaining B.failures other.old other.new)) }
     ensures told { (A.failures one.new ≡ 1) ⊎ (B.failures other.new ≡ 1) → IsErrAnd result (λ fault. fault.kind ≡ Kind.ReadFault) }
 {
     patterns_stay();
-    patterns_tell_files();
     let mut store = Shared::new(alloc, seeds.squares, MOST_SQUARES);
     let a = held(alloc, &mut store, one)?;
     let b = held(alloc, &mut store, other)?;
-    Ok(are_same(&a?, &b?))
+    are_same_in(alloc, &mut store, form, &a?, &b?)
 }
 
-/// What is written for a job, of those that don't write the canonical text of a file.
+/// What is written for a job, of those that don't write the canonical text of a file's pattern as that lies.
 fn make<A: Source, B: Source>(
     alloc: Global,
     seeds: &Seeds,
@@ -169,23 +170,26 @@ fn make<A: Source, B: Source>(
     ensures second_told { IfSome second.new (λ b. B.failures b ≡ 1 → IsErrAnd result (λ refusal. refusal.fault.kind ≡ Kind.ReadFault)) }
 {
     Ok(match (job, second) {
+        (Job::Canon(form), _) => Made::Text(text_of_source(alloc, seeds, *form, first)?),
         (Job::Convert(Target::Rle), _) => Made::Text(rle_of_source(alloc, seeds, first)?),
-        (Job::Same, Some(second)) => Made::Comparison(compared(alloc, seeds, first, second)?),
+        (Job::Same(form), Some(second)) => {
+            Made::Comparison(compared(alloc, seeds, *form, first, second)?)
+        }
         (Job::Show, _) => Made::Text(five_lines_of_source(alloc, seeds, first)?),
         (Job::Step, _) => Made::Text(next_of(alloc, seeds, first)?),
         (Job::StepTable, Some(second)) => Made::Text(next_by_table_of(
             alloc, seeds, first, second,
         )?),
-        (Job::Same, None) | (Job::StepTable, None) => unreachable!(),
-        (Job::Canon, _) | (Job::Convert(Target::Mc), _) => unreachable!(),
+        (Job::Same(_), None) | (Job::StepTable, None) => unreachable!(),
+        (Job::Convert(Target::Mc), _) => unreachable!(),
     })
 }
 
-/// Whether the job writes the canonical text of its file.
+/// Whether the job writes the canonical text of its file's pattern as that lies.
 fn writes_canonical(job: &Job) -> bool
     ensures { IsTrue result ↔ WritesCanonical job.now }
 {
-    matches!(job, Job::Canon | Job::Convert(Target::Mc))
+    matches!(job, Job::Canon(Form::Placed) | Job::Convert(Target::Mc))
 }
 
 /// Writes the canonical text of the first file.
@@ -199,7 +203,7 @@ fn run_canonical<A: Source, O: Sink>(
     requires writes { O.failures out.old ≡ 0 }
     requires takes { O.stalled out.old ≡ false }
     ensures done { IfOk result (λ status. status ≡ 0) }
-    ensures canon { OnOk result ((second : SourceRun) → Worked Job.Canon 0 (source_run A.remaining A.failures first.old first.new) second
+    ensures canon { OnOk result ((second : SourceRun) → Worked (Job.Canon Form.Placed) 0 (source_run A.remaining A.failures first.old first.new) second
         (sink_run O.contents O.failures O.stalled out.old out.new)) }
     ensures flushed { OnOk result (O.flushed out.new ≡ true) }
     ensures refused { IfErr result (OfFile (CanonRefuses (source_run A.remaining A.failures first.old first.new)

@@ -1,18 +1,20 @@
 -- What a job writes is what the bytes of its files ask for in the words of the claims.
-use Rattle.std.proofs.Common.{◌≡◌, ℕ, ◌^◌, List, [], refl, ◌∙◌, sym, subst, ◌⊎◌, inl, inr, ◌↔◌}
+use Rattle.std.proofs.Common.{◌≡◌, ℕ, ◌^◌, List, [], refl, sym, subst, ◌⊎◌, inl, inr, ◌↔◌}
 use Rattle.std.specs.Prelude.{codes, Option, Some, None, Ok, IsSome, IfSome, IsSomeAnd, option_and_then}
 use Rattle.life_base.specs.DeviceRuns.{SourceRun}
 use Rattle.life_base.specs.Inputs.{ReadAll}
 use Rattle.life_base.specs.Text.{lines_of}
 use Rattle.life_mc.specs.Reading.{IsMacrocell}
-use Rattle.life_canon.specs.Files.{Accepted, Reads, as_macrocell}
-use Rattle.life_canon.specs.Universe.{macrocell_universe}
+use Rattle.life_canon.specs.Files.{Accepted}
 use Rattle.life_canon.specs.Least.{IsLeastText}
 use Rattle.life_canon.specs.Listing.{canon_text, canonical_file}
 use Rattle.life_canon.specs.Texts.{IsCanonical}
 use Rattle.life_canon.specs.Texts.{IsShown as LayerShown}
+use Rattle.life_cli.specs.Forms.{IsTextIn as LayerTextIn}
 use Rattle.life_cli.specs.Jobs.{Compares, Writes, HasAnswer}
 use Rattle.life_cli.specs.Plans.{HasSecond as LayerSecond}
+use Rattle.life_cli.specs.declared.plans.Form.{Form}
+use Rattle.life_cli.specs.declared.plans.Form.TheVariants.{Placed, Moved, Turned}
 use Rattle.life_cli.specs.declared.plans.Job.{Job}
 use Rattle.life_cli.specs.declared.plans.Job.TheVariants as jobs
 use Rattle.life_cli.specs.declared.plans.Target.TheVariants.{Rle, Mc}
@@ -22,24 +24,26 @@ use Rattle.claims.specs.Pattern.{Pattern}
 use Rattle.claims.specs.Shown.{IsShown}
 use Rattle.theorems.proofs.CellsLaw.{few_cells}
 use Rattle.theorems.proofs.CanonicalLaw.{canonical_so}
-use Rattle.theorems.proofs.FileLaw.{texts_are_exact, same_to, same_from, rle_format}
+use Rattle.theorems.proofs.FileLaw.{texts_are_exact, same_to, rle_format}
 use Rattle.theorems.proofs.RefusalLaw.{accepted_is_ok}
 use Rattle.theorems.proofs.ShownLaw.{shown_is}
 use Rattle.theorems.proofs.StreamLaw.{all_read, at_end}
 use Rattle.step_theorems.proofs.StepLaw.{stepped_is}
 use Rattle.step_theorems.proofs.StepBy.{stepped_text}
 use Rattle.program_theorems.specs.Jobs.{HasSecond, WritesCanonical, Answers, IsShort}
+use Rattle.program_theorems.specs.Forms.{SameIn, IsTextIn}
 use Rattle.program_theorems.specs.Layers.{LayersAgree}
+use Rattle.program_theorems.proofs.FormLaw.{moved_text_is, own_moved, own_text_of, own_turned, same_in_from, same_in_to, texts_tell_in, turned_text_is}
 
 -- ---- second files
 
 pub to_layer : (job : Job) → HasSecond job → LayerSecond job
-to_layer jobs.Same h = tt
+to_layer (jobs.Same form) h = tt
 to_layer jobs.StepTable h = tt
 to_layer _ h = h
 
 pub from_layer : (job : Job) → LayerSecond job → HasSecond job
-from_layer jobs.Same h = tt
+from_layer (jobs.Same form) h = tt
 from_layer jobs.StepTable h = tt
 from_layer _ h = h
 
@@ -72,19 +76,26 @@ least_text laws bytes text c =
 canonical : LayersAgree → (bytes text : List ℕ) → IsCanonical 62 bytes text → IsCanonicalText bytes text
 canonical laws bytes text c = canonical_so laws.on_plane laws.files laws.keep bytes text c (least_text laws bytes text c)
 
-compares : LayersAgree → (a b : List ℕ) (status : ℕ) (text : List ℕ) → Accepted 62 a → Accepted 62 b → Compares a b status text
-    → ((status ≡ 0) × Same a b × (text ≡ codes "same\n")) ⊎ ((status ≡ 1) × (Same a b → ⊥) × (text ≡ codes "different\n"))
-compares laws a b status text p q (inl h) = inl (h.0, same_to a b h.1, h.2)
-compares laws a b status text p q (inr h) = inr (h.0, (λ s. h.1 (same_from laws.on_plane a b p.0 q.0 p.1 q.1 s)), h.2)
+compares : LayersAgree → (form : Form) (a b : List ℕ) (status : ℕ) (text : List ℕ) → Accepted 62 a → Accepted 62 b → Compares form a b status text
+    → ((status ≡ 0) × SameIn form a b × (text ≡ codes "same\n")) ⊎ ((status ≡ 1) × (SameIn form a b → ⊥) × (text ≡ codes "different\n"))
+compares laws form a b status text p q (inl h) = inl (h.0, same_in_to form a b h.1, h.2)
+compares laws form a b status text p q (inr h) = inr (h.0, (λ s. h.1 (same_in_from laws.on_plane form a b p.0 q.0 p.1 q.1 s)), h.2)
+
+text_in : LayersAgree → (form : Form) (file text : List ℕ) → LayerTextIn form 62 file text → IsTextIn form file text
+text_in laws Placed file text h = canonical laws file text h
+text_in laws Moved file text h =
+    let is = moved_text_is laws file text h in (is.0, canonical laws text text (own_moved laws file text h), is.1)
+text_in laws Turned file text h =
+    let is = turned_text_is laws file text h in (is.0, canonical laws text text (own_turned laws file text h), is.1)
 
 answers : LayersAgree → (job : Job) (file second : List ℕ) (status : ℕ) (text : List ℕ) → Writes job file second status text
     → Answers job file second status text
-answers laws jobs.Canon file second status text h = (h.0, canonical laws file text h.1)
+answers laws (jobs.Canon form) file second status text h = (h.0, text_in laws form file text h.1)
 answers laws (jobs.Convert Rle) file second status text h =
     (h.0, same_to file text (laws.rle (2 ^ 20) file text h.1), rle_format file text h.1, few_cells file text h.1)
 answers laws (jobs.Convert Mc) file second status text h = (h.0, canonical laws file text h.1)
-answers laws jobs.Same file second status text h =
-    (accepted_is_ok file h.0, accepted_is_ok second h.1, compares laws file second status text h.0 h.1 h.2)
+answers laws (jobs.Same form) file second status text h =
+    (accepted_is_ok file h.0, accepted_is_ok second h.1, compares laws form file second status text h.0 h.1 h.2)
 answers laws jobs.Show file second status text h =
     let told = canon_text 62 h.1.universe in
     let c : IsCanonical 62 file told = record { universe = h.1.universe; reads = h.1.reads; is = refl } in
@@ -97,10 +108,10 @@ answers laws jobs.StepTable file second status text h =
 -- a job without a second file asks for nothing of one
 second_free : (job : Job) (file a b : List ℕ) (status : ℕ) (text : List ℕ) → (HasSecond job → a ≡ b) → Answers job file a status text
     → Answers job file b status text
-second_free jobs.Canon file a b status text e h = h
+second_free (jobs.Canon form) file a b status text e h = h
 second_free (jobs.Convert Rle) file a b status text e h = h
 second_free (jobs.Convert Mc) file a b status text e h = h
-second_free jobs.Same file a b status text e h = subst (λ (s : List ℕ). Answers jobs.Same file s status text) (e tt) h
+second_free (jobs.Same form) file a b status text e h = subst (λ (s : List ℕ). Answers (jobs.Same form) file s status text) (e tt) h
 second_free jobs.Show file a b status text e h = h
 second_free jobs.Step file a b status text e h = h
 second_free jobs.StepTable file a b status text e h = subst (λ (s : List ℕ). Answers jobs.StepTable file s status text) (e tt) h
@@ -135,19 +146,16 @@ second_ended job first second status text h other has e = ended second other h.s
 
 -- a canonical text is its own canonical text
 own_canonical : LayersAgree → (bytes text : List ℕ) → IsCanonical 62 bytes text → IsCanonical 62 text text
-own_canonical laws bytes text c =
-    let u = c.universe in
-    let h = laws.on_plane bytes u c.reads in
-    let v = macrocell_universe (canonical_file 62 u) in
-    let reads : Reads 62 (canon_text 62 u) v = as_macrocell (canonical_file 62 u) (laws.files u h).0 in
-    record { universe = v; reads = subst (λ (t : List ℕ). Reads 62 t v) (sym c.is) reads; is = c.is ∙ sym (laws.fixed u v h reads) }
+own_canonical laws bytes text c = own_text_of laws c.universe text (laws.on_plane bytes c.universe c.reads) c.is
 
 own_text : LayersAgree → (job : Job) (file second : List ℕ) (status : ℕ) (text : List ℕ) → WritesCanonical job → Writes job file second status text
     → IsCanonical 62 text text
-own_text laws jobs.Canon file second status text w h = own_canonical laws file text h.1
+own_text laws (jobs.Canon Placed) file second status text w h = own_canonical laws file text h.1
+own_text laws (jobs.Canon Moved) file second status text w h = own_moved laws file text h.1
+own_text laws (jobs.Canon Turned) file second status text w h = own_turned laws file text h.1
 own_text laws (jobs.Convert Rle) file second status text w h = absurd w
 own_text laws (jobs.Convert Mc) file second status text w h = own_canonical laws file text h.1
-own_text laws jobs.Same file second status text w h = absurd w
+own_text laws (jobs.Same form) file second status text w h = absurd w
 own_text laws jobs.Show file second status text w h = absurd w
 own_text laws jobs.Step file second status text w h = let t = h.1.3 in record { universe = t.universe; reads = t.reads; is = t.canonical }
 own_text laws jobs.StepTable file second status text w h = let t = h.1.2.3 in record { universe = t.universe; reads = t.reads; is = t.canonical }
@@ -159,9 +167,26 @@ equal_outputs laws job other_job first second other_first other_second status ot
     texts_are_exact laws.tell laws.on_plane text other text other (own_text laws job h.first_bytes h.second_bytes status text w h.writes)
     (own_text laws other_job k.first_bytes k.second_bytes other_status other v k.writes)
 
+-- what `canon` writes of two files in one form
+pub form_outputs : LayersAgree → (form : Form) (job other_job : Job) (first second other_first other_second : SourceRun) (status other_status : ℕ)
+    (text other file other_file : List ℕ) → HasAnswer job first second status text → HasAnswer other_job other_first other_second other_status other
+    → job ≡ jobs.Canon form → other_job ≡ jobs.Canon form → first.before ≡ Some file → other_first.before ≡ Some other_file
+    → (text ≡ other) ↔ SameIn form file other_file
+form_outputs laws form job other_job first second other_first other_second status other_status text other file other_file h k is other_is e f =
+    texts_tell_in laws form file other_file text other
+    (subst (λ (b : List ℕ). LayerTextIn form 62 b text) (all_read (2 ^ 30) first.before first.after file h.first_bytes h.first_read e) one.1)
+    (subst (λ (b : List ℕ). LayerTextIn form 62 b other)
+    (all_read (2 ^ 30) other_first.before other_first.after other_file k.first_bytes k.first_read f) two.1)
+  where
+    one : Writes (jobs.Canon form) h.first_bytes h.second_bytes status text
+    one = subst (λ (j : Job). Writes j h.first_bytes h.second_bytes status text) is h.writes
+
+    two : Writes (jobs.Canon form) k.first_bytes k.second_bytes other_status other
+    two = subst (λ (j : Job). Writes j k.first_bytes k.second_bytes other_status other) other_is k.writes
+
 -- what `show` and `canon` write of the same bytes
 pub shown_outputs : LayersAgree → (job other_job : Job) (first second other_first other_second : SourceRun) (status other_status : ℕ) (text lines file : List ℕ)
-    → HasAnswer job first second status text → HasAnswer other_job other_first other_second other_status lines → job ≡ jobs.Canon → other_job ≡ jobs.Show
+    → HasAnswer job first second status text → HasAnswer other_job other_first other_second other_status lines → job ≡ jobs.Canon Placed → other_job ≡ jobs.Show
     → first.before ≡ Some file → other_first.before ≡ Some file
     → (pattern : Pattern) × (pattern_of file ≡ Ok pattern) × IsShown pattern (node_lines text) lines
 shown_outputs laws job other_job first second other_first other_second status other_status text lines file h k is other_is e f =
@@ -169,7 +194,7 @@ shown_outputs laws job other_job first second other_first other_second status ot
     (subst (λ (b : List ℕ). LayerShown 62 b lines) (all_read (2 ^ 30) other_first.before other_first.after file k.first_bytes k.first_read f) shown.1)
     (subst (λ (b : List ℕ). IsCanonical 62 b text) (all_read (2 ^ 30) first.before first.after file h.first_bytes h.first_read e) canonical.1)
   where
-    canonical : Writes jobs.Canon h.first_bytes h.second_bytes status text
+    canonical : Writes (jobs.Canon Placed) h.first_bytes h.second_bytes status text
     canonical = subst (λ (j : Job). Writes j h.first_bytes h.second_bytes status text) is h.writes
 
     shown : Writes jobs.Show k.first_bytes k.second_bytes other_status lines
@@ -177,10 +202,10 @@ shown_outputs laws job other_job first second other_first other_second status ot
 
 -- what a job for the canonical text of a file writes is that of the file's bytes
 pub written_canonical : (job : Job) (first second : SourceRun) (status : ℕ) (text file : List ℕ) → HasAnswer job first second status text
-    → first.before ≡ Some file → (job ≡ jobs.Canon) ⊎ (job ≡ jobs.Convert Mc) → IsCanonical 62 file text
+    → first.before ≡ Some file → (job ≡ jobs.Canon Placed) ⊎ (job ≡ jobs.Convert Mc) → IsCanonical 62 file text
 written_canonical job first second status text file h e is =
     subst (λ (b : List ℕ). IsCanonical 62 b text) (all_read (2 ^ 30) first.before first.after file h.first_bytes h.first_read e) (of_job is)
   where
-    of_job : (job ≡ jobs.Canon) ⊎ (job ≡ jobs.Convert Mc) → IsCanonical 62 h.first_bytes text
+    of_job : (job ≡ jobs.Canon Placed) ⊎ (job ≡ jobs.Convert Mc) → IsCanonical 62 h.first_bytes text
     of_job (inl canon) = (subst (λ (j : Job). Writes j h.first_bytes h.second_bytes status text) canon h.writes).1
     of_job (inr convert) = (subst (λ (j : Job). Writes j h.first_bytes h.second_bytes status text) convert h.writes).1

@@ -1,2 +1,3 @@
+mod FormLaw
 mod AnswerLaw
 mod RefusalLaw

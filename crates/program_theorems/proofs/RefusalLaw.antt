@@ -13,16 +13,20 @@ use Rattle.life_base.specs.declared.kind.Kind.TheVariants as kinds
 use Rattle.life_quad.specs.Store.{Nodes}
 use Rattle.life_table.specs.Reading.{is_table_kind}
 use Rattle.life_table.specs.declared.table.Table.{Table as LayerTable}
-use Rattle.life_canon.specs.Files.{Refuses as LayerRefuses, is_file_kind}
+use Rattle.life_canon.specs.Files.{Accepted, Refuses as LayerRefuses, is_file_kind}
 use Rattle.life_canon.specs.Running.{RunRefuses, ReadRefuses}
 use Rattle.life_canon.specs.Running as running
 use Rattle.life_canon.specs.Texts.{IsCanonical, IsRleOf}
+use Rattle.life_canon.specs.Texts.{HasMoreCells as LayerMoreCells}
 use Rattle.life_canon.specs.Texts.{IsShown as LayerShown}
 use Rattle.life_step.specs.Stepped.{IsStepped as LayerStepped}
 use Rattle.life_cli.specs.Faults.{is_of_table, place_text, Tells}
 use Rattle.life_cli.specs.Faults.{fault_line as layer_line, status_of as layer_status}
 use Rattle.life_cli.specs.Jobs as layer
 use Rattle.life_cli.specs.Plans.{HasSecond as LayerSecond}
+use Rattle.life_cli.specs.Forms.{IsTextIn as LayerTextIn}
+use Rattle.life_cli.specs.declared.plans.Form.{Form}
+use Rattle.life_cli.specs.declared.plans.Form.TheVariants.{Placed, Moved, Turned}
 use Rattle.life_cli.specs.declared.plans.Job.{Job}
 use Rattle.life_cli.specs.declared.plans.Job.TheVariants as jobs
 use Rattle.life_cli.specs.declared.plans.Target.TheVariants.{Rle, Mc}
@@ -40,7 +44,7 @@ use Rattle.theorems.proofs.StreamLaw.{all_read, appended, beyond}
 use Rattle.step_theorems.proofs.StepBy as by_table
 use Rattle.table_laws.specs.Tables.{IsTable}
 use Rattle.step_theorems.proofs.StepLaw.{unstepped_is}
-use Rattle.program_theorems.specs.Jobs.{HasSecond, IsShort, Refuses, IsReason, of_files, of_want, of_length, of_source, of_sink, Holds}
+use Rattle.program_theorems.specs.Jobs.{HasSecond, IsShort, Refuses, RefusesMany, RefusesSame, IsReason, of_files, of_want, of_length, of_source, of_sink, Holds}
 use Rattle.program_theorems.specs.Layers.{LayersAgree}
 use Rattle.program_theorems.specs.Telling.{fault_line, status_of}
 
@@ -212,19 +216,28 @@ module _ (laws : LayersAgree) (job : Job) (first second : SourceRun) (output : S
 -- ---- each job
 
 module _ (laws : LayersAgree) (first second : SourceRun) (output : SinkRun) (refusal : Refusal) where
-  of_rle : refusal.in_table ≡ false → (bytes : List ℕ) → ReadAll (2 ^ 30) first.before first.after bytes → layer.RefusesRle bytes refusal.fault
-      → Origin (jobs.Convert Rle) first second output refusal
-  of_rle e bytes read (inl h) =
-      of_pattern laws (jobs.Convert Rle) first second output refusal e bytes h
-      (λ file other f g. let r = read_as _ _ bytes file _ read f h in (r.0, refl, inl r.1))
-  of_rle e bytes read (inr m) =
-      of_none laws (jobs.Convert Rle) first second output refusal false
-      (record { line = ap (λ (f : Fault). f.place.line) m.0; kind = other_kind refusal.fault kinds.TooManyCells m.0 (λ n. cc) })
-      (λ file other f g. (
+  too_many : refusal.fault ≡ fault_of kinds.TooManyCells → IsPlaceless refusal.fault
+  too_many is = record { line = ap (λ (f : Fault). f.place.line) is; kind = other_kind refusal.fault kinds.TooManyCells is (λ n. cc) }
+
+  -- a file whose cells are listed
+  of_many : (job : Job) → ((file other : List ℕ) → RefusesMany file false refusal.fault → Refuses job file other false refusal.fault)
+      → refusal.in_table ≡ false → (bytes : List ℕ) → ReadAll (2 ^ 30) first.before first.after bytes → layer.RefusesMany bytes refusal.fault
+      → Origin job first second output refusal
+  of_many job to e bytes read (inl h) =
+      of_pattern laws job first second output refusal e bytes h
+      (λ file other f g. let r = read_as _ _ bytes file _ read f h in to file other (r.0, refl, inl r.1))
+  of_many job to e bytes read (inr m) =
+      of_none laws job first second output refusal false (too_many m.0)
+      (λ file other f g. to file other (
         short _ _ bytes file read f,
         refl,
         inr (m.0, subst (SaysMoreCells (2 ^ 20)) (all_read (2 ^ 30) first.before first.after file bytes read f) (says_more bytes m.1)),
       ))
+
+  of_moved : refusal.in_table ≡ false → (bytes : List ℕ) → ReadAll (2 ^ 30) first.before first.after bytes → layer.RefusesIn Moved bytes refusal.fault
+      → Origin (jobs.Canon Moved) first second output refusal
+  of_moved e bytes read (inl h) = of_many (jobs.Canon Moved) (λ file other h. h) e bytes read h
+  of_moved e bytes read (inr want) = from_want (want_as want.0 refusal.fault want.2)
 
   of_step : refusal.in_table ≡ false → (bytes : List ℕ) → ReadAll (2 ^ 30) first.before first.after bytes → layer.RefusesStep bytes refusal.fault
       → Origin jobs.Step first second output refusal
@@ -242,26 +255,65 @@ module _ (laws : LayersAgree) (first second : SourceRun) (output : SinkRun) (ref
       ))
 
   -- two files
-  of_files_compared : refusal.in_table ≡ false → layer.AreUncompared first second refusal.fault → Origin jobs.Same first second output refusal
-  of_files_compared e (layer.by_first h) = of_first_input laws jobs.Same first second output refusal h
-  of_files_compared e (layer.by_second a read h) = of_second_input laws jobs.Same first second output refusal tt h
-  of_files_compared e (layer.by_files a b one two (inl h)) =
-      of_pattern laws jobs.Same first second output refusal e a h
+  module _ (form : Form) (a b : List ℕ) (one : ReadAll (2 ^ 30) first.before first.after a) (two : ReadAll (2 ^ 30) second.before second.after b)
+      (p : Accepted 62 a) (q : Accepted 62 b) where
+    both_many : ((file other : List ℕ) → IsOk (pattern_of file) × IsOk (pattern_of other) × (refusal.fault ≡ fault_of kinds.TooManyCells)
+        × (SaysMoreCells (2 ^ 20) file ⊎ SaysMoreCells (2 ^ 20) other) → RefusesSame form file other refusal.fault)
+        → (refusal.fault ≡ fault_of kinds.TooManyCells) × (LayerMoreCells 62 a (2 ^ 20) ⊎ LayerMoreCells 62 b (2 ^ 20))
+        → Origin (jobs.Same form) first second output refusal
+    both_many to m =
+        of_none laws (jobs.Same form) first second output refusal false (too_many m.0)
+        (λ file other f g.
+        let e = all_read (2 ^ 30) first.before first.after file a one f in
+        let k = all_read (2 ^ 30) second.before second.after other b two (g tt) in
+        let more : SaysMoreCells (2 ^ 20) file ⊎ SaysMoreCells (2 ^ 20) other = elim m.1 [
+          | inl l ↦ inl (subst (SaysMoreCells (2 ^ 20)) e (says_more a l))
+          | inr l ↦ inr (subst (SaysMoreCells (2 ^ 20)) k (says_more b l))
+        ] in (
+          short _ _ a file one f,
+          short _ _ b other two (g tt),
+          refl,
+          inr (inr (to file other (
+            subst (λ (s : List ℕ). IsOk (pattern_of s)) e (accepted_is_ok a p),
+            subst (λ (s : List ℕ). IsOk (pattern_of s)) k (accepted_is_ok b q),
+            m.0,
+            more,
+          ))),
+        ))
+
+  of_form : (form : Form) (a b : List ℕ) → ReadAll (2 ^ 30) first.before first.after a → ReadAll (2 ^ 30) second.before second.after b
+      → Accepted 62 a → Accepted 62 b → layer.RefusesSame form a b refusal.fault → Origin (jobs.Same form) first second output refusal
+  of_form Placed a b one two p q h = absurd h
+  of_form Moved a b one two p q (inl m) = both_many Moved a b one two p q (λ file other h. h) m
+  of_form Moved a b one two p q (inr want) = from_want (want_as want.0 refusal.fault want.2)
+  of_form Turned a b one two p q m = both_many Turned a b one two p q (λ file other h. h) m
+
+  of_files_compared : (form : Form) → refusal.in_table ≡ false → layer.AreUncompared form first second refusal.fault
+      → Origin (jobs.Same form) first second output refusal
+  of_files_compared form e (layer.by_first h) = of_first_input laws (jobs.Same form) first second output refusal h
+  of_files_compared form e (layer.by_second a read h) = of_second_input laws (jobs.Same form) first second output refusal tt h
+  of_files_compared form e (layer.by_form a b one two p q h) = of_form form a b one two p q h
+  of_files_compared form e (layer.by_files a b one two (inl h)) =
+      of_pattern laws (jobs.Same form) first second output refusal e a h
       (λ file other f g. let r = read_as _ _ a file _ one f h in (r.0, short _ _ b other two (g tt), refl, inl r.1))
-  of_files_compared e (layer.by_files a b one two (inr h)) =
-      of_pattern laws jobs.Same first second output refusal e b h.1
+  of_files_compared form e (layer.by_files a b one two (inr h)) =
+      of_pattern laws (jobs.Same form) first second output refusal e b h.1
       (λ file other f g. let r = read_as _ _ b other _ two (g tt) h.1 in (
         short _ _ a file one f,
         r.0,
         refl,
-        inr (subst (λ (s : List ℕ). IsOk (pattern_of s)) (all_read (2 ^ 30) first.before first.after file a one f) (accepted_is_ok a h.0), r.1),
+        inr (inl (
+          subst (λ (s : List ℕ). IsOk (pattern_of s)) (all_read (2 ^ 30) first.before first.after file a one f) (accepted_is_ok a h.0),
+          r.1,
+        )),
       ))
-  of_files_compared e (layer.by_first_shortage want) = from_want (wanted first refusal.fault want)
-  of_files_compared e (layer.by_second_shortage a read want) = from_want (wanted second refusal.fault want)
+  of_files_compared form e (layer.by_first_shortage want) = from_want (wanted first refusal.fault want)
+  of_files_compared form e (layer.by_second_shortage a read want) = from_want (wanted second refusal.fault want)
 
-  of_same : refusal.in_table ≡ false → layer.SameRefuses first second output refusal.fault → Origin jobs.Same first second output refusal
-  of_same e (layer.by_comparing h) = of_files_compared e h
-  of_same e (layer.by_telling status text answer breaks) = from_sink breaks.is status text answer breaks.written breaks.cause
+  of_same : (form : Form) → refusal.in_table ≡ false → layer.SameRefuses form first second output refusal.fault
+      → Origin (jobs.Same form) first second output refusal
+  of_same form e (layer.by_comparing h) = of_files_compared form e h
+  of_same form e (layer.by_telling status text answer breaks) = from_sink breaks.is status text answer breaks.written breaks.cause
 
   -- a file and a rule table
   of_no_table : refusal.in_table ≡ true → layer.HasNoTable second refusal.fault → Origin jobs.StepTable first second output refusal
@@ -339,15 +391,22 @@ module _ (laws : LayersAgree) (first second : SourceRun) (output : SinkRun) (ref
 
 pub origin_of : LayersAgree → (job : Job) (first second : SourceRun) (output : SinkRun) (refusal : Refusal) → layer.JobRefuses job first second output refusal
     → Origin job first second output refusal
-origin_of laws jobs.Canon first second output refusal h =
-    of_canon laws jobs.Canon first second output refusal (λ bytes other text c. (refl, c)) (λ has. has) h.0 (λ file other r. (r.0, refl, r.1)) h.1.0 h.1.2
+origin_of laws (jobs.Canon Placed) first second output refusal h =
+    of_canon laws (jobs.Canon Placed) first second output refusal (λ bytes other text c. (refl, c)) (λ has. has) h.0
+      (λ file other r. (r.0, refl, r.1)) h.1.0 h.1.2
 origin_of laws (jobs.Convert Mc) first second output refusal h =
     of_canon laws (jobs.Convert Mc) first second output refusal (λ bytes other text c. (refl, c)) (λ has. has) h.0 (λ file other r. (r.0, refl, r.1)) h.1.0
     h.1.2
+origin_of laws (jobs.Canon Moved) first second output refusal h =
+    of_file laws (jobs.Canon Moved) first second output refusal (LayerTextIn Moved 62) (layer.RefusesIn Moved) (λ bytes other text is. (refl, is))
+    (λ has. has) (of_moved laws first second output refusal h.0) h.1
+origin_of laws (jobs.Canon Turned) first second output refusal h =
+    of_file laws (jobs.Canon Turned) first second output refusal (LayerTextIn Turned 62) (layer.RefusesIn Turned) (λ bytes other text is. (refl, is))
+    (λ has. has) (of_many laws first second output refusal (jobs.Canon Turned) (λ file other h. h) h.0) h.1
 origin_of laws (jobs.Convert Rle) first second output refusal h =
-    of_file laws (jobs.Convert Rle) first second output refusal (IsRleOf 62 (2 ^ 20)) layer.RefusesRle (λ bytes other text is. (refl, is)) (λ has. has)
-    (of_rle laws first second output refusal h.0) h.1
-origin_of laws jobs.Same first second output refusal h = of_same laws first second output refusal h.0 h.1
+    of_file laws (jobs.Convert Rle) first second output refusal (IsRleOf 62 (2 ^ 20)) layer.RefusesMany (λ bytes other text is. (refl, is)) (λ has. has)
+    (of_many laws first second output refusal (jobs.Convert Rle) (λ file other h. h) h.0) h.1
+origin_of laws (jobs.Same form) first second output refusal h = of_same laws first second output refusal form h.0 h.1
 origin_of laws jobs.Show first second output refusal h =
     of_file laws jobs.Show first second output refusal (LayerShown 62) (LayerRefuses 62) (λ bytes other text is. (refl, is)) (λ has. has)
     (λ bytes read r. of_pattern laws jobs.Show first second output refusal h.0 bytes r

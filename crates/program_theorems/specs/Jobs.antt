@@ -3,6 +3,8 @@ use Rattle.std.specs.Prelude.{◌≡◌, ◌⊎◌, ℕ, ◌^◌, ◌≤◌, ◌
 use Rattle.life_base.specs.Text.{begins_with}
 use Rattle.life_base.specs.declared.fault.Fault.{Fault}
 use Rattle.life_base.specs.declared.kind.Kind.TheVariants.{ReadFault, WriteFault, InputTooLong, TooManyCells}
+use Rattle.life_cli.specs.declared.plans.Form.{Form}
+use Rattle.life_cli.specs.declared.plans.Form.TheVariants.{Placed, Moved, Turned}
 use Rattle.life_cli.specs.declared.plans.Job.{Job}
 use Rattle.life_cli.specs.declared.plans.Job.TheVariants as jobs
 use Rattle.life_cli.specs.declared.plans.Target.TheVariants.{Rle, Mc}
@@ -13,30 +15,31 @@ use Rattle.claims.specs.Shown.{IsShown}
 use Rattle.claims.specs.Generation.{SaysMoreCells, IsStepped, IsUnstepped}
 use Rattle.claims.specs.Table.{Table, table_of}
 use Rattle.claims.specs.ByTable.{IsSteppedBy, IsUnsteppedBy}
+use Rattle.program_theorems.specs.Forms.{SameIn, IsTextIn}
 use Rattle.program_theorems.specs.Telling.{status_of, fault_line}
 
 -- the job has a second file: the one that the first is compared with, or a rule table
 abbrev pub HasSecond : Job → Type 0
-HasSecond jobs.Same = Unit {0}
+HasSecond (jobs.Same form) = Unit {0}
 HasSecond jobs.StepTable = Unit {0}
 HasSecond _ = ⊥
 
--- the job writes the canonical text of a pattern: of the file, or of its next one
+-- the job writes the canonical text of a pattern: of the file, in a form, or of its next one
 abbrev pub WritesCanonical : Job → Type 0
-WritesCanonical jobs.Same = ⊥
+WritesCanonical (jobs.Same form) = ⊥
 WritesCanonical jobs.Show = ⊥
 WritesCanonical (jobs.Convert Rle) = ⊥
 WritesCanonical _ = Unit {0}
 
 -- the status and the text of a job on the bytes of its files
 abbrev pub Answers : Job → (file second : List ℕ) → (status : ℕ) → (text : List ℕ) → Type 0
-Answers jobs.Canon file second status text = (status ≡ 0) × IsCanonicalText file text
+Answers (jobs.Canon form) file second status text = (status ≡ 0) × IsTextIn form file text
 Answers (jobs.Convert Mc) file second status text = (status ≡ 0) × IsCanonicalText file text
 Answers (jobs.Convert Rle) file second status text =
     (status ≡ 0) × Same file text × (begins_with text (codes "[M2]") ≡ false) × (SaysMoreCells (2 ^ 20) file → ⊥)
-Answers jobs.Same file second status text =
+Answers (jobs.Same form) file second status text =
     IsOk (pattern_of file) × IsOk (pattern_of second)
-    × (((status ≡ 0) × Same file second × (text ≡ codes "same\n")) ⊎ ((status ≡ 1) × (Same file second → ⊥) × (text ≡ codes "different\n")))
+    × (((status ≡ 0) × SameIn form file second × (text ≡ codes "same\n")) ⊎ ((status ≡ 1) × (SameIn form file second → ⊥) × (text ≡ codes "different\n")))
 Answers jobs.Show file second status text =
     (status ≡ 0) × ((pattern : Pattern) × (pattern_of file ≡ Ok pattern)
     × ((canonical : List ℕ) × IsCanonicalText file canonical × IsShown pattern (node_lines canonical) text))
@@ -47,13 +50,25 @@ Answers jobs.StepTable file second status text = (status ≡ 0) × ((table : Tab
 abbrev pub IsShort : List ℕ → Type 0
 IsShort bytes = length bytes ≤ 2 ^ 30
 
+-- a file whose cells are listed is none, or one with too many
+abbrev pub RefusesMany : (file : List ℕ) → (of_table : Bool) → Fault → Type 0
+RefusesMany file of_table fault =
+    IsShort file × (of_table ≡ false) × ((pattern_of file ≡ Err fault) ⊎ ((fault ≡ fault_of TooManyCells) × SaysMoreCells (2 ^ 20) file))
+
+-- one of two files whose cells are moved has too many
+abbrev pub RefusesSame : Form → (file second : List ℕ) → Fault → Type 0
+RefusesSame Placed file second fault = ⊥
+RefusesSame form file second fault =
+    IsOk (pattern_of file) × IsOk (pattern_of second) × (fault ≡ fault_of TooManyCells) × (SaysMoreCells (2 ^ 20) file ⊎ SaysMoreCells (2 ^ 20) second)
+
 -- the fault for which a job refuses its files, and whether its line is one of a rule table
 abbrev pub Refuses : Job → (file second : List ℕ) → (of_table : Bool) → Fault → Type 0
-Refuses (jobs.Convert Rle) file second of_table fault =
-    IsShort file × (of_table ≡ false) × ((pattern_of file ≡ Err fault) ⊎ ((fault ≡ fault_of TooManyCells) × SaysMoreCells (2 ^ 20) file))
-Refuses jobs.Same file second of_table fault =
+Refuses (jobs.Canon Moved) file second of_table fault = RefusesMany file of_table fault
+Refuses (jobs.Canon Turned) file second of_table fault = RefusesMany file of_table fault
+Refuses (jobs.Convert Rle) file second of_table fault = RefusesMany file of_table fault
+Refuses (jobs.Same form) file second of_table fault =
     IsShort file × IsShort second × (of_table ≡ false)
-    × ((pattern_of file ≡ Err fault) ⊎ (IsOk (pattern_of file) × (pattern_of second ≡ Err fault)))
+    × ((pattern_of file ≡ Err fault) ⊎ ((IsOk (pattern_of file) × (pattern_of second ≡ Err fault)) ⊎ RefusesSame form file second fault))
 Refuses jobs.Step file second of_table fault = IsShort file × (of_table ≡ false) × ((pattern_of file ≡ Err fault) ⊎ IsUnstepped file fault)
 Refuses jobs.StepTable file second of_table fault =
     IsShort second × (((of_table ≡ true) × (table_of second ≡ Err fault)) ⊎ (IsShort file × ((table : Table) × (table_of second ≡ Ok table)

@@ -1,3 +1,4 @@
 pub mod Telling
+pub mod Forms
 pub mod Jobs
 pub mod Layers

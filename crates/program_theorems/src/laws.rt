@@ -7,6 +7,10 @@ use life_canon::laws::{
     rle_texts_keep_patterns, texts_are_files, texts_are_fixed, texts_keep_patterns,
     texts_tell_patterns,
 };
+use life_forms::laws::{
+    moved_forms_are_on_plane, moved_texts_are_files, moved_texts_tell_files,
+    turned_forms_are_on_plane, turned_texts_are_files, turned_texts_tell_files,
+};
 use life_table::laws::{grammars_agree, refusals_have_kinds as table_refusals_have_kinds};
 use table_laws::laws::{tables_decide, tables_read, tables_refuse};
 
@@ -23,6 +27,12 @@ pub fn layers_agree()
     canonical_is_least();
     rle_texts_keep_patterns();
     refusals_have_kinds();
+    moved_forms_are_on_plane();
+    moved_texts_are_files();
+    moved_texts_tell_files();
+    turned_forms_are_on_plane();
+    turned_texts_are_files();
+    turned_texts_tell_files();
     grammars_agree();
     table_refusals_have_kinds();
     tables_read();

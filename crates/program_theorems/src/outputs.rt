@@ -6,11 +6,13 @@ ghost use Rattle.claims.specs.Files.{Same, pattern_of};
 ghost use Rattle.claims.specs.Pattern.{Pattern};
 ghost use Rattle.claims.specs.Shown.{IsShown};
 ghost use Rattle.program_theorems.specs.Jobs.{HasSecond, WritesCanonical};
+ghost use Rattle.life_cli.specs.declared.plans.Form.{Form as FormValue};
+ghost use Rattle.program_theorems.specs.Forms.{SameIn};
 
 use crate::laws::layers_agree;
 use life_base::{Fault, Sink, Source};
 use life_canon::canon;
-use life_cli::plans::{Job, Target};
+use life_cli::plans::{Form, Job, Target};
 use life_cli::{Seeds, work};
 use life_quad::{Seed, Shared};
 use std::alloc::Global;
@@ -37,7 +39,7 @@ pub fn written_text_is_that_of_canon<A: Source, B: Source, O: Sink, E: Sink>(
     requires hears { E.stalled err.old ≡ false }
     requires limit { limit ≤ 2 ^ 62 }
     ensures { (held : List ℕ) → A.remaining first.old ≡ Some file.now → O.contents out.old ≡ Some held → result.0 < 2
-        → (job.now ≡ Job.Canon) ⊎ (job.now ≡ Job.Convert Target.Mc)
+        → (job.now ≡ Job.Canon Form.Placed) ⊎ (job.now ≡ Job.Convert Target.Mc)
         → IfOk result.1 (λ text. O.contents out.new ≡ Some (held ++ text.items)) }
 {
     layers_agree();
@@ -47,7 +49,8 @@ pub fn written_text_is_that_of_canon<A: Source, B: Source, O: Sink, E: Sink>(
 }
 
 /// Two runs that write canonical texts, of files or of next generations, write the same bytes exactly if these are files of the
-/// same pattern; and `show` tells how many node lines the text has that `canon` writes of the same bytes.
+/// same pattern; two runs of `canon` in one form exactly if the files that they read are the same in that form; and `show` tells how many
+/// node lines the text has that `canon` writes of the same bytes.
 pub fn outputs_of_two_runs<A: Source, B: Source, O: Sink, E: Sink>(
     alloc: Global,
     seeds: &Seeds,
@@ -81,8 +84,13 @@ pub fn outputs_of_two_runs<A: Source, B: Source, O: Sink, E: Sink>(
         → result.0 < 2 → result.1 < 2 → WritesCanonical job.now → WritesCanonical other_job.now
         → (text : List ℕ) × (other : List ℕ) × (O.contents out.new ≡ Some (held ++ text)) × (O.contents other_out.new ≡ Some (kept ++ other))
         × ((text ≡ other) ↔ Same text other) }
+    ensures forms { (form : FormValue) (file other_file held kept : List ℕ) → O.contents out.old ≡ Some held → O.contents other_out.old ≡ Some kept
+        → result.0 < 2 → result.1 < 2 → job.now ≡ Job.Canon form → other_job.now ≡ Job.Canon form
+        → A.remaining first.old ≡ Some file → A.remaining other_first.old ≡ Some other_file
+        → (text : List ℕ) × (other : List ℕ) × (O.contents out.new ≡ Some (held ++ text)) × (O.contents other_out.new ≡ Some (kept ++ other))
+        × ((text ≡ other) ↔ SameIn form file other_file) }
     ensures shown { (file held kept : List ℕ) → O.contents out.old ≡ Some held → O.contents other_out.old ≡ Some kept
-        → result.0 < 2 → result.1 < 2 → job.now ≡ Job.Canon → other_job.now ≡ Job.Show
+        → result.0 < 2 → result.1 < 2 → job.now ≡ Job.Canon Form.Placed → other_job.now ≡ Job.Show
         → A.remaining first.old ≡ Some file → A.remaining other_first.old ≡ Some file
         → (text : List ℕ) × (lines : List ℕ) × (O.contents out.new ≡ Some (held ++ text)) × (O.contents other_out.new ≡ Some (kept ++ lines))
         × ((pattern : Pattern) × (pattern_of file ≡ Ok pattern) × IsShown pattern (node_lines text) lines) }

@@ -3,7 +3,7 @@
 use super::devices::{WIDE, assert_one, assert_refused, assert_texts, source_of};
 use super::{GLIDER, GLIDER_TEXT, TWINS, TWINS_IN_RLE, TWINS_TEXT, WIRES, WIRES_TEXT};
 use life_base::{Device, Source};
-use life_cli::plans::Job;
+use life_cli::plans::{Form, Job};
 
 #[test]
 fn writes_the_canonical_text(rt: HostRuntime) {
@@ -15,7 +15,7 @@ fn writes_the_canonical_text(rt: HostRuntime) {
         (b"[M2]\n#G 7", b"[M2] (canonical 1)\n#R B3/S23\n#G 7\n"),
         (b"[M2]\r\n#G 0\r\n", b"[M2] (canonical 1)\n#R B3/S23\n"),
     ];
-    assert_texts(&rt, rt.alloc(), &Job::Canon, &rows);
+    assert_texts(&rt, rt.alloc(), &Job::Canon(Form::Placed), &rows);
 }
 
 #[test]
@@ -30,7 +30,7 @@ fn tells_what_is_wrong(rt: HostRuntime) {
         ),
         (b"[M2]\n#FRAMES 10 0 1\n#R B3/S23\n", b"line 2: Timeline\n"),
     ];
-    assert_refused(&rt, rt.alloc(), &Job::Canon, &rows);
+    assert_refused(&rt, rt.alloc(), &Job::Canon(Form::Placed), &rows);
 }
 
 /// A failed read comes before what is wrong with the bytes that were read.
@@ -39,7 +39,14 @@ fn failing_source(rt: HostRuntime) {
     for input in [GLIDER, b"o!\n".as_slice()] {
         let mut reader = source_of(input, 3);
         let wanted = (3, b"".as_slice(), b"ReadFault\n".as_slice());
-        assert_one(&rt, rt.alloc(), &Job::Canon, &mut reader, WIDE, wanted);
+        assert_one(
+            &rt,
+            rt.alloc(),
+            &Job::Canon(Form::Placed),
+            &mut reader,
+            WIDE,
+            wanted,
+        );
         assert!(rt; reader.failed());
     }
 }
@@ -55,7 +62,7 @@ fn failing_sink(rt: HostRuntime) {
         assert_one(
             &rt,
             rt.alloc(),
-            &Job::Canon,
+            &Job::Canon(Form::Placed),
             &mut reader,
             (room, piece),
             wanted,

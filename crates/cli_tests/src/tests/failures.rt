@@ -6,7 +6,7 @@ ghost use Rattle.life_cli.specs.Plans.{HasSecond};
 use super::JOBS;
 use super::devices::{End, Limited, Narrow, WIDE, assert_job, assert_left, sink_with, source_of};
 use life_base::{Device, Source};
-use life_cli::plans::Job;
+use life_cli::plans::{Form, Job};
 use life_cli::{Seeds, work};
 use std::alloc::Global;
 use std::io::{self, Write};
@@ -147,7 +147,7 @@ fn assert_error_front(rt: &impl Abort, alloc: Global, room: usize, piece: usize,
     let status = work(
         alloc,
         &Seeds::fixed(),
-        &Job::Canon,
+        &Job::Canon(Form::Placed),
         &mut first,
         &mut second,
         &mut out,

@@ -4,7 +4,7 @@ use super::TWINS;
 use super::devices::{WIDE, assert_jobs, assert_one, assert_two, source_of};
 use super::steps::SPREAD;
 use life_base::Device;
-use life_cli::plans::{Job, Target};
+use life_cli::plans::{Form, Job, Target};
 
 #[test]
 fn byte_after_byte(rt: HostRuntime) {
@@ -26,11 +26,19 @@ fn failing_behind_the_last_byte(rt: HostRuntime) {
         for job in [Job::Show, Job::Convert(Target::Rle), Job::Step] {
             assert_one(&rt, alloc, &job, &mut source_of(input, good), WIDE, fault);
         }
-        for (job, whole) in [(Job::Same, TWINS), (Job::StepTable, SPREAD)] {
+        for (job, whole) in [(Job::Same(Form::Placed), TWINS), (Job::StepTable, SPREAD)] {
             let (mut first, second) = (source_of(input, good), Device::new(whole));
             assert_two(&rt, alloc, &job, &mut first, second, WIDE, fault);
         }
         let (mut first, second) = (Device::new(TWINS), source_of(input, good));
-        assert_two(&rt, alloc, &Job::Same, &mut first, second, WIDE, fault);
+        assert_two(
+            &rt,
+            alloc,
+            &Job::Same(Form::Placed),
+            &mut first,
+            second,
+            WIDE,
+            fault,
+        );
     }
 }

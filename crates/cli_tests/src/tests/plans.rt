@@ -2,7 +2,7 @@
 
 use clap::error::ErrorKind;
 use life_cli::plan;
-use life_cli::plans::{Job, Target, Usage};
+use life_cli::plans::{Form, Job, Target, Usage};
 use std::alloc::Global;
 use std::process::Abort;
 use std::test::Fail;
@@ -30,8 +30,20 @@ fn assert_plan(
 
 #[test]
 fn plans_of_one_file(rt: HostRuntime) {
-    let rows: [(&[&str], Job); 7] = [
-        (&[NAME, "canon", "-"], Job::Canon),
+    let rows: [(&[&str], Job); 10] = [
+        (&[NAME, "canon", "-"], Job::Canon(Form::Placed)),
+        (
+            &[NAME, "canon", "-", "--form", "placed"],
+            Job::Canon(Form::Placed),
+        ),
+        (
+            &[NAME, "canon", "--form=moved", "-"],
+            Job::Canon(Form::Moved),
+        ),
+        (
+            &[NAME, "canon", "--form", "turned", "--", "-"],
+            Job::Canon(Form::Turned),
+        ),
         (&[NAME, "show", "-"], Job::Show),
         (
             &[NAME, "convert", "-", "--to", "rle"],
@@ -54,7 +66,11 @@ fn plans_of_one_file(rt: HostRuntime) {
 fn plans_of_two_files(rt: HostRuntime) {
     for (a, b) in [("a.mc", "-"), ("-", "b.rle"), ("same", "same")] {
         let words = [NAME, "same", a, b];
-        assert_plan(&rt, rt.alloc(), &words, Job::Same, a, Some(b));
+        assert_plan(&rt, rt.alloc(), &words, Job::Same(Form::Placed), a, Some(b));
+        let words = [NAME, "same", "--form", "moved", a, b];
+        assert_plan(&rt, rt.alloc(), &words, Job::Same(Form::Moved), a, Some(b));
+        let words = [NAME, "same", a, b, "--form=turned"];
+        assert_plan(&rt, rt.alloc(), &words, Job::Same(Form::Turned), a, Some(b));
     }
 }
 
@@ -85,7 +101,7 @@ fn refusal_of<'a>(alloc: Global, words: &'a [&'a str]) -> Option<ErrorKind> {
 
 #[test]
 fn usages(rt: HostRuntime) {
-    let rows: [(&[&str], ErrorKind); 19] = [
+    let rows: [(&[&str], ErrorKind); 24] = [
         (&[NAME], ErrorKind::MissingSubcommand),
         (&[NAME, "canon"], ErrorKind::MissingRequiredArgument),
         (&[NAME, "canon", "a", "b"], ErrorKind::UnknownArgument),
@@ -108,6 +124,23 @@ fn usages(rt: HostRuntime) {
             &[NAME, "canon", "a", "--to", "mc"],
             ErrorKind::UnknownArgument,
         ),
+        (&[NAME, "canon", "a", "--form"], ErrorKind::InvalidValue),
+        (
+            &[NAME, "canon", "a", "--form", "Moved"],
+            ErrorKind::InvalidValue,
+        ),
+        (
+            &[NAME, "same", "a", "b", "--form", "rle"],
+            ErrorKind::InvalidValue,
+        ),
+        (
+            &[NAME, "show", "a", "--form", "moved"],
+            ErrorKind::UnknownArgument,
+        ),
+        (
+            &[NAME, "same", "--form", "moved", "a"],
+            ErrorKind::MissingRequiredArgument,
+        ),
         (&[NAME, "step"], ErrorKind::MissingRequiredArgument),
         (
             &[NAME, "step", "--table", "a"],
@@ -128,8 +161,9 @@ fn usages(rt: HostRuntime) {
 
 #[test]
 fn standard_input_once(rt: HostRuntime) -> Result<(), Fail> {
-    let rows: [&[&str]; 3] = [
+    let rows: [&[&str]; 4] = [
         &[NAME, "same", "-", "-"],
+        &[NAME, "same", "-", "-", "--form", "none"],
         &[NAME, "same", "--", "-", "-"],
         &[NAME, "step", "-", "--table", "-"],
     ];

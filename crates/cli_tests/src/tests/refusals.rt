@@ -3,7 +3,7 @@
 use super::TWINS;
 use super::devices::{WIDE, assert_files, assert_one, assert_two, source_of};
 use life_base::Device;
-use life_cli::plans::{Job, Target};
+use life_cli::plans::{Form, Job, Target};
 
 #[test]
 fn first_refusal_of_two(rt: HostRuntime) {
@@ -14,7 +14,13 @@ fn first_refusal_of_two(rt: HostRuntime) {
         (b"x = 1, y = 1\n0o!\n", TWINS, b"line 2: ZeroCount\n"),
     ];
     for (a, b, line) in rows {
-        assert_files(&rt, rt.alloc(), &Job::Same, (a, b), (2, b"", line));
+        assert_files(
+            &rt,
+            rt.alloc(),
+            &Job::Same(Form::Placed),
+            (a, b),
+            (2, b"", line),
+        );
     }
 }
 
@@ -49,10 +55,26 @@ fn failing_sources(rt: HostRuntime) {
     }
     let second = Device::new(TWINS);
     let mut first = source_of(TWINS, 2);
-    assert_two(&rt, alloc, &Job::Same, &mut first, second, WIDE, fault);
+    assert_two(
+        &rt,
+        alloc,
+        &Job::Same(Form::Placed),
+        &mut first,
+        second,
+        WIDE,
+        fault,
+    );
     let mut first = Device::new(b"o!\n".as_slice());
     let second = source_of(TWINS, 2);
-    assert_two(&rt, alloc, &Job::Same, &mut first, second, WIDE, fault);
+    assert_two(
+        &rt,
+        alloc,
+        &Job::Same(Form::Placed),
+        &mut first,
+        second,
+        WIDE,
+        fault,
+    );
 }
 
 /// What a sink took before it failed, or took no more, is a prefix of the text.
@@ -67,7 +89,7 @@ fn failing_sinks(rt: HostRuntime) {
         assert_two(
             &rt,
             alloc,
-            &Job::Same,
+            &Job::Same(Form::Placed),
             &mut first,
             second,
             (room, piece),

@@ -5,7 +5,7 @@ use super::{
     BLANK, EAST_GLIDER, EAST_GLIDER_SHOWN, LINE, TWINS, TWINS_IN_RLE, TWINS_RUNS, TWINS_TEXT,
     WIRES, WIRES_TEXT,
 };
-use life_cli::plans::{Job, Target};
+use life_cli::plans::{Form, Job, Target};
 
 #[test]
 fn jobs_write_their_texts(rt: HostRuntime) {
@@ -40,7 +40,7 @@ fn same_and_different(rt: HostRuntime) {
     ];
     for (a, b, wanted, line) in rows {
         let wanted = (wanted, line, b"".as_slice());
-        assert_files(&rt, rt.alloc(), &Job::Same, (a, b), wanted);
+        assert_files(&rt, rt.alloc(), &Job::Same(Form::Placed), (a, b), wanted);
     }
 }
 

@@ -1,8 +1,8 @@
 //! The commands, as `clap` reads them.
 
-ghost use Rattle.std.specs.Prelude.{◌≡◌, IfOk, map, false};
+ghost use Rattle.std.specs.Prelude.{◌≡◌, IfOk, codes, map, false};
 ghost use Rattle.clap.specs.Words.{App, rule_of, HasMatchesOf, FailsBy, fault_of, with_subcommand};
-ghost use Rattle.life_cli.specs.CommandLine.{required_file, option, required_option, one_file_line, convert_line, same_line, step_line, named, program, ReadsAs};
+ghost use Rattle.life_cli.specs.CommandLine.{required_file, option, required_option, one_file_line, two_files_line, canon_line, convert_line, same_line, step_line, named, program, ReadsAs};
 
 use super::help::{CANON, CONVERT, Help, PROGRAM, SAME, SHOW, STEP};
 use clap::{Arg, ArgAction, ArgMatches, Command, Error};
@@ -52,6 +52,21 @@ fn one_file<'a>(alloc: Global, name: &'a str, help: Help) -> Result<Command<'a>,
         .arg(file)
 }
 
+/// The option of a command that takes a pattern in a form.
+fn form<'a>(alloc: Global) -> Arg<'a>
+    ensures rule { rule_of result ≡ option (codes "form") }
+    ensures local { result.global ≡ false }
+{
+    option(alloc, "form", "FORM").help("The form to take: placed, moved or turned")
+}
+
+fn canon<'a>(alloc: Global) -> Result<Command<'a>, AllocError>
+    ensures { IfOk result (ReadsAs canon_line) }
+{
+    let command = one_file(alloc, "canon", CANON)?;
+    command.arg(form(alloc))
+}
+
 fn convert<'a>(alloc: Global) -> Result<Command<'a>, AllocError>
     ensures { IfOk result (ReadsAs convert_line) }
 {
@@ -60,17 +75,25 @@ fn convert<'a>(alloc: Global) -> Result<Command<'a>, AllocError>
     command.arg(to)
 }
 
-fn same<'a>(alloc: Global) -> Result<Command<'a>, AllocError>
-    ensures { IfOk result (ReadsAs same_line) }
+/// A command over two files.
+fn two_files<'a>(alloc: Global, name: &'a str, help: Help) -> Result<Command<'a>, AllocError>
+    ensures { IfOk result (ReadsAs (two_files_line name.entry.now)) }
 {
-    let command = Command::new(alloc, "same")
-        .about(SAME.summary)
-        .long_about(SAME.about)
-        .after_long_help(SAME.notes);
+    let command = Command::new(alloc, name)
+        .about(help.summary)
+        .long_about(help.about)
+        .after_long_help(help.notes);
     let first = file(alloc, "A").help("A pattern file, or - for standard input");
     let second = file(alloc, "B").help("Another one; only one of the two may be -");
     let command = command.arg(first)?;
     command.arg(second)
+}
+
+fn same<'a>(alloc: Global) -> Result<Command<'a>, AllocError>
+    ensures { IfOk result (ReadsAs same_line) }
+{
+    let command = two_files(alloc, "same", SAME)?;
+    command.arg(form(alloc))
 }
 
 fn step<'a>(alloc: Global) -> Result<Command<'a>, AllocError>
@@ -112,7 +135,7 @@ fn golly_canon<'a>(alloc: Global) -> Result<Command<'a>, AllocError>
     ensures { IfOk result (λ command. ReadsAs program command) }
 {
     let command = bare(alloc)?;
-    let command = with_command(command, one_file(alloc, "canon", CANON))?;
+    let command = with_command(command, canon(alloc))?;
     let command = with_command(command, convert(alloc))?;
     let command = with_command(command, same(alloc))?;
     let command = with_command(command, one_file(alloc, "show", SHOW))?;

@@ -96,8 +96,8 @@ output. With status 5 a text on standard error says what is wrong, or the line
   GenerationTooLarge
                    `step` from the generation 2^64 - 1
   OutOfPlane       in a `step`, a cell outside the plane wouldn't stay 0
-  TooManyCells     more than 2^20 cells aren't 0: too many for `convert --to rle`
-                   and for `step`
+  TooManyCells     more than 2^20 cells aren't 0: too many for `convert --to rle`,
+                   for `step`, and for `--form moved` and `--form turned`
   InputTooLong     a file has more than 2^30 bytes
   ReadFault        a file can't be opened or read
   WriteFault       the output can't be written
@@ -112,12 +112,26 @@ pub const CANON: Help = Help {
 It is a macrocell file: the line `[M2] (canonical 1)`, the rule in its canonical
 spelling, the generation if it isn't 0, and each different square that isn't
 blank once, each behind its quarters. The last one is the least square about the
-middle of the plane that holds the pattern. Every cell keeps its state.",
+middle of the plane that holds the pattern. Every cell keeps its state.
+
+--form tells in which form the pattern is taken:
+
+placed  as it lies, which is so without --form too
+moved   with the least box of its cells at (0, 0), or, where the box would leave the
+        plane so, ending with the plane
+turned  of its eight turns and reflections, each moved, the one with the least text,
+        byte by byte
+
+Two patterns have one moved text exactly if a shift takes the one to the other, and
+one turned text exactly if a turn or a reflection and then a shift does. The rule and
+the generation stay as they are, also of a rule that tells directions apart. A pattern
+with more than 2^20 cells that aren't 0 is neither moved nor turned (TooManyCells).",
     notes: notes_over_one_file!(
         "Examples:
   golly_canon canon glider.rle
   golly_canon canon - < glider.mc > canonical.mc
   golly_canon canon glider.rle | sha256sum
+  golly_canon canon glider.rle --form turned | sha256sum
   golly_canon canon -- -odd-name.mc
 
 Exit status:
@@ -154,11 +168,16 @@ state of every cell of the plane. It writes the line `same` or the line `differe
 
 The files may be of different formats. Where a cell lies counts: a pattern that is
 moved or turned is another one. So is one under another name of its rule (`Life`
-and `B3/S23`), but two spellings of its digits (`23/3` and `b3s23`) are one rule.",
+and `B3/S23`), but two spellings of its digits (`23/3` and `b3s23`) are one rule.
+
+--form tells in which form the patterns are compared: `placed`, as without it;
+`moved`, in which a pattern is the same as each of its shifts; or `turned`, in which
+it is the same as its turns, its reflections and their shifts too.",
     notes: "Examples:
   golly_canon same glider.rle glider.mc
   golly_canon same - glider.mc < glider.rle
   golly_canon same a.rle b.rle > /dev/null && echo 'nothing has changed'
+  golly_canon same a.rle b.rle --form turned
 
 Exit status:
   0  the files are the same pattern
@@ -169,7 +188,8 @@ Exit status:
   5  the command line isn't understood, or both files are -
 
 A fault on standard error doesn't say which file it is of. First it is told if A
-can't be read or is too long, then if B is so; then A's first fault, then B's.
+can't be read or is too long, then if B is so; then A's first fault, then B's; then,
+with --form moved or turned, if one of them has too many cells (TooManyCells).
 See `golly_canon --help` for the lines on standard error.",
 };
 

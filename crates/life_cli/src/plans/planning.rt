@@ -1,24 +1,25 @@
 //! The plan that the words ask for.
 
-ghost use Rattle.std.specs.Prelude.{◌≡◌, ◌≢◌, ◌↔◌, List, [], IfOk, IfErr, OnOk, Some, IsSome, MatchOption, map, option_map, string_bytes, codes};
-ghost use Rattle.clap.specs.Words.{Row, fault_of, found_of, first_of, rows_of, subcommand_of, subcommand_rows_of};
+ghost use Rattle.std.specs.Prelude.{◌≡◌, ◌≢◌, ◌↔◌, [], IfOk, IfErr, OnOk, Some, IsSome, MatchOption, map, option_map, string_bytes, codes};
+ghost use Rattle.clap.specs.Words.{fault_of, found_of, first_of, rows_of, subcommand_of, subcommand_rows_of};
 ghost use Rattle.life_cli.specs.CommandLine.{program};
-ghost use Rattle.life_cli.specs.Plans.{AreWhole, IsFound, IsPlanOf, HasNoFormat, HasSecond, HoldsFile, HoldsFiles, NamesInputTwice, Explains, RefusesFormat, TakesFileAlone, command_of, input_count, is_input, target_word};
+ghost use Rattle.life_cli.specs.Plans.{AreWhole, IsFound, IsPlanOf, HasNoForm, HasNoFormat, HasSecond, HoldsFile, HoldsFiles, HoldsForm, NamesInputTwice, Explains, RefusesWord, form_word, input_count, is_input, target_word};
+ghost use Rattle.life_cli.specs.declared.plans.Form.{Form as FormValue};
 ghost use Rattle.life_cli.specs.declared.plans.Target.{Target as TargetValue};
 
 use super::commands::parse;
-use super::{Job, Plan, Target, Usage};
+use super::{Form, Job, Plan, Target, Usage};
 use clap::error::ErrorKind;
 use clap::{ArgMatches, Command};
 use std::alloc::Global;
 use std::convert::AsStr;
 
-/// The refusal of a word behind `--to`.
-fn refusal(alloc: Global) -> Usage
-    ensures { (rows : List Row) → HasNoFormat rows → RefusesFormat rows result }
+/// The refusal of a word behind an option, with the message that says what stands there.
+fn refusal(alloc: Global, message: &str) -> Usage
+    ensures { RefusesWord (Unit {0}) result }
 {
     let mut command = Command::new(alloc, "golly_canon").override_usage("golly_canon <COMMAND>");
-    match command.error(ErrorKind::InvalidValue, "the value of --to is rle or mc") {
+    match command.error(ErrorKind::InvalidValue, message) {
         Ok(error) => Usage::Words(error),
         Err(_) => Usage::Memory,
     }
@@ -57,14 +58,40 @@ fn target_named(word: &str) -> Option<Target>
 fn target(alloc: Global, found: &ArgMatches<'_>) -> Result<Target, Usage>
     requires { IsFound (codes "to") (rows_of (found_of found.now)) }
     ensures ok { IfOk result (λ t. first_of (codes "to") (rows_of (found_of found.now)) ≡ Some (target_word t)) }
-    ensures err { IfErr result (RefusesFormat (rows_of (found_of found.now))) }
+    ensures err { IfErr result (RefusesWord (HasNoFormat (rows_of (found_of found.now)))) }
 {
     match value(found, "to") {
         Some(word) => match target_named(word) {
             Some(target) => Ok(target),
-            None => Err(refusal(alloc)),
+            None => Err(refusal(alloc, "the value of --to is rle or mc")),
         },
         None => unreachable!(),
+    }
+}
+
+/// The form of a word.
+fn form_named(word: &str) -> Option<Form>
+    ensures { MatchOption result ((f : FormValue) → word.now ≢ form_word f) (λ f. word.now ≡ form_word f) }
+{
+    match word {
+        "placed" => Some(Form::Placed),
+        "moved" => Some(Form::Moved),
+        "turned" => Some(Form::Turned),
+        _ => None,
+    }
+}
+
+/// The form that `--form` names, or that of a pattern as it lies.
+fn form(alloc: Global, found: &ArgMatches<'_>) -> Result<Form, Usage>
+    ensures ok { IfOk result (HoldsForm (rows_of (found_of found.now))) }
+    ensures err { IfErr result (RefusesWord (HasNoForm (rows_of (found_of found.now)))) }
+{
+    match value(found, "form") {
+        Some(word) => match form_named(word) {
+            Some(form) => Ok(form),
+            None => Err(refusal(alloc, "the value of --form is placed, moved or turned")),
+        },
+        None => Ok(Form::Placed),
     }
 }
 
@@ -104,21 +131,20 @@ fn over_files(
     })
 }
 
-/// The plan of a command that takes a file and nothing more.
-fn plain(alloc: Global, found: &ArgMatches<'_>, job: Job) -> Result<Plan, Usage>
-    requires plain { TakesFileAlone job }
-    requires whole { IsFound (codes "FILE") (rows_of (found_of found.now)) }
-    ensures ok { IfOk result (IsPlanOf (Some (command_of job, rows_of (found_of found.now)))) }
-    ensures err { IfErr result (λ usage. usage ≡ Usage.Memory) }
+fn canon(alloc: Global, found: &ArgMatches<'_>) -> Result<Plan, Usage>
+    requires { IsFound (codes "FILE") (rows_of (found_of found.now)) }
+    ensures ok { IfOk result (IsPlanOf (Some (codes "canon", rows_of (found_of found.now)))) }
+    ensures err { IfErr result (RefusesWord (HasNoForm (rows_of (found_of found.now)))) }
 {
-    over_file(alloc, found, job)
+    let form = form(alloc, found)?;
+    over_file(alloc, found, Job::Canon(form))
 }
 
 fn convert(alloc: Global, found: &ArgMatches<'_>) -> Result<Plan, Usage>
     requires file { IsFound (codes "FILE") (rows_of (found_of found.now)) }
     requires to { IsFound (codes "to") (rows_of (found_of found.now)) }
     ensures ok { IfOk result (IsPlanOf (Some (codes "convert", rows_of (found_of found.now)))) }
-    ensures err { IfErr result (RefusesFormat (rows_of (found_of found.now))) }
+    ensures err { IfErr result (RefusesWord (HasNoFormat (rows_of (found_of found.now)))) }
 {
     let target = target(alloc, found)?;
     over_file(alloc, found, Job::Convert(target))
@@ -128,9 +154,18 @@ fn same(alloc: Global, found: &ArgMatches<'_>) -> Result<Plan, Usage>
     requires first { IsFound (codes "A") (rows_of (found_of found.now)) }
     requires second { IsFound (codes "B") (rows_of (found_of found.now)) }
     ensures ok { IfOk result (IsPlanOf (Some (codes "same", rows_of (found_of found.now)))) }
+    ensures err { IfErr result (RefusesWord (HasNoForm (rows_of (found_of found.now)))) }
+{
+    let form = form(alloc, found)?;
+    over_files(alloc, found, Job::Same(form), "A", "B")
+}
+
+fn show(alloc: Global, found: &ArgMatches<'_>) -> Result<Plan, Usage>
+    requires { IsFound (codes "FILE") (rows_of (found_of found.now)) }
+    ensures ok { IfOk result (IsPlanOf (Some (codes "show", rows_of (found_of found.now)))) }
     ensures err { IfErr result (λ usage. usage ≡ Usage.Memory) }
 {
-    over_files(alloc, found, Job::Same, "A", "B")
+    over_file(alloc, found, Job::Show)
 }
 
 fn step(alloc: Global, found: &ArgMatches<'_>) -> Result<Plan, Usage>
@@ -181,7 +216,7 @@ fn from_command(alloc: Global, matches: &ArgMatches<'_>) -> Result<Plan, Usage>
     ensures refused { IfErr result (Explains [] (subcommand_rows_of matches.now)) }
 {
     if let Some(found) = matches.subcommand_matches("canon") {
-        return plain(alloc, found, Job::Canon);
+        return canon(alloc, found);
     }
     if let Some(found) = matches.subcommand_matches("convert") {
         return convert(alloc, found);
@@ -190,7 +225,7 @@ fn from_command(alloc: Global, matches: &ArgMatches<'_>) -> Result<Plan, Usage>
         return same(alloc, found);
     }
     if let Some(found) = matches.subcommand_matches("show") {
-        return plain(alloc, found, Job::Show);
+        return show(alloc, found);
     }
     if let Some(found) = matches.subcommand_matches("step") {
         return step(alloc, found);
@@ -218,8 +253,8 @@ fn from_matches(alloc: Global, matches: &ArgMatches<'_>) -> Result<Plan, Usage>
 /// # Errors
 ///
 /// `Words` with the text to show, where `clap` finds a fault in the words, as which `--help` and `--version` count too, by its kind, and
-/// where the word behind `--to` is that of no format, as `InvalidValue`; `TwoInputs` where words without a fault name `-` for two files,
-/// whatever stands behind `--to`; `Memory`.
+/// where the word behind `--to` is that of no format or the one behind `--form` that of no form, as `InvalidValue`; `TwoInputs` where words
+/// without a fault name `-` for two files, whatever stands behind these options; `Memory`.
 pub fn plan<S: AsStr>(alloc: Global, words: &[S]) -> Result<Plan, Usage>
     ensures faultless { OnOk result (fault_of program (map S.text words.entry.now) ≡ []) }
     ensures ok { IfOk result (IsPlanOf (subcommand_of program (map S.text words.entry.now))) }

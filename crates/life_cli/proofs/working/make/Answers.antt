@@ -3,19 +3,28 @@ use Rattle.std.proofs.lemmas.Result.{err_from_is_err_and}
 use Rattle.life_base.specs.declared.cell.TheConstants.{MAX_LEVEL}
 use Rattle.life_canon.specs.Texts.{IsRleOf, IsShown}
 use Rattle.life_step.specs.Stepped.{IsStepped, IsSteppedBy}
+use Rattle.life_cli.specs.Forms.{IsTextIn}
 use Rattle.life_cli.specs.Jobs.{by_comparing, by_reading}
-use Rattle.life_cli.specs.declared.plans.Job.TheVariants.{Convert, Show, Step, StepTable}
+use Rattle.life_cli.specs.declared.plans.Job.TheVariants.{Canon, Convert, Show, Step, StepTable}
 use Rattle.life_cli.specs.declared.plans.Target.TheVariants.{Rle}
-use Rattle.life_cli.proofs.WorkLemmas.{made_of_file}
+use Rattle.life_cli.proofs.WorkLemmas.{made_of_file, refused_form}
 use Rattle.life_cli.proofs.working.make.Goals as goal
+use Rattle.life_cli.proofs.working.make.Goals.{in-Canon-default+in_ok-text_of_source-in-Canon-default}
 use Rattle.life_cli.proofs.working.make.Goals.{in-Convert-Rle-default+in_ok-rle_of_source-in-Convert-Rle-default, in-Same-Some+in_ok-compared-in-Same-Some}
 use Rattle.life_cli.proofs.working.make.Goals.{in-Show-default+in_ok-five_lines_of_source-in-Show-default, in-Step-default+in_ok-next_of-in-Step-default}
 use Rattle.life_cli.proofs.working.make.Goals.{in-StepTable-Some+in_ok-next_by_table_of-in-StepTable-Some}
 
+pub returns-in_err-text_of_source-in-Canon-default-clause-err : goal.returns-in_err-text_of_source-in-Canon-default-clause-err
+returns-in_err-text_of_source-in-Canon-default-clause-err g c =
+    let p = err_from_is_err_and c.from_residual.result c.from_residual.ensures.1 in
+    let other = rw c.in-Canon-default.is-0 at c.requires.other in
+    rw (p.1, p.2, c.in-Canon-default.is-0) (λ output. refused_form _ _ _ output _ other (refl, c.in_err-text_of_source-in-Canon-default.ensures.err))
+
 pub returns-in_err-rle_of_source-in-Convert-Rle-default-clause-err :
     goal.returns-in_err-rle_of_source-in-Convert-Rle-default-clause-err
 returns-in_err-rle_of_source-in-Convert-Rle-default-clause-err g c =
-    let p = err_from_is_err_and c.from_residual.result c.from_residual.ensures.1 in
+    let p = err_from_is_err_and c.from_residual-in_err-rle_of_source-in-Convert-Rle-default.result
+    c.from_residual-in_err-rle_of_source-in-Convert-Rle-default.ensures.1 in
     let job : c.args.job.now ≡ Convert Rle = search rules in
     rw (p.1, p.2, job) (λ output. (refl, by_reading c.in_err-rle_of_source-in-Convert-Rle-default.ensures.err))
 
@@ -46,6 +55,9 @@ returns-in_err-next_by_table_of-in-StepTable-Some-clause-err g c =
 
 pub returns-clause-ok : goal.returns-clause-ok
 returns-clause-ok g c = elim c.match-job.branch [
+  | in-Canon-default+in_ok-text_of_source-in-Canon-default w ↦
+      rw (w.in-Canon-default.is-0, w.result-is, w.first-is) (made_of_file (IsTextIn _ MAX_LEVEL) (Canon _) _ _ [] _
+      w.in_ok-text_of_source-in-Canon-default.ensures.ok (λ has. absurd has) (λ bytes is. (refl, is)))
   | in-Convert-Rle-default+in_ok-rle_of_source-in-Convert-Rle-default w ↦
       let job : c.args.job.now ≡ Convert Rle = search rules in
       rw (job, w.result-is, w.first-is) (made_of_file (IsRleOf MAX_LEVEL (2 ^ 20)) (Convert Rle) _ _ [] _

@@ -2,14 +2,14 @@ use Rattle.std.proofs.Common.{◌^◌, ◌∙◌, inl}
 use Rattle.std.proofs.lemmas.Result.{err_from_is_err_and}
 use Rattle.life_base.specs.declared.cell.TheConstants.{MAX_LEVEL}
 use Rattle.life_canon.specs.Texts.{IsRleOf}
-use Rattle.life_cli.specs.Jobs.{RefusesRle}
+use Rattle.life_cli.specs.Jobs.{RefusesMany}
 use Rattle.life_cli.proofs.WorkLemmas.{no_pattern, refused_rle, text_of_pattern}
 use Rattle.life_cli.proofs.working.rle_of_source.Goals as goal
 
 pub returns-in_err-pattern-clause-err : goal.returns-in_err-pattern-clause-err
 returns-in_err-pattern-clause-err g c =
     let p = err_from_is_err_and c.from_residual.result c.from_residual.ensures.1 in
-    rw (p.1, p.2) (no_pattern RefusesRle _ c.read_from.new.store _ (c.read_from.ensures.keeps.limit ∙ c.new-store.ensures.most) (λ bytes refuses. inl refuses)
+    rw (p.1, p.2) (no_pattern RefusesMany _ c.read_from.new.store _ (c.read_from.ensures.keeps.limit ∙ c.new-store.ensures.most) (λ bytes refuses. inl refuses)
     c.in_err-pattern.ensures.fault (λ e. c.in_err-pattern.ensures.needed (cc)))
 
 pub rle_of-requires : goal.rle_of-requires

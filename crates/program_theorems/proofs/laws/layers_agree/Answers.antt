@@ -1,3 +1,4 @@
+use Rattle.life_canon.specs.Listing.{canon_text}
 use Rattle.program_theorems.proofs.laws.layers_agree.Goals as goal
 
 pub returns : goal.returns
@@ -11,6 +12,12 @@ returns c = record {
   least = c.canonical_is_least.ensures;
   rle = c.rle_texts_keep_patterns.ensures;
   kinds = c.refusals_have_kinds.ensures;
+  moved_on_plane = c.moved_forms_are_on_plane.ensures 62;
+  moved_files = c.moved_texts_are_files.ensures;
+  moved_tell = c.moved_texts_tell_files.ensures;
+  turned_on_plane = c.turned_forms_are_on_plane.ensures 62 (canon_text 62);
+  turned_files = c.turned_texts_are_files.ensures;
+  turned_tell = c.turned_texts_tell_files.ensures;
   grammars = c.grammars_agree.ensures;
   table_kinds = c.refusals_have_kinds-2.ensures;
   read = c.tables_read.ensures;

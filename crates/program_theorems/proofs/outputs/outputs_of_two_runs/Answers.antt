@@ -1,5 +1,5 @@
 use Rattle.theorems.proofs.StreamLaw.{appended}
-use Rattle.program_theorems.proofs.AnswerLaw.{to_layer, from_layer, equal_outputs, shown_outputs}
+use Rattle.program_theorems.proofs.AnswerLaw.{to_layer, from_layer, equal_outputs, form_outputs, shown_outputs}
 use Rattle.program_theorems.proofs.outputs.outputs_of_two_runs.Goals as goal
 
 pub work-status-requires-clause-second_given : goal.work-status-requires-clause-second_given
@@ -23,6 +23,18 @@ returns-clause-equal g c = λ held kept e f few other_few w v.
       appended _ _ held one.text one.written e,
       appended _ _ kept two.text two.written f,
       equal_outputs c.layers_agree.ensures c.args.job.now c.args.other_job.now _ _ _ _ _ _ one.text two.text one.answer two.answer w v,
+    )
+
+pub returns-clause-forms : goal.returns-clause-forms
+returns-clause-forms g c = λ form file other_file held kept e f few other_few is other_is r s.
+    let one = c.work-status.ensures.done few in
+    let two = c.work-other.ensures.done other_few in (
+      one.text,
+      two.text,
+      appended _ _ held one.text one.written e,
+      appended _ _ kept two.text two.written f,
+      form_outputs c.layers_agree.ensures form c.args.job.now c.args.other_job.now _ _ _ _ _ _ one.text two.text file other_file one.answer two.answer is
+          other_is r s,
     )
 
 pub returns-clause-shown : goal.returns-clause-shown
