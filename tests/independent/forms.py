@@ -7,6 +7,8 @@ from .lines import Fault
 from .patterns import Pattern, canonical_text
 from .squares import END, cells_of
 
+FORMS = ("placed", "moved", "turned")
+
 
 def way(numbers):
     """How far a side of a box is moved into its place."""

@@ -1,9 +1,9 @@
 -- From what a call of the library answers to what its export tells.
-use Rattle.std.proofs.Common.{◌≡◌, ℕ, ◌^◌, ◌⊎◌, inl, inr, List, Some, ap, Result, Ok, Err, IfOk, IfErr}
+use Rattle.std.proofs.Common.{◌≡◌, ℕ, ◌^◌, ◌⊎◌, inl, inr, List, Option, Some, None, MatchOption, sym, ap, ◌∙◌, subst, Result, Ok, Err, IfOk, IfErr}
 use Rattle.life_base.specs.Refusal.{fault_of}
 use Rattle.life_base.specs.declared.cell.TheConstants.{MAX_LEVEL}
 use Rattle.life_base.specs.declared.fault.Fault.{Fault}
-use Rattle.life_base.specs.declared.kind.Kind.TheVariants.{Full, TooManyCells}
+use Rattle.life_base.specs.declared.kind.Kind.TheVariants.{Full, Memory, TooManyCells}
 use Rattle.life_quad.specs.Store.{Nodes}
 use Rattle.life_canon.specs.Files.{Accepted, Reads, Refuses}
 use Rattle.life_canon.specs.Needs.{LacksFor}
@@ -29,11 +29,20 @@ pub both : {X : Type 0} (P Q : X → Type 0) (r : Result X Fault) → IfOk r P �
 both P Q (Ok x) p q = (p, q)
 both P Q (Err fault) p q = tt
 
+-- a fact of whatever is answered
+pub of-any : {X : Type 0} (P : Type 0) (r : Result X Fault) → P → IfOk r (λ _. P)
+of-any P (Ok x) p = p
+of-any P (Err fault) p = tt
+
 -- why a call is refused, and what its store lacks where it has no room
 pub and-lacks : {X Lack : Type 0} (P : Fault → Type 0) (r : Result X Fault) → IfErr r P → (r ≡ Err (fault_of Full) → Lack)
     → IfErr r (λ fault. P fault × (fault ≡ fault_of Full → Lack))
 and-lacks P (Ok x) p lacks = tt
 and-lacks P (Err fault) p lacks = (p, λ full. lacks (ap (λ (f : Fault). Err f) full))
+
+-- refused memory is no want of room
+pub not-full : {P : Type 0} (fault : Fault) → fault ≡ fault_of Memory → fault ≡ fault_of Full → P
+not-full fault memory full = let e : Memory ≡ Full = ap (λ (f : Fault). f.kind) (sym memory ∙ full) in absurd cc
 
 -- why a call is refused, by the limit of its store
 within : (limit : ℕ) (bytes : List ℕ) (store : Nodes) (fault : Fault) → store.limit ≡ room_of limit → RefusesIn MAX_LEVEL bytes store fault
@@ -97,3 +106,10 @@ pub refused_step_by : {X : Type 0} (table : Table) (limit : ℕ) (bytes : List �
 refused_step_by table limit bytes store (Ok x) is h lacks = tt
 refused_step_by table limit bytes store (Err fault) is h lacks =
     of_step_by table limit bytes store fault is h (λ full. lacks (ap (λ (f : Fault). Err f) full))
+
+-- a form that has the number, and none that has
+pub at-form : {X : Type 0} (form : Option X) (A : Type 0) (B : X → Type 0) (x : X) → form ≡ Some x → B x → MatchOption form A B
+at-form form A B x is b = subst (λ o. MatchOption o A B) (sym is) b
+
+pub at-none : {X : Type 0} (form : Option X) (A : Type 0) (B : X → Type 0) → form ≡ None → A → MatchOption form A B
+at-none form A B is a = subst (λ o. MatchOption o A B) (sym is) a

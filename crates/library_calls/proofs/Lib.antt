@@ -1,3 +1,4 @@
 pub mod Answering
 pub mod Pointer
 pub mod StreamFacts
+pub mod FormFacts

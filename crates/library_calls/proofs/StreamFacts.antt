@@ -19,13 +19,16 @@ use Rattle.life_canon.specs.Universe.{Universe, IsSame, IsOnPlane}
 use Rattle.life_canon.specs.declared.pattern.Pattern.{Pattern}
 use Rattle.life_step.specs.Refusals.{LacksForLife, LacksForNext, LifeRefusal}
 use Rattle.library_calls.specs.Answers.{IsCanonicalText, room_of}
+use Rattle.library_calls.proofs.Answering.{not-full}
+use Rattle.library_calls.proofs.FormFacts.{unread}
 use Rattle.library_calls.specs.Forms.{Piecewise, IsTextOf, RefusesTextOf, RefusesPiece}
 use Rattle.library_calls.specs.Streams.{IsOpen, IsFed, HasText, HasFault, Takes, by_piece, Ends, by_text}
 use Rattle.library_calls.specs.Streams as streams
 use Rattle.library_calls.specs.declared.form.Form.{Form}
 use Rattle.library_calls.specs.declared.session.Session.{Session}
 use Rattle.library_calls.specs.declared.session.Session.TheVariants.{Reading}
-use Rattle.library_calls.specs.declared.form.Form.TheVariants.{Canonical, Rle, Lines, Next}
+use Rattle.library_calls.specs.declared.form.Form.TheVariants.{Canonical, Rle, Lines, Next, Moved, Turned}
+use Rattle.library_calls.specs.declared.pattern_form.PatternForm.TheVariants as forms
 
 -- a pattern that is the same as one on the plane is on it too
 moved : (u v : Universe) → IsSame u v → IsOnPlane MAX_LEVEL u → IsOnPlane MAX_LEVEL v
@@ -59,10 +62,6 @@ canonical fit plane tell files least bytes store pattern text is read =
       },
     )
 
--- refused memory is no want of room
-not-full : {P : Type 0} (fault : Fault) → fault ≡ fault_of Memory → fault ≡ fault_of Full → P
-not-full fault memory full = let e : Memory ≡ Full = ap (λ (f : Fault). f.kind) (sym memory ∙ full) in absurd cc
-
 -- why a file is refused at its end, or room or memory wanted
 pub text-fault : (form : Form) (limit : ℕ) (bytes : List ℕ) (store : Nodes) (fault : Fault) → store.limit ≡ room_of limit
     → RefusesIn MAX_LEVEL bytes store fault → (fault ≡ fault_of Full → LacksFor MAX_LEVEL bytes store) → RefusesTextOf form limit bytes fault
@@ -74,6 +73,8 @@ text-fault Lines limit bytes store fault is (inl refuses) lacks = inl refuses
 text-fault Lines limit bytes store fault is (inr want) lacks = inr (store, is, want, lacks)
 text-fault Next limit bytes store fault is (inl refuses) lacks = inl refuses
 text-fault Next limit bytes store fault is (inr want) lacks = inr (inl (store, is, want, λ full. inl (lacks full)))
+text-fault Moved limit bytes store fault is why lacks = unread forms.Moved limit bytes store fault is why lacks
+text-fault Turned limit bytes store fault is why lacks = unread forms.Turned limit bytes store fault is why lacks
 
 -- the same of a text in extended RLE, which may have too many cells
 pub rle-fault : (limit : ℕ) (bytes : List ℕ) (store : Nodes) (pattern : Pattern) (fault : Fault) → store.limit ≡ room_of limit

@@ -9,7 +9,10 @@ use Rattle.library_calls.specs.Answers.{IsCanonicalText, IsRleText, RefusesWithi
 use Rattle.life_step.specs.Stepped.{IsStepped}
 use Rattle.library_calls.specs.Stepping.{RefusesStepWithin}
 use Rattle.library_calls.specs.declared.form.Form.{Form}
-use Rattle.library_calls.specs.declared.form.Form.TheVariants.{Canonical, Rle, Lines, Next}
+use Rattle.library_calls.specs.InForm.{IsTextMoved, IsTextTurned, RefusesInForm}
+use Rattle.library_calls.specs.declared.form.Form.TheVariants.{Canonical, Rle, Lines, Next, Moved, Turned}
+use Rattle.library_calls.specs.declared.pattern_form.PatternForm.{PatternForm}
+use Rattle.library_calls.specs.declared.pattern_form.PatternForm.TheVariants as forms
 
 -- the text is the one that this form asks of the bytes
 abbrev pub IsTextOf : Form → List ℕ → List ℕ → Type 0
@@ -17,6 +20,8 @@ IsTextOf Canonical = IsCanonicalText
 IsTextOf Rle = IsRleText
 IsTextOf Lines = IsShown MAX_LEVEL
 IsTextOf Next = IsStepped
+IsTextOf Moved = IsTextMoved
+IsTextOf Turned = IsTextTurned
 
 -- why the bytes have none, within a limit of the store
 abbrev pub RefusesTextOf : Form → ℕ → List ℕ → Fault → Type 0
@@ -24,6 +29,14 @@ RefusesTextOf Canonical = RefusesWithin
 RefusesTextOf Rle = RefusesRleWithin
 RefusesTextOf Lines = RefusesWithin
 RefusesTextOf Next = RefusesStepWithin
+RefusesTextOf Moved = RefusesInForm forms.Moved
+RefusesTextOf Turned = RefusesInForm forms.Turned
+
+-- what a stream gives whose end gives the canonical text of a pattern in this form
+abbrev pub text_in : PatternForm → Form
+text_in forms.Placed = Canonical
+text_in forms.Moved = Moved
+text_in forms.Turned = Turned
 
 -- no file goes on from these bytes, or room or memory is wanted for their lines that have ended
 abbrev pub RefusesPiece : ℕ → List ℕ → Fault → Type 0

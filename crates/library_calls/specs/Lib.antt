@@ -5,3 +5,5 @@ pub mod Stepping
 pub mod Forms
 pub mod Owning
 pub mod Streams
+pub mod InForm
+pub mod ComparingInForm

@@ -10,6 +10,7 @@ ghost use Rattle.library_calls.specs.Answers.{IsCanonicalText, room_of};
 ghost use Rattle.library_calls.specs.Forms.{IsTextOf, RefusesTextOf, RefusesPiece};
 
 use crate::form::Form;
+use crate::in_form::{moved_text, turned_text_of};
 use crate::rooms::store_of;
 use life_base::{Fault, MAX_LEVEL};
 use life_canon::laws::{
@@ -42,7 +43,11 @@ impl Model for Feeding {
 }
 
 /// The canonical text of a pattern that was read into the store.
-fn canonical_of(alloc: Global, store: &Shared, pattern: &Pattern) -> Result<Vec<u8>, Fault>
+pub(crate) fn canonical_of(
+    alloc: Global,
+    store: &Shared,
+    pattern: &Pattern,
+) -> Result<Vec<u8>, Fault>
     requires { IsOfFile MAX_LEVEL store.now pattern.now }
     ensures text { IfOk result (λ text. (bytes : List ℕ) → IsRead MAX_LEVEL bytes store.now pattern.now → IsCanonicalText bytes text.items) }
     ensures memory { IfErr result (λ fault. fault ≡ fault_of Memory) }
@@ -101,6 +106,8 @@ impl Feeding {
             Form::Canonical => canonical_of(alloc, &store, &pattern),
             Form::Rle => rle_of(alloc, &store, &pattern),
             Form::Lines => five_lines_of(alloc, &store, &pattern),
+            Form::Moved => moved_text(alloc, &mut store, &pattern),
+            Form::Turned => turned_text_of(alloc, &store, &pattern),
             Form::Next => next_by_rule(alloc, &mut store, pattern),
         }
     }

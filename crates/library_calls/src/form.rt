@@ -11,4 +11,8 @@ pub enum Form {
     Lines,
     /// The canonical text of the next generation under the file's B/S rule.
     Next,
+    /// The canonical text of the pattern, moved.
+    Moved,
+    /// That of the pattern, turned.
+    Turned,
 }

@@ -5,9 +5,12 @@
 #![tactic(auto)]
 
 mod comparing;
+mod comparing_in_form;
 mod feeding;
 mod form;
 mod held;
+mod in_form;
+mod pattern_form;
 mod pieces;
 mod rooms;
 mod seeding;
@@ -19,8 +22,12 @@ mod telling;
 mod texts;
 
 pub use comparing::same;
+pub use comparing_in_form::same_form;
+pub use in_form::{NO_FORM, canon_form, key};
 pub use stepping::{step, step_by_table};
 pub use stream::Stream;
-pub use streams::{close, feed, finish, open_canon, open_show, open_step, open_to_rle};
+pub use streams::{
+    close, feed, finish, open_canon, open_canon_form, open_show, open_step, open_to_rle,
+};
 pub use telling::{NO_ROOM, give};
 pub use texts::{canon, show, to_rle};

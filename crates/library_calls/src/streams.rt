@@ -1,12 +1,16 @@
 //! The calls on streams: a file in pieces, and one answer at its end.
 
-ghost use Rattle.std.specs.Prelude.{◌≡◌, ◌++◌, ℕ, List, None, IfSome};
+ghost use Rattle.std.specs.Prelude.{◌≡◌, ◌++◌, ℕ, List, None, IfSome, MatchOption};
 ghost use Rattle.life_base.specs.declared.fault.Fault.{Fault as FaultValue};
+ghost use Rattle.library_calls.specs.Forms.{text_in};
+ghost use Rattle.library_calls.specs.InForm.{form_numbered};
 ghost use Rattle.library_calls.specs.Streams.{session_of, IsOpen, IsFed, HasText, HasFault, Opens, Takes, Ends, IsSpent, TellsPiece, TellsNothing, TellsEnd};
 ghost use Rattle.library_calls.specs.declared.form.Form.{Form as FormValue};
 
 use crate::feeding::Feeding;
 use crate::form::Form;
+use crate::in_form::{NO_FORM, form_of};
+use crate::pattern_form::PatternForm;
 use crate::pieces::{ended, fed};
 use crate::session::Session;
 use crate::stream::{Stream, put, take};
@@ -56,6 +60,28 @@ pub fn open_step(alloc: Global, stream: &mut Stream, limit: u64, seed: u64) -> u
     ensures { Opens FormValue.Next limit result (session_of stream.new) }
 {
     open(alloc, stream, Form::Next, limit, seed)
+}
+
+/// What a stream gives whose end gives the canonical text of a pattern in this form.
+fn text_in(form: PatternForm) -> Form
+    ensures { result ≡ text_in form }
+{
+    match form {
+        PatternForm::Placed => Form::Canonical,
+        PatternForm::Moved => Form::Moved,
+        PatternForm::Turned => Form::Turned,
+    }
+}
+
+/// Opens a stream whose end gives the canonical text in the form with this number, and closes it first where it is open.
+pub fn open_canon_form(alloc: Global, stream: &mut Stream, form: u32, limit: u64, seed: u64) -> u32
+    ensures { MatchOption (form_numbered form) ((result ≡ 65) × (session_of stream.new ≡ None)) (λ form. Opens (text_in form) limit result (session_of stream.new)) }
+{
+    close(alloc, stream);
+    match form_of(form) {
+        Some(form) => open(alloc, stream, text_in(form), limit, seed),
+        None => NO_FORM,
+    }
 }
 
 /// The status of a call that doesn't fit its stream.

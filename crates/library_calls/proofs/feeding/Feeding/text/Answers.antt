@@ -43,6 +43,30 @@ returns-in-Lines-clause-text c =
 pub returns-in-Lines-clause-fault : goal.returns-in-Lines-clause-fault
 returns-in-Lines-clause-fault c = wants c.finish.new.store c.five_lines_of.result c.self.view_is c.finish.ensures.keeps.limit c.five_lines_of.ensures.memory
 
+pub returns-in-Moved-clause-text : goal.returns-in-Moved-clause-text
+returns-in-Moved-clause-text c =
+    form-text (λ text. text.items) c.moved_text.result c.self.view_is c.in-Moved.is c.in_ok-pattern.ensures.pattern.1 c.moved_text.ensures.text
+
+pub returns-in-Moved-clause-fault : goal.returns-in-Moved-clause-fault
+returns-in-Moved-clause-fault c =
+    IfErr-weaker c.moved_text.result _ _ (λ fault why limit is.
+    let room = c.finish.ensures.keeps.limit ∙ ap (λ (v : Piecewise). v.room) c.self.view_is ∙ is in
+    subst (λ (v : Piecewise). RefusesTextOf v.form limit v.bytes fault) c.self.view_is
+    (subst (λ (form : Form). RefusesTextOf form limit c.self.inside.reader.bytes fault) (sym c.in-Moved.is)
+    (why limit _ room c.in_ok-pattern.ensures.pattern.1))) c.moved_text.ensures.fault
+
+pub returns-in-Turned-clause-text : goal.returns-in-Turned-clause-text
+returns-in-Turned-clause-text c =
+    form-text (λ text. text.items) c.turned_text_of.result c.self.view_is c.in-Turned.is c.in_ok-pattern.ensures.pattern.1 c.turned_text_of.ensures.text
+
+pub returns-in-Turned-clause-fault : goal.returns-in-Turned-clause-fault
+returns-in-Turned-clause-fault c =
+    IfErr-weaker c.turned_text_of.result _ _ (λ fault why limit is.
+    let room = c.finish.ensures.keeps.limit ∙ ap (λ (v : Piecewise). v.room) c.self.view_is ∙ is in
+    subst (λ (v : Piecewise). RefusesTextOf v.form limit v.bytes fault) c.self.view_is
+    (subst (λ (form : Form). RefusesTextOf form limit c.self.inside.reader.bytes fault) (sym c.in-Turned.is)
+    (why limit _ room c.in_ok-pattern.ensures.pattern.1))) c.turned_text_of.ensures.fault
+
 pub returns-clause-fault : goal.returns-clause-fault
 returns-clause-fault c =
     IfErr-weaker c.next_by_rule.result _ _ (λ fault h limit is.

@@ -1,0 +1,210 @@
+-- Patterns that were read into a store, and their forms.
+use Rattle.std.proofs.Common.{◌≡◌, ◌⊎◌, inl, inr, ℕ, ◌^◌, ◌<◌, ◌≤◌, List, length, sym, subst}
+use Rattle.std.specs.Prelude.{◌↔◌, IsTrue, Bool}
+use Rattle.life_base.specs.Refusal.{fault_of}
+use Rattle.life_base.specs.declared.cell.Cell.{Cell}
+use Rattle.life_base.specs.declared.cell.TheConstants.{MAX_LEVEL}
+use Rattle.life_base.specs.declared.fault.Fault.{Fault}
+use Rattle.life_base.specs.declared.kind.Kind.TheVariants.{Full, Memory, TooManyCells}
+use Rattle.life_quad.proofs.LawLemmas.{known_squares_are_full, cells_are_listed, list_is_population}
+use Rattle.life_quad.specs.Cells.{population}
+use Rattle.life_quad.specs.Store.{Nodes}
+use Rattle.life_canon.specs.Files.{Accepted, Reads, Refuses}
+use Rattle.life_canon.specs.Laws.{FilesAreUnique, PatternsFit}
+use Rattle.life_canon.specs.Listing.{canon_text}
+use Rattle.life_canon.specs.Needs.{LacksFor}
+use Rattle.life_canon.specs.Store.{IsRead, IsTrimmed, IsWant, RefusesIn, content, universe_in}
+use Rattle.life_canon.specs.Texts.{AreCellsOf, HasMoreCells}
+use Rattle.life_canon.specs.Universe.{Universe, IsSame}
+use Rattle.life_canon.specs.declared.pattern.Pattern.{Pattern}
+use Rattle.life_forms.specs.Forms.{IsMoved}
+use Rattle.life_forms.specs.Images.{IsTurnedText}
+use Rattle.life_forms.specs.Needed.{LacksForMoved}
+use Rattle.life_forms.proofs.PatternFacts.{root-high}
+use Rattle.life_forms.proofs.PlaneFacts.{are-cells}
+use Rattle.library_calls.specs.Answers.{room_of}
+use Rattle.library_calls.specs.Comparing.{LacksForEither}
+use Rattle.library_calls.specs.ComparingInForm.{SayRelated, RefusesEitherInForm, LacksForEitherMoved}
+use Rattle.library_calls.specs.InForm.{HasFewCells, IsTextMoved, IsTextTurned, RefusesInForm}
+use Rattle.library_calls.specs.declared.pattern_form.PatternForm.{PatternForm}
+use Rattle.library_calls.specs.declared.pattern_form.PatternForm.TheVariants.{Placed, Moved, Turned}
+use Rattle.library_calls.proofs.Answering.{not-full}
+
+-- patterns that are the same are one
+one : (u v : Universe) → IsSame u v → u ≡ v
+one u v same = λ i. record { rule = same.rule i; generation = same.generation i; cell = λ x y. same.cells x y i }
+
+-- what a pattern in a store says is what its file says
+pub reads-it : PatternsFit MAX_LEVEL → (bytes : List ℕ) (store : Nodes) (pattern : Pattern) → IsRead MAX_LEVEL bytes store pattern
+    → Reads MAX_LEVEL bytes (universe_in store pattern)
+reads-it fit bytes store pattern read =
+    subst (λ (u : Universe). Reads MAX_LEVEL bytes u) (one read.universe (universe_in store pattern) (fit bytes store pattern read).1) read.reads
+
+pub accepted-it : (bytes : List ℕ) (store : Nodes) (pattern : Pattern) → IsRead MAX_LEVEL bytes store pattern → Accepted MAX_LEVEL bytes
+accepted-it bytes store pattern read = (read.universe, read.reads)
+
+-- ---- how many cells a pattern has
+
+root-cells : (store : Nodes) (pattern : Pattern) → IsTrimmed store pattern
+    → (cells : List Cell) × AreCellsOf (universe_in store pattern).cell cells × (length cells ≡ population (content store pattern.root))
+root-cells store pattern trimmed =
+    let t = content store pattern.root in
+    let full = (known_squares_are_full store pattern.root trimmed.known.0).0 in
+    let high = root-high pattern.rule _ trimmed.level in
+    let list = cells_are_listed t full high in
+    (list.0, are-cells t list.0 list.1, list_is_population t list.0 full high list.1)
+
+pub few-cells : (store : Nodes) (pattern : Pattern) → IsTrimmed store pattern → population (content store pattern.root) ≤ 2 ^ 20
+    → HasFewCells (universe_in store pattern)
+few-cells store pattern trimmed few =
+    let list = root-cells store pattern trimmed in
+    (list.0, list.1, subst (λ (n : ℕ). n ≤ 2 ^ 20) (sym list.2) few)
+
+more-cells : PatternsFit MAX_LEVEL → (bytes : List ℕ) (store : Nodes) (pattern : Pattern) → IsRead MAX_LEVEL bytes store pattern
+    → 2 ^ 20 < population (content store pattern.root) → HasMoreCells MAX_LEVEL bytes (2 ^ 20)
+more-cells fit bytes store pattern read many =
+    let list = root-cells store pattern (fit bytes store pattern read).0 in (
+      list.0,
+      record { universe = universe_in store pattern; reads = reads-it fit bytes store pattern read; are = list.1 },
+      subst (λ (n : ℕ). 2 ^ 20 < n) (sym list.2) many,
+    )
+
+-- ---- the text in a form
+
+pub moved-text : PatternsFit MAX_LEVEL → (bytes : List ℕ) (old new : Nodes) (pattern moved : Pattern) (text : List ℕ) → IsRead MAX_LEVEL bytes old pattern
+    → population (content old pattern.root) ≤ 2 ^ 20 → IsMoved MAX_LEVEL (universe_in old pattern) (universe_in new moved)
+    → text ≡ canon_text MAX_LEVEL (universe_in new moved) → IsTextMoved bytes text
+moved-text fit bytes old new pattern moved text read few is_moved is = record {
+  universe = universe_in old pattern;
+  reads = reads-it fit bytes old pattern read;
+  few = few-cells old pattern (fit bytes old pattern read).0 few;
+  form = universe_in new moved;
+  moved = is_moved;
+  is = is;
+}
+
+pub turned-text : PatternsFit MAX_LEVEL → (bytes : List ℕ) (store : Nodes) (pattern : Pattern) (text : List ℕ) → IsRead MAX_LEVEL bytes store pattern
+    → population (content store pattern.root) ≤ 2 ^ 20 → IsTurnedText MAX_LEVEL (universe_in store pattern) text → IsTextTurned bytes text
+turned-text fit bytes store pattern text read few turned = record {
+  universe = universe_in store pattern;
+  reads = reads-it fit bytes store pattern read;
+  few = few-cells store pattern (fit bytes store pattern read).0 few;
+  turned = turned;
+}
+
+-- ---- why there is none
+
+-- a file that isn't read
+pub unread : (form : PatternForm) (limit : ℕ) (bytes : List ℕ) (store : Nodes) (fault : Fault) → store.limit ≡ room_of limit
+    → RefusesIn MAX_LEVEL bytes store fault → (fault ≡ fault_of Full → LacksFor MAX_LEVEL bytes store) → RefusesInForm form limit bytes fault
+unread Placed limit bytes store fault room (inl refuses) lacks = inl refuses
+unread Placed limit bytes store fault room (inr want) lacks = inr (store, room, want, lacks)
+unread Moved limit bytes store fault room (inl refuses) lacks = inl (inl refuses)
+unread Moved limit bytes store fault room (inr want) lacks = inl (inr (store, room, want, λ full. inl (lacks full)))
+unread Turned limit bytes store fault room (inl refuses) lacks = inl (inl refuses)
+unread Turned limit bytes store fault room (inr want) lacks = inl (inr (store, room, want, lacks))
+
+-- memory is refused for a text
+pub no-memory : (form : PatternForm) (limit : ℕ) (bytes : List ℕ) (store : Nodes) (fault : Fault) → store.limit ≡ room_of limit
+    → fault ≡ fault_of Memory → RefusesInForm form limit bytes fault
+no-memory form limit bytes store fault room memory = unread form limit bytes store fault room (inr (inl memory)) (not-full fault memory)
+
+-- a pattern that isn't moved
+pub unmoved : PatternsFit MAX_LEVEL → (limit : ℕ) (bytes : List ℕ) (old new : Nodes) (pattern : Pattern) (fault : Fault) → new.limit ≡ room_of limit
+    → IsRead MAX_LEVEL bytes old pattern
+    → ((fault ≡ fault_of TooManyCells) × (2 ^ 20 < population (content old pattern.root))) ⊎ IsWant new fault
+    → (fault ≡ fault_of Full → LacksForMoved (universe_in old pattern) new) → RefusesInForm Moved limit bytes fault
+unmoved fit limit bytes old new pattern fault room read (inl many) lacks = inr (many.0, more-cells fit bytes old pattern read many.1)
+unmoved fit limit bytes old new pattern fault room read (inr want) lacks =
+    inl (inr (new, room, want, λ full. inr (universe_in old pattern, reads-it fit bytes old pattern read, lacks full)))
+
+-- one that isn't turned
+pub unturned : PatternsFit MAX_LEVEL → (limit : ℕ) (bytes : List ℕ) (store : Nodes) (pattern : Pattern) (fault : Fault) → store.limit ≡ room_of limit
+    → IsRead MAX_LEVEL bytes store pattern
+    → (fault ≡ fault_of Memory) ⊎ ((fault ≡ fault_of TooManyCells) × (2 ^ 20 < population (content store pattern.root)))
+    → RefusesInForm Turned limit bytes fault
+unturned fit limit bytes store pattern fault room read (inl memory) = no-memory Turned limit bytes store fault room memory
+unturned fit limit bytes store pattern fault room read (inr many) = inr (many.0, more-cells fit bytes store pattern read many.1)
+
+-- ---- two files
+
+-- what holds of two patterns in a store exactly if a test says so holds of their files
+pub files-told : FilesAreUnique MAX_LEVEL → (IsRelated : Universe → Universe → Type 0) (first second : List ℕ) (u v : Universe) (answer : Bool)
+    → Reads MAX_LEVEL first u → Reads MAX_LEVEL second v → IsTrue answer ↔ IsRelated u v → IsTrue answer ↔ SayRelated IsRelated first second
+files-told unique IsRelated first second u v answer one_reads other_reads told = (
+  λ t. record { first = u; second = v; reads_first = one_reads; reads_second = other_reads; related = told.0 t },
+  λ are. told.1
+      (subst (λ (w : Universe). IsRelated w v) (unique _ are.first u are.reads_first one_reads)
+      (subst (λ (w : Universe). IsRelated are.first w) (unique _ are.second v are.reads_second other_reads) are.related)),
+)
+
+-- what two files lack to be read, they lack to be moved
+also-moved : (first second : List ℕ) (store : Nodes) → LacksForEither first second store → LacksForEitherMoved first second store
+also-moved first second store (inl lack) = inl (inl lack)
+also-moved first second store (inr lack) = inr (lack.0, inl lack.1)
+
+-- one of two files isn't read, or room or memory is wanted for it
+either-unread : (form : PatternForm) (limit : ℕ) (first second : List ℕ) (store : Nodes) (fault : Fault) → store.limit ≡ room_of limit
+    → Refuses MAX_LEVEL first fault ⊎ (Accepted MAX_LEVEL first × Refuses MAX_LEVEL second fault) ⊎ IsWant store fault
+    → (fault ≡ fault_of Full → LacksForEither first second store) → RefusesEitherInForm form limit first second fault
+either-unread Placed limit first second store fault room (inl refuses) lacks = inl refuses
+either-unread Placed limit first second store fault room (inr (inl refuses)) lacks = inr (inl refuses)
+either-unread Placed limit first second store fault room (inr (inr want)) lacks = inr (inr (store, room, want, lacks))
+either-unread Moved limit first second store fault room (inl refuses) lacks = inl refuses
+either-unread Moved limit first second store fault room (inr (inl refuses)) lacks = inr (inl refuses)
+either-unread Moved limit first second store fault room (inr (inr want)) lacks =
+    inr (inr (inl (store, room, want, λ full. also-moved first second store (lacks full))))
+either-unread Turned limit first second store fault room (inl refuses) lacks = inl (inl refuses)
+either-unread Turned limit first second store fault room (inr (inl refuses)) lacks = inl (inr (inl refuses))
+either-unread Turned limit first second store fault room (inr (inr want)) lacks = inl (inr (inr (store, room, want, lacks)))
+
+pub first-unread : (form : PatternForm) (limit : ℕ) (first second : List ℕ) (store : Nodes) (fault : Fault) → store.limit ≡ room_of limit
+    → RefusesIn MAX_LEVEL first store fault → (fault ≡ fault_of Full → LacksFor MAX_LEVEL first store) → RefusesEitherInForm form limit first second fault
+first-unread form limit first second store fault room (inl refuses) lacks = either-unread form limit first second store fault room (inl refuses)
+    (λ full. inl (lacks full))
+first-unread form limit first second store fault room (inr want) lacks = either-unread form limit first second store fault room (inr (inr want))
+    (λ full. inl (lacks full))
+
+pub second-unread : (form : PatternForm) (limit : ℕ) (first second : List ℕ) (store : Nodes) (fault : Fault) → store.limit ≡ room_of limit
+    → Accepted MAX_LEVEL first → RefusesIn MAX_LEVEL second store fault → (fault ≡ fault_of Full → LacksFor MAX_LEVEL second store)
+    → RefusesEitherInForm form limit first second fault
+second-unread form limit first second store fault room accepted (inl refuses) lacks = either-unread form limit first second store fault room
+    (inr (inl (accepted, refuses))) (λ full. inr (accepted, lacks full))
+second-unread form limit first second store fault room accepted (inr want) lacks = either-unread form limit first second store fault room (inr (inr want))
+    (λ full. inr (accepted, lacks full))
+
+-- one of two patterns has too many cells
+either-many : PatternsFit MAX_LEVEL → (first second : List ℕ) (store : Nodes) (a b : Pattern) → IsRead MAX_LEVEL first store a → IsRead MAX_LEVEL second store b
+    → (2 ^ 20 < population (content store a.root)) ⊎ (2 ^ 20 < population (content store b.root))
+    → HasMoreCells MAX_LEVEL first (2 ^ 20) ⊎ HasMoreCells MAX_LEVEL second (2 ^ 20)
+either-many fit first second store a b read other (inl many) = inl (more-cells fit first store a read many)
+either-many fit first second store a b read other (inr many) = inr (more-cells fit second store b other many)
+
+-- what two patterns lack to be moved, their files lack
+moved-lacks : PatternsFit MAX_LEVEL → (first second : List ℕ) (old new : Nodes) (a b : Pattern) → IsRead MAX_LEVEL first old a → IsRead MAX_LEVEL second old b
+    → LacksForMoved (universe_in old a) new ⊎ LacksForMoved (universe_in old b) new → LacksForEitherMoved first second new
+moved-lacks fit first second old new a b read other (inl lack) = inl (inr (universe_in old a, reads-it fit first old a read, lack))
+moved-lacks fit first second old new a b read other (inr lack) =
+    inr (accepted-it first old a read, inr (universe_in old b, reads-it fit second old b other, lack))
+
+-- two patterns that aren't moved
+pub either-unmoved : PatternsFit MAX_LEVEL → (limit : ℕ) (first second : List ℕ) (old new : Nodes) (a b : Pattern) (fault : Fault)
+    → new.limit ≡ room_of limit → IsRead MAX_LEVEL first old a → IsRead MAX_LEVEL second old b
+    → ((fault ≡ fault_of TooManyCells) × ((2 ^ 20 < population (content old a.root)) ⊎ (2 ^ 20 < population (content old b.root)))) ⊎ IsWant new fault
+    → (fault ≡ fault_of Full → LacksForMoved (universe_in old a) new ⊎ LacksForMoved (universe_in old b) new)
+    → RefusesEitherInForm Moved limit first second fault
+either-unmoved fit limit first second old new a b fault room read other (inl many) lacks =
+    inr (inr (inr (many.0, either-many fit first second old a b read other many.1)))
+either-unmoved fit limit first second old new a b fault room read other (inr want) lacks =
+    inr (inr (inl (new, room, want, λ full. moved-lacks fit first second old new a b read other (lacks full))))
+
+-- two that aren't turned
+pub either-unturned : PatternsFit MAX_LEVEL → (limit : ℕ) (first second : List ℕ) (store : Nodes) (a b : Pattern) (fault : Fault)
+    → store.limit ≡ room_of limit → IsRead MAX_LEVEL first store a → IsRead MAX_LEVEL second store b
+    → (fault ≡ fault_of Memory)
+    ⊎ ((fault ≡ fault_of TooManyCells) × ((2 ^ 20 < population (content store a.root)) ⊎ (2 ^ 20 < population (content store b.root))))
+    → RefusesEitherInForm Turned limit first second fault
+either-unturned fit limit first second store a b fault room read other (inl memory) =
+    either-unread Turned limit first second store fault room (inr (inr (inl memory))) (not-full fault memory)
+either-unturned fit limit first second store a b fault room read other (inr many) =
+    inr (many.0, either-many fit first second store a b read other many.1)

@@ -1,0 +1,61 @@
+-- What the comparison of two files in a form tells.
+use Rattle.std.specs.Prelude.{◌≡◌, ◌⊎◌, ◌^◌, ℕ, List}
+use Rattle.life_base.specs.Kinds.{kind_number}
+use Rattle.life_base.specs.Refusal.{fault_of}
+use Rattle.life_base.specs.declared.cell.TheConstants.{MAX_LEVEL}
+use Rattle.life_base.specs.declared.fault.Fault.{Fault}
+use Rattle.life_base.specs.declared.kind.Kind.TheVariants.{TooManyCells}
+use Rattle.life_quad.specs.Store.{Nodes}
+use Rattle.life_canon.specs.Files.{Accepted, Reads, Refuses, Same}
+use Rattle.life_canon.specs.Texts.{HasMoreCells}
+use Rattle.life_canon.specs.Universe.{Universe}
+use Rattle.life_forms.specs.Forms.{IsShift, IsTurnedShift}
+use Rattle.library_calls.specs.Answers.{Wants}
+use Rattle.library_calls.specs.Comparing.{Compared, RefusesEither}
+use Rattle.library_calls.specs.InForm.{LacksForMovedFile}
+use Rattle.library_calls.specs.declared.pattern_form.PatternForm.{PatternForm}
+use Rattle.library_calls.specs.declared.pattern_form.PatternForm.TheVariants.{Placed, Moved, Turned}
+
+-- both are files, and the patterns that they say are related so
+pub record SayRelated (IsRelated : Universe → Universe → Type 0) (a b : List ℕ) : Type 0 where
+  pub first : Universe
+  pub second : Universe
+  pub reads_first : Reads MAX_LEVEL a first
+  pub reads_second : Reads MAX_LEVEL b second
+  pub related : IsRelated first second
+
+-- both are files of one pattern in this form: the same; a shift of each other; or a shift behind one of the eight turns and reflections
+abbrev pub AreOneInForm : PatternForm → List ℕ → List ℕ → Type 0
+AreOneInForm Placed = Same MAX_LEVEL
+AreOneInForm Moved = SayRelated IsShift
+AreOneInForm Turned = SayRelated IsTurnedShift
+
+-- the first file has more than 2^20 cells that aren't 0, or the second
+abbrev pub HasTooMany : List ℕ → List ℕ → Fault → Type 0
+HasTooMany first second fault = (fault ≡ fault_of TooManyCells) × (HasMoreCells MAX_LEVEL first (2 ^ 20) ⊎ HasMoreCells MAX_LEVEL second (2 ^ 20))
+
+-- the store lacks a square that the first file needs or its pattern where it is moved, or one of the second, where the first is a file
+abbrev pub LacksForEitherMoved : List ℕ → List ℕ → Nodes → Type 0
+LacksForEitherMoved first second store = LacksForMovedFile first store ⊎ (Accepted MAX_LEVEL first × LacksForMovedFile second store)
+
+-- why two files aren't compared in this form
+abbrev pub RefusesEitherInForm : PatternForm → ℕ → List ℕ → List ℕ → Fault → Type 0
+RefusesEitherInForm Placed limit first second fault = RefusesEither limit first second fault
+RefusesEitherInForm Moved limit first second fault =
+    Refuses MAX_LEVEL first fault ⊎ (Accepted MAX_LEVEL first × Refuses MAX_LEVEL second fault)
+    ⊎ Wants (LacksForEitherMoved first second) limit fault ⊎ HasTooMany first second fault
+RefusesEitherInForm Turned limit first second fault = RefusesEither limit first second fault ⊎ HasTooMany first second fault
+
+-- both are files, and the answer is told, 1 or 0; or the fault that keeps it from being found
+pub data ComparesInForm (form : PatternForm) (limit : ℕ) (first second : List ℕ) (told : Compared) : Type 0 where
+  by_answer : told.status ≡ 0 → told.line ≡ 0 → Accepted MAX_LEVEL first → Accepted MAX_LEVEL second
+      → ((told.is_same ≡ 1) × AreOneInForm form first second) ⊎ ((told.is_same ≡ 0) × (¬ AreOneInForm form first second))
+      → ComparesInForm form limit first second told
+  by_fault : (fault : Fault) → told.status ≡ kind_number fault.kind → told.line ≡ fault.place.line → told.is_same ≡ 0
+      → RefusesEitherInForm form limit first second fault → ComparesInForm form limit first second told
+
+-- no form has the number, which is told
+pub record ComparesInNone (told : Compared) : Type 0 where
+  pub status : told.status ≡ 65
+  pub line : told.line ≡ 0
+  pub is_same : told.is_same ≡ 0

@@ -1,0 +1,74 @@
+-- The text of a pattern in a form, its key, and why there is none.
+use Rattle.std.specs.Prelude.{◌≡◌, ◌⊎◌, ◌==◌, ◌≤◌, ◌^◌, ℕ, List, length, Option, Some, None, if◌then◌else◌}
+use Rattle.sha2.specs.Sha256.{sha256}
+use Rattle.life_base.specs.Refusal.{fault_of}
+use Rattle.life_base.specs.declared.cell.Cell.{Cell}
+use Rattle.life_base.specs.declared.cell.TheConstants.{MAX_LEVEL}
+use Rattle.life_base.specs.declared.fault.Fault.{Fault}
+use Rattle.life_base.specs.declared.kind.Kind.TheVariants.{TooManyCells}
+use Rattle.life_quad.specs.Store.{Nodes}
+use Rattle.life_canon.specs.Files.{Reads, Refuses}
+use Rattle.life_canon.specs.Listing.{canon_text}
+use Rattle.life_canon.specs.Needs.{LacksFor}
+use Rattle.life_canon.specs.Texts.{AreCellsOf, HasMoreCells}
+use Rattle.life_canon.specs.Universe.{Universe}
+use Rattle.life_forms.specs.Forms.{IsMoved}
+use Rattle.life_forms.specs.Images.{IsTurnedText}
+use Rattle.life_forms.specs.Needed.{LacksForMoved}
+use Rattle.library_calls.specs.Told.{Told}
+use Rattle.library_calls.specs.Answers.{IsCanonicalText, RefusesWithin, RefusesRleWithin, Wants}
+use Rattle.library_calls.specs.declared.pattern_form.PatternForm.{PatternForm}
+use Rattle.library_calls.specs.declared.pattern_form.PatternForm.TheVariants.{Placed, Moved, Turned}
+
+-- the form that has this number, if one has it
+abbrev pub form_numbered : ℕ → Option PatternForm
+form_numbered number = if number == 0 then Some Placed else (if number == 1 then Some Moved else (if number == 2 then Some Turned else None))
+
+-- at most 2^20 cells of the pattern aren't 0
+abbrev pub HasFewCells : Universe → Type 0
+HasFewCells u = (cells : List Cell) × AreCellsOf u.cell cells × (length cells ≤ 2 ^ 20)
+
+-- the bytes are a file, and the text is the canonical text of its pattern, moved
+pub record IsTextMoved (bytes text : List ℕ) : Type 0 where
+  pub universe : Universe
+  pub reads : Reads MAX_LEVEL bytes universe
+  pub few : HasFewCells universe
+  pub form : Universe
+  pub moved : IsMoved MAX_LEVEL universe form
+  pub is : text ≡ canon_text MAX_LEVEL form
+
+-- the bytes are a file, and the text is that of its pattern, turned
+pub record IsTextTurned (bytes text : List ℕ) : Type 0 where
+  pub universe : Universe
+  pub reads : Reads MAX_LEVEL bytes universe
+  pub few : HasFewCells universe
+  pub turned : IsTurnedText MAX_LEVEL universe text
+
+-- the text is the canonical text of the bytes' pattern in this form
+abbrev pub IsTextInForm : PatternForm → List ℕ → List ℕ → Type 0
+IsTextInForm Placed = IsCanonicalText
+IsTextInForm Moved = IsTextMoved
+IsTextInForm Turned = IsTextTurned
+
+-- the key is the SHA-256 of this text
+abbrev pub IsKeyInForm : PatternForm → List ℕ → List ℕ → Type 0
+IsKeyInForm form bytes key = (text : List ℕ) × IsTextInForm form bytes text × (key ≡ sha256 text)
+
+-- the store lacks a square that the file needs, or one that its pattern needs where it is moved
+abbrev pub LacksForMovedFile : List ℕ → Nodes → Type 0
+LacksForMovedFile bytes store = LacksFor MAX_LEVEL bytes store ⊎ ((u : Universe) × Reads MAX_LEVEL bytes u × LacksForMoved u store)
+
+-- why the bytes have no text in this form, within a limit of the store
+abbrev pub RefusesInForm : PatternForm → ℕ → List ℕ → Fault → Type 0
+RefusesInForm Placed limit bytes fault = RefusesWithin limit bytes fault
+RefusesInForm Moved limit bytes fault =
+    (Refuses MAX_LEVEL bytes fault ⊎ Wants (LacksForMovedFile bytes) limit fault)
+    ⊎ ((fault ≡ fault_of TooManyCells) × HasMoreCells MAX_LEVEL bytes (2 ^ 20))
+RefusesInForm Turned limit bytes fault = RefusesRleWithin limit bytes fault
+
+-- no form has the number, which is told, and no byte was written
+pub record TellsNoForm (told_line : ℕ) (told : Told) : Type 0 where
+  pub status : told.status ≡ 65
+  pub line : told_line ≡ 0
+  pub needed : told.needed ≡ 0
+  pub after : told.after ≡ told.before

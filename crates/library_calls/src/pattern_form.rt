@@ -1,0 +1,12 @@
+//! The forms of a pattern.
+
+/// A form of a pattern.
+#[derive(Clone, Copy)]
+pub enum PatternForm {
+    /// The pattern where it lies.
+    Placed,
+    /// The pattern, moved to (0, 0), or to the end of a plane that it would leave so (`moved_of` of `life_forms`).
+    Moved,
+    /// Of its eight turns and reflections, each moved, the one whose canonical text is least, byte by byte.
+    Turned,
+}
