@@ -19,7 +19,7 @@ module _ (content : Id → Tree) (id : Id) (keys : List Id) where
   pub told-keys : All (λ a. content a ≡ content id → a ≡ id) keys → (r : Option ℕ) (P : ℕ → Type 0) → MatchOption r (¬ Contains keys id) P
       → MatchOption r (is_in (map content keys) (content id) ≡ false) P
   told-keys inj None P absent =
-    elim (bool_cases (is_in (map content keys) (content id))) [ inl h ↦ absurd (absent ((in-keys content id keys inj).0 h)) | inr h ↦ h ]
+      elim (bool_cases (is_in (map content keys) (content id))) [ inl h ↦ absurd (absent ((in-keys content id keys inj).0 h)) | inr h ↦ h ]
   told-keys inj (Some n) P at = at
 
   module _ (i : ℕ) (at : slice_get keys i ≡ Some id) where

@@ -1,6 +1,6 @@
 //! Tests of `life_quad`: worked examples, and each public call once at each store.
 
-ghost use Rattle.std.specs.Prelude.{◌≡◌, ◌≤◌, ◌-◌, ◌^◌, IfOk};
+ghost use Rattle.std.specs.Prelude.{◌≡◌, ◌<◌, ◌≤◌, ◌-◌, ◌^◌, IfOk};
 ghost use Rattle.life_base.specs.Tree.{depth};
 ghost use Rattle.life_quad.specs.Keeping.{KeepsSquares};
 
