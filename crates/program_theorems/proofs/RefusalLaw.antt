@@ -392,7 +392,8 @@ module _ (laws : LayersAgree) (first second : SourceRun) (output : SinkRun) (ref
 pub origin_of : LayersAgree → (job : Job) (first second : SourceRun) (output : SinkRun) (refusal : Refusal) → layer.JobRefuses job first second output refusal
     → Origin job first second output refusal
 origin_of laws (jobs.Canon Placed) first second output refusal h =
-    of_canon laws (jobs.Canon Placed) first second output refusal (λ bytes other text c. (refl, c)) (λ has. has) h.0 (λ file other r. (r.0, refl, r.1)) h.1.0 h.1.2
+    of_canon laws (jobs.Canon Placed) first second output refusal (λ bytes other text c. (refl, c)) (λ has. has) h.0 (λ file other r. (r.0, refl, r.1)) h.1.0
+    h.1.2
 origin_of laws (jobs.Convert Mc) first second output refusal h =
     of_canon laws (jobs.Convert Mc) first second output refusal (λ bytes other text c. (refl, c)) (λ has. has) h.0 (λ file other r. (r.0, refl, r.1)) h.1.0
     h.1.2
