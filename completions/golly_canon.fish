@@ -9,6 +9,7 @@ complete -c golly_canon -n __fish_use_subcommand -f -a help -d 'Write the help o
 complete -c golly_canon -n __fish_use_subcommand -s V -l version -d 'Write the version'
 complete -c golly_canon -s h -l help -d 'Write a help text'
 complete -c golly_canon -n '__fish_seen_subcommand_from convert' -x -l to -a 'rle mc' -d 'The format to write'
-complete -c golly_canon -n '__fish_seen_subcommand_from canon same' -x -l form -a 'placed moved turned' -d 'The form to take'
+complete -c golly_canon -n '__fish_seen_subcommand_from canon' -x -l form -a 'placed moved turned' -d 'The form to take'
+complete -c golly_canon -n '__fish_seen_subcommand_from same' -x -l form -a 'placed moved turned' -d 'The form to take'
 complete -c golly_canon -n '__fish_seen_subcommand_from step' -r -l table -d 'The rule table'
 complete -c golly_canon -n '__fish_seen_subcommand_from help' -f -a 'canon convert same show step help'
