@@ -182,8 +182,6 @@ def compared(judged, case):
             judged.put(name, data)
     problems, answers, text = [], collections.Counter(), None
     for words, wanted in wanted_answers(case):
-        if "--form" in words and not judged.takes_forms:
-            continue
         got = judged.answer(words, "pattern")
         if got != wanted:
             problems.append(told(case, words, got, wanted))

@@ -2,7 +2,7 @@
 
 import ctypes
 
-from independent import commands
+from independent import commands, forms
 from shared import c_interface, processes
 from shared.c_interface import AMBIGUOUS, FULL, MEMORY, NO_ROOM, Stream
 
@@ -13,8 +13,6 @@ CALLS = {"canon": "canon", "show": "show", "step": "step", "rle": "to_rle", "mc"
 
 class Program:
     """The program. Its files stand in the folder of the cases."""
-
-    takes_forms = True
 
     def __init__(self, path):
         self.path = path
@@ -34,10 +32,13 @@ def store():
     return ctypes.c_uint64(c_interface.SQUARES), c_interface.seed()
 
 
+def numbers_of(form):
+    """The number of a form as a call in a form takes it, and nothing for a call in none."""
+    return [] if form is None else [ctypes.c_uint32(forms.FORMS.index(form))]
+
+
 class Library:
     """The calls of the shared library for the words of the program. What the program would read from a pipe comes in pieces by a stream."""
-
-    takes_forms = False
 
     def __init__(self, path):
         self.path = path
@@ -71,14 +72,14 @@ class Library:
             self.room = 2 * self.needed.value
             self.out = ctypes.create_string_buffer(self.room)
 
-    def by_call(self, name, data):
+    def by_call(self, name, data, form):
         call = getattr(self.calls, f"golly_canon_{name}")
-        return self.asked(lambda *out: call(data, ctypes.c_size_t(len(data)), *store(), *out))
+        return self.asked(lambda *out: call(data, ctypes.c_size_t(len(data)), *numbers_of(form), *store(), *out))
 
-    def by_stream(self, name, data):
+    def by_stream(self, name, data, form):
         """The same with the file in some eight pieces. A refused piece ends it, as the stream tells the fault again at its end."""
         stream = Stream()
-        status = getattr(self.calls, f"golly_canon_open_{name}")(ctypes.byref(stream), *store())
+        status = getattr(self.calls, f"golly_canon_open_{name}")(ctypes.byref(stream), *numbers_of(form), *store())
         size = len(data) // 8 + 1
         for at in range(0, len(data), size):
             piece = data[at: at + size]
@@ -93,10 +94,11 @@ class Library:
         lengths = ctypes.c_size_t(len(data)), ctypes.c_size_t(len(table))
         return self.asked(lambda *out: call(data, lengths[0], table, lengths[1], *store(), *out, ctypes.byref(self.flag)))
 
-    def compared(self, one, other):
+    def compared(self, one, other, form):
+        call = self.calls.golly_canon_same if form is None else self.calls.golly_canon_same_form
         sizes = ctypes.c_size_t(len(one)), ctypes.c_size_t(len(other))
         answered = ctypes.byref(self.flag), ctypes.byref(self.line)
-        status = self.calls.golly_canon_same(one, sizes[0], other, sizes[1], *store(), *answered)
+        status = call(one, sizes[0], other, sizes[1], *numbers_of(form), *store(), *answered)
         if status:
             return self.refusal(status, False)
         return commands.Answer(SAME, b"same\n") if self.flag.value else commands.Answer(DIFFERENT, b"different\n")
@@ -104,15 +106,16 @@ class Library:
     def answer(self, words, given):
         """Calls the library as these words of the program say. `-` is the file whose name is given."""
         self.loaded()
+        form = words[-1] if words[-2] == "--form" else None
         first = self.files[given if words[1] == "-" else words[1]]
         if words[0] == "same":
-            return self.compared(first, self.files[given if words[2] == "-" else words[2]])
+            return self.compared(first, self.files[given if words[2] == "-" else words[2]], form)
         self.flag.value = 0
         if words[-2] == "--table":
             status = self.by_table(first, self.files[words[-1]])
         else:
-            name = CALLS[words[-1] if words[0] == "convert" else words[0]]
-            status = (self.by_stream if words[1] == "-" else self.by_call)(name, first)
+            name = "canon_form" if form else CALLS[words[-1] if words[0] == "convert" else words[0]]
+            status = (self.by_stream if words[1] == "-" else self.by_call)(name, first, form)
         if status:
             return self.refusal(status, self.flag.value)
         return commands.Answer(0, self.out[: self.needed.value])
