@@ -33,5 +33,6 @@ mod CellFacts
 mod CallFacts
 mod PieceFacts
 mod WalkingFacts
+mod CountingFacts
 mod ShowFacts
 mod Rows

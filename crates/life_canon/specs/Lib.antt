@@ -2,6 +2,7 @@ pub mod Universe
 pub mod Files
 pub mod Listing
 pub mod Closed
+pub mod Counting
 pub mod Least
 pub mod Store
 pub mod Texts

@@ -3,6 +3,7 @@
 
 mod comparing;
 mod converting;
+mod counting;
 mod feeding;
 mod filling;
 mod front;

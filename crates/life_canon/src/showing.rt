@@ -16,11 +16,11 @@ ghost use Rattle.life_canon.specs.Needs.{LacksFor};
 ghost use Rattle.life_canon.specs.Store.{Keeps, RefusesIn, IsOfFile, IsRead, IsTrimmed, universe_in, content};
 ghost use Rattle.life_canon.specs.Texts.{IsShown, IsOrdered, AreOrdered, box_text, show_text};
 
-use crate::listing::listed;
+use crate::counting::{Counts, count_all};
 use crate::pattern::{Pattern, least_level};
 use crate::reading::read;
 use life_base::{Bounds, Fault, Kind, MAX_LEVEL, append, append_number};
-use life_quad::{Shared, bounds, population};
+use life_quad::{Shared, bounds};
 use std::alloc::Global;
 
 /// Adds a word, the number behind it and a line feed at the end.
@@ -88,14 +88,14 @@ fn append_rule(out: &mut Vec<u8>, pattern: &Pattern) -> Result<(), Kind>
     append(out, b"\n")
 }
 
-/// How many node lines the canonical file of a pattern has: one for each square of the walk.
-fn line_count(alloc: Global, store: &Shared, pattern: &Pattern) -> Result<u64, Kind>
+/// How many node lines the canonical file of a pattern has, one for each square of the walk, and how many cells aren't 0.
+fn counts_of(alloc: Global, store: &Shared, pattern: &Pattern) -> Result<Counts, Kind>
     requires { IsTrimmed store.now pattern.now }
-    ensures lines { IfOk result (λ n. n ≡ node_lines (canonical_file MAX_LEVEL (universe_in store.now pattern.now))) }
+    ensures lines { IfOk result (λ counts. counts.squares ≡ node_lines (canonical_file MAX_LEVEL (universe_in store.now pattern.now))) }
+    ensures cells { IfOk result (λ counts. counts.cells ≡ population (content store.now pattern.now.root)) }
     ensures kind { IfErr result (λ kind. kind ≡ Memory) }
 {
-    let known = listed(alloc, store, least_level(&pattern.rule), pattern.root)?;
-    Ok(known.as_slice().len() as u64)
+    count_all(alloc, store, least_level(&pattern.rule), pattern.root)
 }
 
 /// The five lines of a pattern.
@@ -106,15 +106,14 @@ fn five_lines(alloc: Global, store: &Shared, pattern: &Pattern) -> Result<Vec<u8
         × (text.items ≡ show_text pattern.now.rule pattern.now.generation (population (content store.now pattern.now.root)) box (node_lines (canonical_file MAX_LEVEL (universe_in store.now pattern.now))))) }
     ensures kind { IfErr result (λ kind. kind ≡ Memory) }
 {
-    let nodes = line_count(alloc, store, pattern)?;
-    let cells = population(alloc, store, pattern.root)?;
+    let counts = counts_of(alloc, store, pattern)?;
     let least = bounds(alloc, store, pattern.root)?;
     let mut out = Vec::new(alloc);
     append_rule(&mut out, pattern)?;
     append_line(&mut out, b"generation ", pattern.generation)?;
-    append_population(&mut out, cells)?;
+    append_population(&mut out, counts.cells)?;
     append_box(&mut out, least)?;
-    append_line(&mut out, b"nodes ", nodes)?;
+    append_line(&mut out, b"nodes ", counts.squares)?;
     Ok(out)
 }
 

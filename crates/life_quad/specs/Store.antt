@@ -171,3 +171,7 @@ pub record Answers (old new : Nodes) (t : Tree) (r : Result Id Kind) : Type 0 wh
 pub record HasSeen (seen : Id → Bool) (log : List ℕ) : Type 0 where
   pub joined : (k : ℕ) → seen (id_of k) ≡ true → Contains log k
   pub listed : (k : ℕ) → Contains log k → k < 66064 → seen (id_of k) ≡ true
+
+-- each small square of level 1 that isn't blank is marked
+abbrev pub HasQuarters : (Id → Bool) → Type 0
+HasQuarters seen = (k : ℕ) → 512 < k → k < 528 → seen (id_of k) ≡ true

@@ -30,6 +30,7 @@ pub fn population<S: SharedSquares>(alloc: Global, squares: &S, id: Id) -> Resul
 }
 
 /// The number of cells with a state in a square of level 3, where the store tells the cells of its quarters; `None` tells nothing.
+#[inline(always)]
 fn count_leaf<S: Squares>(squares: &S, level: u8, id: Id) -> Option<u128>
     requires known { S.knows squares.now id }
     requires level { level ≡ depth (S.content squares.now id) }
@@ -44,6 +45,39 @@ fn count_leaf<S: Squares>(squares: &S, level: u8, id: Id) -> Option<u128>
     let sw = squares.small_cells(sw)?.count_ones();
     let se = squares.small_cells(se)?.count_ones();
     Some(u128::from(nw + ne + sw + se))
+}
+
+/// The number of cells with a state in a square of a level, each of whose squares is visited as often as it occurs.
+fn count_cells<S: Squares>(squares: &S, level: u8, id: Id) -> u128
+    requires known { S.knows squares.now id }
+    requires level { level ≡ depth (S.content squares.now id) }
+    ensures { result ≡ population (S.content squares.now id) }
+{
+    if let Some(cells) = squares.small_cells(id) {
+        return u128::from(cells.count_ones());
+    }
+    if let Some(state) = squares.state(id) {
+        return if state == 0 { 0 } else { 1 };
+    }
+    let Quarters { nw, ne, sw, se } = divide(squares, id);
+    let a = count_cells(squares, level - 1, nw);
+    let b = count_cells(squares, level - 1, ne);
+    let c = count_cells(squares, level - 1, sw);
+    let d = count_cells(squares, level - 1, se);
+    a + b + c + d
+}
+
+/// How many cells of a square of a level have a state other than 0, as `population` tells it, but without memory: each of its squares is visited as
+/// often as it occurs. So this is for squares of few levels, as those of leaf lines.
+pub fn leaf_population<S: Squares>(squares: &S, level: u8, id: Id) -> u128
+    requires known { S.knows squares.now id }
+    requires level { level ≡ depth (S.content squares.now id) }
+    ensures { result ≡ population (S.content squares.now id) }
+{
+    match count_leaf(squares, level, id) {
+        Some(number) => number,
+        None => count_cells(squares, level, id),
+    }
 }
 
 /// The number of cells with a state in a square of a level, where `known` has the numbers of squares that were visited, and 0 for others:

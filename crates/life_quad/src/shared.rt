@@ -4,9 +4,9 @@ ghost use Rattle.life_base.specs.declared.kind.Kind.TheVariants.{Full, Memory};
 ghost use Rattle.life_quad.specs.declared.id.Id.{Id as IdValue};
 ghost use Rattle.life_base.specs.Tree.{Tree, depth, is_blank_tree};
 
-use crate::id::{FIRST_NODE, FIRST_SMALL, Node, are_blank, no_room, small_number};
-use crate::id_map::IdMap;
+use crate::id::{FIRST_NODE, FIRST_SMALL, LEVEL_TWO, Node, are_blank, no_room, small_number};
 use crate::join_log::JoinLog;
+use crate::marks::Marks;
 use crate::{Id, Seed, SharedSquares, Squares};
 use indexmap::IndexSet;
 use life_base::{Kind, State};
@@ -20,7 +20,7 @@ pub struct Shared {
     /// The level of each node's square.
     levels: Vec<u8>,
     /// Whether a small square was joined.
-    seen: IdMap<bool>,
+    seen: Marks,
     /// How many of these were joined.
     small: u64,
     /// The Ids in the order of their first join.
@@ -45,17 +45,6 @@ ghost use Rattle.life_quad.specs.declared.id.TheConstants.{FIRST_NODE};
 ghost use Rattle.life_quad.specs.IdMap.{value_of};
 ghost use Rattle.life_quad.specs.StoreLaws.{full_content, low_content, same_id};
 ghost use Rattle.life_quad.specs.Store.{squares, content, held, node_square, number_of, small_square, Knows, IsShared, IsNode, IsSmall, Answers};
-
-/// Marks a small square. It is never inlined, so that the join of one that is there stays short.
-#[inline(never)]
-fn see(seen: &mut IdMap<bool>, id: Id) -> Result<(), Kind>
-    ensures marked { OnOk result (value_of seen.new id ≡ true) }
-    ensures others { (q : IdValue) → q ≢ id → value_of seen.new q ≡ value_of seen.old q }
-    ensures same { OnErr result ((q : IdValue) → value_of seen.new q ≡ value_of seen.old q) }
-    ensures kind { IfErr result (λ kind. kind ≡ Memory) }
-{
-    seen.set(id, true)
-}
 
 /// Makes room for the level of one more node, unless a store with so many squares and nodes takes no more of them: then it answers why.
 fn make_room(levels: &mut Vec<u8>, len: u64, nodes: u64, limit: u64) -> Option<Kind>
@@ -87,7 +76,7 @@ impl Shared {
         Shared {
             nodes: IndexSet::with_hasher(alloc, seed),
             levels: Vec::new(alloc),
-            seen: IdMap::new(alloc, false),
+            seen: Marks::new(alloc),
             small: 0,
             log: JoinLog::new(),
             limit,
@@ -120,7 +109,7 @@ impl Shared {
         if self.nodes.len() as u64 + self.small == self.limit {
             return Err(Kind::Full);
         }
-        see(&mut self.seen, id)?;
+        self.seen.set(id)?;
         self.small += 1;
         self.log = self.log.then(&[number]);
         Ok(id)
@@ -234,6 +223,18 @@ impl Squares for Shared {
         }
         let id = Id::of_cells(cells);
         if self.seen.get(id) { Some(id) } else { None }
+    }
+
+    // Once all squares of level 1 are there, as they soon are in a soup, no square of level 2 asks for its quarters.
+    fn small(&mut self, cells: u16) -> Result<Id, Kind> {
+        let blank = self.empty(2);
+        if cells == 0 {
+            return Ok(blank);
+        }
+        if self.seen.has_quarters() {
+            return self.mark(LEVEL_TWO + u64::from(cells));
+        }
+        self.small_of_quarters(cells)
     }
 
     fn small_cells(&self, id: Id) -> Option<u16> {

@@ -120,6 +120,18 @@ pub trait Squares {
         ensures room { result ≡ Err Memory → length (stored self.new) < most self.new }
         ensures needed { OnErr result (SomePart (needs_node self.new) (four cells)) }
     {
+        self.small_of_quarters(cells)
+    }
+
+    /// The same by way of its quarters, however the store finds it elsewhere.
+    fn small_of_quarters(&mut self, cells: u16) -> Result<Id, Kind>
+        ensures known { IfOk result (λ id. knows self.new id) }
+        ensures square { IfOk result (λ id. content self.new id ≡ four cells) }
+        ensures keeps { KeepsSquares knows content stored most self.old self.new }
+        ensures refusals { IfErr result (IsWantKind (stored self.new) (most self.new)) }
+        ensures room { result ≡ Err Memory → length (stored self.new) < most self.new }
+        ensures needed { OnErr result (SomePart (needs_node self.new) (four cells)) }
+    {
         if let Some(id) = self.find_small(cells) {
             return Ok(id);
         }

@@ -1,13 +1,13 @@
 //! Tests of `life_quad`: worked examples, and each public call once at each store.
 
-ghost use Rattle.std.specs.Prelude.{◌≡◌, ◌≤◌, ◌-◌, ◌^◌, IfOk};
+ghost use Rattle.std.specs.Prelude.{◌≡◌, ◌<◌, ◌≤◌, ◌-◌, ◌^◌, IfOk};
 ghost use Rattle.life_base.specs.Tree.{depth};
 ghost use Rattle.life_quad.specs.Keeping.{KeepsSquares};
 
 use life_base::{Bounds, Cell, Kind, MAX_LEVEL, Run};
 use life_quad::{
     Id, IdList, Plain, Quarters, Seed, Shared, SharedSquares, Squares, bounds, cells, divide, grow,
-    is_blank, is_blank_at, population, put_run, trim,
+    is_blank, is_blank_at, leaf_population, population, put_run, trim,
 };
 use std::alloc::Global;
 use std::process::Abort;
@@ -502,6 +502,75 @@ fn small_squares_are_made_of_their_cells(rt: HostRuntime) {
     let plain = glider_made(&mut Plain::new(rt.alloc(), 15));
     assert!(rt; plain == Ok([false, false, true]));
     assert!(rt; glider_made(&mut Plain::new(rt.alloc(), 14)) == Err(Kind::Full));
+}
+
+// The squares of level 1 up to these cells, and then two of level 2 by theirs: whether the store tells these cells of them.
+fn behind_quarters<S: Squares>(squares: &mut S, last: u16, cells: [u16; 2]) -> Result<bool, Kind>
+    requires { last < 16 }
+{
+    for quarter in 1..last + 1 {
+        squares.small_quarter(quarter)?;
+    }
+    let [first, second] = cells;
+    let one = squares.small(first)?;
+    let two = squares.small(second)?;
+    Ok(squares.small_cells(one) == Some(first) && squares.small_cells(two) == Some(second))
+}
+
+// The same in a store that shares, of this limit, and the number of its squares.
+fn shared_behind_quarters(
+    alloc: Global,
+    limit: u64,
+    last: u16,
+    cells: [u16; 2],
+) -> (Result<bool, Kind>, u64)
+    requires limit { limit ≤ 100 }
+    requires last { last < 16 }
+{
+    let mut squares = Shared::new(alloc, Seed::fixed(), limit);
+    (behind_quarters(&mut squares, last, cells), squares.len())
+}
+
+#[test]
+fn small_squares_are_made_where_their_quarters_are(rt: HostRuntime) {
+    // All fifteen quarters, and a square each.
+    let all = shared_behind_quarters(rt.alloc(), 17, 15, [GLIDER, 0xf00f]);
+    assert!(rt; all == (Ok(true), 17));
+    let full = shared_behind_quarters(rt.alloc(), 16, 15, [GLIDER, 0xf00f]);
+    assert!(rt; full == (Err(Kind::Full), 16));
+    let same = shared_behind_quarters(rt.alloc(), 16, 15, [GLIDER, GLIDER]);
+    assert!(rt; same == (Ok(true), 16));
+    // The last quarter is not there yet, and the second square has it.
+    let lacking = shared_behind_quarters(rt.alloc(), 17, 14, [GLIDER, 0xf00f]);
+    assert!(rt; lacking == (Ok(true), 17));
+    let blank = shared_behind_quarters(rt.alloc(), 15, 15, [0, 0]);
+    assert!(rt; blank == (Ok(true), 15));
+}
+
+// A square of level 3, in whose middle a square of level 2 with cells of the states 1, 2 and 255 stands, and how many cells it and its north-west
+// quarter have by `leaf_population`.
+fn leaf_populations<S: Squares>(squares: &mut S) -> Result<[u128; 2], Kind> {
+    let dead = squares.cell(0);
+    let one = squares.cell(1);
+    let two = squares.cell(2);
+    let last = squares.cell(255);
+    let cells = squares.join(one, two, dead, last)?;
+    let blank = squares.empty(1);
+    let quarter = squares.join(cells, blank, blank, cells)?;
+    let glider = squares.small(GLIDER)?;
+    let none = squares.empty(2);
+    let leaf = squares.join(quarter, glider, none, glider)?;
+    Ok([
+        leaf_population(squares, 3, leaf),
+        leaf_population(squares, 2, quarter),
+    ])
+}
+
+#[test]
+fn leaves_are_counted(rt: HostRuntime) {
+    // Three cells twice, and two gliders of five.
+    assert!(rt; leaf_populations(&mut Shared::new(rt.alloc(), Seed::fixed(), 100)) == Ok([16, 6]));
+    assert!(rt; leaf_populations(&mut Plain::new(rt.alloc(), 100)) == Ok([16, 6]));
 }
 
 // Whether a blank square and one with cells of states above 1 have their populations and boxes.

@@ -20,9 +20,9 @@ returns-clause-text c =
     let p = c.args.pattern.now in (
       c.in_ok-least.least,
       c.in_ok-least.ensures.least,
-      five-text _ _ _ _ _ _ (rule_text p.rule) (decimal p.generation) (decimal c.in_ok-cells.cells) (box_text c.in_ok-least.least) (decimal c.in_ok-nodes.nodes)
+      five-text _ _ _ _ _ _ (rule_text p.rule) (decimal p.generation) (decimal c.in_ok-counts.counts.cells) (box_text c.in_ok-least.least) (decimal c.in_ok-counts.counts.squares)
           c.new-out.ensures.items c.in_ok-append_rule.ensures.ok c.in_ok-append_line.ensures.ok c.in_ok-append_population.ensures.ok
           c.in_ok-append_box.ensures.ok c.in_ok-append_line-2.ensures.ok
-          ∙ ap (λ n. show_text p.rule p.generation n c.in_ok-least.least c.in_ok-nodes.nodes) c.in_ok-cells.ensures.number
-          ∙ ap (show_text p.rule p.generation (population (content c.args.store.now p.root)) c.in_ok-least.least) c.in_ok-nodes.ensures.lines,
+          ∙ ap (λ n. show_text p.rule p.generation n c.in_ok-least.least c.in_ok-counts.counts.squares) c.in_ok-counts.ensures.cells
+          ∙ ap (show_text p.rule p.generation (population (content c.args.store.now p.root)) c.in_ok-least.least) c.in_ok-counts.ensures.lines,
     )

@@ -28,15 +28,15 @@ returns-then-len-self c =
     (answers_refused s s (small_square c.args.number) Full _ refl inv.1 (absent_small s c.args.number inv.0 inv.1 small absent) (inl refl) same
     (λ e. full, λ e. refl))
 
-pub returns-in_err-see : goal.returns-in_err-see
-returns-in_err-see c =
+pub returns-in_err-set : goal.returns-in_err-set
+returns-in_err-set c =
     let s = the_view c.self.inside in
     let v = c.self.view_is in
     let inv = c.self.invariant in
     let small = subst (λ v. IsSmall v.log (squares v.nodes) c.args.number) (sym v) c.requires.small in
     let absent = unseen (value_of c.self.inside.seen) s.log c.args.number inv.2 c.requires.last (sym c.get.ensures ∙ c.if-get.false) in
     let told = c.from_residual.ensures in
-    let kind = c.in_err-see.ensures.kind in
+    let kind = c.in_err-set.ensures.kind in
     let more = c.self.invariant.3 in
     let most = c.self.invariant.1.len in
     let below = c.if-len-self.false in
@@ -48,7 +48,7 @@ returns-in_err-see c =
 pub invariant_of-self : goal.invariant_of-self
 invariant_of-self c =
     let inv = c.self.invariant in
-    (inv.0, inv.1, HasSeen-same (value_of c.self.inside.seen) (value_of c.see.new.seen) c.self.inside.log.ids inv.2 c.in_err-see.ensures.same, inv.3, inv.4)
+    (inv.0, inv.1, HasSeen-same (value_of c.self.inside.seen) (value_of c.set.new.self) c.self.inside.log.ids inv.2 c.in_err-set.ensures.same, inv.3, inv.4)
 
 abbrev old : goal.After-self-2-1 → Nodes
 old c = the_view c.self.inside
@@ -83,8 +83,8 @@ invariant_of-self-2 c =
     let sound = sound_marked s (new c) c.args.number inv.0 inv.1 a.0 a.1 a.2 a.3 in (
       sound.0,
       sound.1,
-      HasSeen-mark (value_of c.self.inside.seen) (value_of c.see.new.seen) s.log (new c).log c.args.number inv.2 c.in_ok-see.ensures.marked
-          c.see.ensures.others grown,
+      HasSeen-mark (value_of c.self.inside.seen) (value_of c.set.new.self) s.log (new c).log c.args.number inv.2 c.in_ok-set.ensures.marked
+          c.set.ensures.others grown,
       omega (arith, longer, more),
       inv.4,
     )

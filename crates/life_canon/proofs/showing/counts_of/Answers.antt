@@ -1,12 +1,13 @@
 use Rattle.std.proofs.Common.{length, ap, sym, ◌∙◌}
 use Rattle.std.proofs.lemmas.List.{length-map}
+use Rattle.std.proofs.lemmas.Result.{IfOk-weaker}
 use Rattle.life_mc.specs.Macrocell.{Macrocell}
 use Rattle.life_quad.proofs.LawLemmas.{known_squares_are_full}
 use Rattle.life_canon.specs.Listing.{listed, line_of}
 use Rattle.life_canon.specs.Store.{content}
 use Rattle.life_canon.proofs.NumberFacts.{file-of}
 use Rattle.life_canon.proofs.TreeWords.{below_top}
-use Rattle.life_canon.proofs.showing.line_count.Goals as goal
+use Rattle.life_canon.proofs.showing.counts_of.Goals as goal
 
 pub returns-clause-lines : goal.returns-clause-lines
 returns-clause-lines c =
@@ -15,7 +16,5 @@ returns-clause-lines c =
     let root = content store p.root in
     let k = known_squares_are_full store p.root c.requires.known.0 in
     let file = file-of below_top p.rule p.generation root k.0 k.1 c.requires.level c.requires.trimmed in
-    let known = c.in_ok-known.known in
-    let all = c.in_ok-known.ensures.listed ∙ ap (listed root) c.least_level.ensures in
-    ap length c.as_slice.ensures.ids ∙ sym (length-map known (content store)) ∙ ap length all
-    ∙ sym (length-map _ (line_of p.rule _)) ∙ ap (λ (m : Macrocell). length m.lines) (sym file)
+    IfOk-weaker c.count_all.result _ _ (λ counts e. e ∙ ap (λ m. length (listed root m)) c.least_level.ensures ∙ sym (length-map _ (line_of p.rule _))
+    ∙ ap (λ (m : Macrocell). length m.lines) (sym file)) c.count_all.ensures.squares

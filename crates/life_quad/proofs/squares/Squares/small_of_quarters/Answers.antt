@@ -1,6 +1,6 @@
 -- A square of four that are made one behind the other: what the five calls keep.
 use Rattle.life_quad.proofs.KeepingLemmas.{keeps-then}
-use Rattle.life_quad.proofs.squares.Squares.small.Goals as goal
+use Rattle.life_quad.proofs.squares.Squares.small_of_quarters.Goals as goal
 
 pub returns-in_err-sw-clause-keeps : goal.returns-in_err-sw-clause-keeps
 returns-in_err-sw-clause-keeps g c = keeps-then (keeps-then c.in_ok-nw.ensures.keeps c.in_ok-ne.ensures.keeps) c.in_err-sw.ensures.keeps
