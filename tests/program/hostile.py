@@ -697,7 +697,7 @@ LONG_TEXTS = [
     *long_jobs("a slow reader", 0, "", lambda text: text, plays=takes_slowly),
     *long_jobs("stopped and continued", 0, "", lambda text: text, plays=stops_it),
     *long_jobs("killed while it writes", -signal.SIGKILL, "", Front, plays=kills_it),
-    *(with_memory("step: ", 16 * MEGABYTE, long_jobs("a full disk", 3, "WriteFault", Front, by=ON_A_SMALL_DISK)) if CAN_MOUNT else []),
+    *(with_memory("step: ", 8 * MEGABYTE, long_jobs("a full disk", 3, "WriteFault", Front, by=ON_A_SMALL_DISK)) if CAN_MOUNT else []),
     *long_jobs("little memory", 4, "Memory", lambda text: b"", by='ulimit -v 3800; exec "$@"'),
 ]
 
@@ -1016,11 +1016,13 @@ def by_table(name, rule, pattern, output, **more):
     return Case(name, "step input --table rule", output=output, files={"input": pattern, "rule": rule}, **more)
 
 
-def sevens(count, apart=4):
-    """Cells of state 7, so many columns apart, each with eight other states around it."""
+def sevens(count, apart=4, has_pair=False):
+    """Cells of state 7, so many columns apart, each with eight other states around it, or with seven of which one stands twice."""
     order = random.Random(3)
     for i in range(count):
         around = order.sample(range(8, 256), 8)
+        if has_pair:
+            around[7] = around[0]
         for j, state in enumerate([*around[:4], 7, *around[4:]]):
             yield apart * i + j % 3, j // 3, state
 
@@ -1028,8 +1030,10 @@ def sevens(count, apart=4):
 FREE = [b"var %c={%s}\n" % (name, ALL_STATES) for name in b"abcdefi"]
 # Of eight variables two can be the same neighbour alone, so that no order fits; and that is found last.
 SEARCHED = [*FREE, b"var g={7}\nvar h={7}\n", (b"i,a,b,c,d,e,f,g,h,1\n", 500)]
-# A variable that stands twice has to be the state of two neighbours, and no two have one but 0, which it can't be. The index passes over none of these.
+# A variable that stands twice has to be the state of two neighbours, and no two have one but 0, which it can't be.
 PAIRED = [*FREE[1:], b"var a={%s}\nvar g={%s}\n" % (ALL_STATES[2:], ALL_STATES), (b"i,b,c,d,e,f,g,a,a,1\n", 500)]
+# Two of them have to be the states of two neighbours each, and there is one such state but 0.
+TWICE = [*FREE[2:], b"var a={%s}\nvar b={%s}\n" % (ALL_STATES[2:], ALL_STATES[2:]), (b"i,c,d,e,f,a,a,b,b,1\n", 500)]
 # Two neighbours side by side would have to be one state other than 0, and none are.
 TURNED = [*FREE, b"var g={%s}\nvar h={%s}\n" % (ALL_STATES, ALL_STATES[2:]), (b"i,h,a,b,c,d,e,f,h,1\n", 2000)]
 fifty = functools.partial(sevens, 50)
@@ -1037,6 +1041,8 @@ FIFTY, FIFTY_STEPPED = states_in_nodes(fifty), states_in_nodes(fifty, 1)
 # No cell has two neighbours of one state but 0.
 fifty_apart = functools.partial(sevens, 50, 5)
 APART, APART_STEPPED = states_in_nodes(fifty_apart), states_in_nodes(fifty_apart, 1)
+fifty_pairs = functools.partial(sevens, 50, 5, has_pair=True)
+PAIRS, PAIRS_STEPPED = states_in_nodes(fifty_pairs), states_in_nodes(fifty_pairs, 1)
 UNION = [b"var a={%s}\n" % ALL_STATES, (b"var b={" + b"a," * 500_000 + b"a}\n", 1)]
 
 
@@ -1070,7 +1076,8 @@ TABLES = [
     by_table("a list of half a million variables", table(b"none", *UNION), BLANK, canonical(b"Foo", 1)),
     by_table("2000 lines that give nothing, 450 cells", table(b"rotate8reflect", *TURNED), FIFTY, FIFTY_STEPPED),
     by_table("500 lines to search, 450 cells", table(b"permute", *SEARCHED), FIFTY, FIFTY_STEPPED),
-    by_table("500 lines of a variable that stands twice, 450 cells", table(b"permute", *PAIRED), APART, APART_STEPPED, each=300),
+    by_table("500 lines of a variable that stands twice, 450 cells", table(b"permute", *PAIRED), APART, APART_STEPPED),
+    by_table("500 lines of two variables that stand twice, 450 cells", table(b"permute", *TWICE), PAIRS, PAIRS_STEPPED),
 ]
 
 

@@ -6,8 +6,8 @@ ghost use Rattle.life_quad.specs.Keeping.{KeepsSquares};
 
 use life_base::{Bounds, Cell, Kind, MAX_LEVEL, Run};
 use life_quad::{
-    Id, IdList, Plain, Quarters, Seed, Shared, SharedSquares, Squares, bounds, cells, divide, grow,
-    is_blank, is_blank_at, leaf_population, population, put_run, trim,
+    Id, IdList, NeighbourhoodMemory, Plain, Quarters, Seed, Shared, SharedSquares, Squares, bounds,
+    cells, divide, grow, is_blank, is_blank_at, leaf_population, population, put_run, trim,
 };
 use std::alloc::Global;
 use std::process::Abort;
@@ -638,4 +638,25 @@ fn five_ids<S: Squares + Drop>(store: S) -> [Id; 5] {
 fn ids_are_listed_once(rt: HostRuntime) {
     let ids = five_ids(Shared::new(rt.alloc(), Seed::fixed(), 0));
     assert!(rt; are_listed_once(rt.alloc(), ids) == Ok(true));
+}
+
+// Whether a memory knows nothing of nine squares, then the answer that was put for them, and still nothing of nine that differ in the last.
+fn is_remembered(alloc: Global, ids: [Id; 5]) -> bool {
+    let [first, second, third, fourth, fifth] = ids;
+    let around = [
+        first, second, third, fourth, first, second, third, fourth, first,
+    ];
+    let other = [
+        first, second, third, fourth, first, second, third, fourth, second,
+    ];
+    let mut memory = NeighbourhoodMemory::new(alloc, Seed::fixed());
+    let is_new = memory.get(&around).is_none();
+    memory.put(&around, fifth);
+    is_new && memory.get(&around) == Some(fifth) && memory.get(&other).is_none()
+}
+
+#[test]
+fn nine_squares_are_remembered(rt: HostRuntime) {
+    let ids = five_ids(Shared::new(rt.alloc(), Seed::fixed(), 0));
+    assert!(rt; is_remembered(rt.alloc(), ids));
 }
