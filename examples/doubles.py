@@ -1,8 +1,8 @@
 """The doubles of a folder: prints `FILE = FILE` for each file that is the same pattern as an earlier one, and `FILE: line N: KIND` for each
-that is no pattern, or why it can't be read, on standard error. Files that gzip packed are unpacked. It keeps the SHA-256 hash of each different text.
-The status is 0, or 1 where a file has no text. usage: doubles.py FOLDER"""
+that is no pattern, or why it can't be read, on standard error. Files that gzip packed are unpacked. It keeps the key of each different pattern.
+With `moved` a pattern is the same wherever it lies, and with `turned` whichever way it is turned or reflected too. The status is 0, or 1 where
+a file has no key. usage: doubles.py FOLDER [placed|moved|turned]"""
 import gzip
-import hashlib
 import pathlib
 import sys
 import zlib
@@ -15,20 +15,21 @@ def is_packed(path):
         return file.read(2) == b"\x1f\x8b"
 
 
-def canonical(path):
-    """The canonical text of a file, which is read in pieces."""
+def contents(path):
+    """The bytes of a file."""
     with (gzip.open if is_packed(path) else open)(path, "rb") as file:
-        return golly_canon.stream(file)
+        return file.read()
 
 
 def main(words):
-    if len(words) != 2 or not pathlib.Path(words[1]).is_dir():
-        sys.exit("usage: doubles.py FOLDER")
+    form = words[2] if len(words) == 3 else "placed"
+    if len(words) not in (2, 3) or form not in ("placed", "moved", "turned") or not pathlib.Path(words[1]).is_dir():
+        sys.exit("usage: doubles.py FOLDER [placed|moved|turned]")
     sys.stdout.reconfigure(errors="surrogateescape")
     known, status = {}, 0
     for path in sorted(it for it in pathlib.Path(words[1]).rglob("*") if it.is_file()):
         try:
-            key = hashlib.sha256(canonical(path)).digest()
+            key = golly_canon.key(contents(path), form)
         except (OSError, EOFError, zlib.error, golly_canon.Refused) as why:
             print(f"{path}: {why}", file=sys.stderr)
             status = 1

@@ -99,7 +99,18 @@ enum {
     GOLLY_CANON_STATE_BEYOND_TABLE = 46,
 
     /* the text has more bytes than fit */
-    GOLLY_CANON_NO_ROOM = 64
+    GOLLY_CANON_NO_ROOM = 64,
+
+    /* a number that is that of no form of a pattern */
+    GOLLY_CANON_NO_FORM = 65
+};
+
+/* The forms of a pattern, for the calls with a `form`. Each has the pattern's rule and generation; whether the rule is the same from each side is
+ * not asked. Another number is answered by GOLLY_CANON_NO_FORM. */
+enum {
+    GOLLY_CANON_PLACED = 0, /* the pattern where it lies */
+    GOLLY_CANON_MOVED = 1,  /* its least box moved to (0, 0); where it would leave the plane so, ending with the plane, columns and rows apart */
+    GOLLY_CANON_TURNED = 2  /* of the pattern's eight turns and reflections, each moved, the one whose canonical text is least, byte by byte */
 };
 
 /* `limit`, of each call: how many different squares the store of the call may hold, those on the way to the answer too. A call that comes to
@@ -152,6 +163,28 @@ uint32_t golly_canon_same(const unsigned char *first, size_t first_length,
                           const unsigned char *second, size_t second_length, uint64_t limit, uint64_t seed,
                           uint32_t *is_same, uint64_t *line);
 
+/* The canonical text of the pattern of a file in a form. Two files have one text exactly if they have one rule and one generation, and the cells of
+ * the one are those of the other: as they lie (placed: the text of golly_canon_canon), shifted (moved), or turned or reflected and then shifted
+ * (turned). Moved and turned it is TooManyCells where more than 2^20 cells aren't 0. The store takes the moved pattern too; the eight images are made
+ * in stores of their own, which memory alone bounds. Of a number of no form it is NoForm, with 0 in `*needed` and `*line`.
+ * The caller guarantees what golly_canon_canon names: `out` was written before, and none of `bytes`, `out`, `needed` and `line` is NULL. */
+uint32_t golly_canon_canon_form(const unsigned char *bytes, size_t length, uint32_t form, uint64_t limit, uint64_t seed,
+                                unsigned char *out, size_t room, size_t *needed, uint64_t *line);
+
+/* The key of the pattern of a file in a form: the SHA-256 of the text that golly_canon_canon_form gives. It has 32 bytes, which are no text. It is
+ * refused as that text is, and NoRoom where `room` is less than 32.
+ * The caller guarantees what golly_canon_canon names: `out` was written before, and none of `bytes`, `out`, `needed` and `line` is NULL. */
+uint32_t golly_canon_key(const unsigned char *bytes, size_t length, uint32_t form, uint64_t limit, uint64_t seed,
+                         unsigned char *out, size_t room, size_t *needed, uint64_t *line);
+
+/* Whether two files have one text in a form: `*is_same` is 1 or 0, and 0 where the status isn't GOLLY_CANON_OK. The fault is that of the first file
+ * where that is refused, and else that of the second one. Moved and turned it is then TooManyCells where more than 2^20 cells of one of them aren't
+ * 0; but turned, files of two generations are told apart before. Of a number of no form it is NoForm, with 0 in `*line`.
+ * The caller guarantees what golly_canon_same names: NULL is allowed for none of `first`, `second`, `is_same` and `line`. */
+uint32_t golly_canon_same_form(const unsigned char *first, size_t first_length,
+                               const unsigned char *second, size_t second_length, uint32_t form, uint64_t limit, uint64_t seed,
+                               uint32_t *is_same, uint64_t *line);
+
 /* A stream reads a file that comes in pieces, cut anywhere: open it, feed it each piece in turn, finish it, close it. The file need not be held.
  *
  *     golly_canon_stream stream = {0};
@@ -181,6 +214,10 @@ uint32_t golly_canon_open_to_rle(golly_canon_stream *stream, uint64_t limit, uin
 uint32_t golly_canon_open_show(golly_canon_stream *stream, uint64_t limit, uint64_t seed);
 uint32_t golly_canon_open_step(golly_canon_stream *stream, uint64_t limit, uint64_t seed);
 
+/* The same for what golly_canon_canon_form gives of a whole file in this form. Of a number of no form it is NoForm, and then the stream is closed.
+ * The caller guarantees what is said of `stream`, which isn't NULL. */
+uint32_t golly_canon_open_canon_form(golly_canon_stream *stream, uint32_t form, uint64_t limit, uint64_t seed);
+
 /* Takes the next piece of the file, of any length, also 0. The status is OK, or the number of a kind of fault, with its line of the file in `*line`,
  * or 0. The fault of a line is told by the call that brings the line feed behind it, or the byte that makes the line too long. A stream that has told
  * a fault stays refused: each further golly_canon_feed or golly_canon_finish tells the same fault and line. Spent is told, with 0 in `*line`, where
@@ -200,13 +237,14 @@ uint32_t golly_canon_finish(golly_canon_stream *stream, unsigned char *out, size
  * The caller guarantees what is said of `stream`, which isn't NULL. */
 void golly_canon_close(golly_canon_stream *stream);
 
-/* The name of a status, as `BadChild` of GOLLY_CANON_BAD_CHILD, `OK` and `NoRoom`; no byte for a number that no kind has. The names are
+/* The name of a status, as `BadChild` of GOLLY_CANON_BAD_CHILD, `OK`, `NoRoom` and `NoForm`; no byte for a number that no kind has. The names are
  * those that the program prints. None has more than 23 bytes.
  * The caller guarantees: `room` bytes to write at `out`, which were written before, and `*needed` to write, apart from each other. NULL is allowed for
  * neither `out` nor `needed`. */
 uint32_t golly_canon_status_name(uint32_t status, unsigned char *out, size_t room, size_t *needed);
 
-/* The version of the library, which is that of the program, as `0.2.0`. In 0.2 the calls with a `limit` take a `seed` behind it.
+/* The version of the library, which is that of the program, as `0.2.0`. In 0.2 the calls with a `limit` take a `seed` behind it,
+ * and there are calls with a `form`.
  * The caller guarantees: `room` bytes to write at `out`, which were written before, and `*needed` to write, apart from each other. NULL is allowed for
  * neither `out` nor `needed`. */
 uint32_t golly_canon_version(unsigned char *out, size_t room, size_t *needed);

@@ -10,6 +10,13 @@ A pattern file is bytes in extended RLE or in macrocell. Two files have one cano
       ...
     golly_canon.Refused: line 2: BadChild
 
+A pattern has three forms, each with its canonical text: `placed`, as it lies; `moved`, with its least box at (0, 0), which two files share exactly if
+they are one pattern wherever it lies; and `turned`, which they share exactly if they are one also where it is turned or reflected. `key` is the SHA-256
+of such a text, for a table of many files:
+
+    >>> golly_canon.key(b"x = 3, y = 3\\nbo$2bo$3o!\\n", "turned") == golly_canon.key(b"#CXRLE Pos=9,9\\nx = 3, y = 3\\n3o$2bo$bo!\\n", "turned")
+    True
+
 A file that is refused raises `Refused`. Threads may call at the same time; a `Stream` is used and closed by the thread that made it alone.
 
 The library is found where the environment variable GOLLY_CANON_LIBRARY says, else where the system looks for it, else beside the place of this
@@ -20,12 +27,13 @@ import ctypes
 import os
 import secrets
 import threading
-from typing import Any, BinaryIO, Iterable, Iterator, NamedTuple, Optional, Union
+from typing import Any, BinaryIO, Iterable, Iterator, Literal, NamedTuple, Optional, Union
 
-__all__ = ["Box", "Refused", "Shown", "Stream", "SQUARES", "canon", "same", "show", "step", "stream", "to_rle"]
+__all__ = ["Box", "Form", "Refused", "Shown", "Stream", "SQUARES", "canon", "key", "same", "show", "step", "stream", "to_rle"]
 __version__ = "0.2.0"
 
 Bytes = Union[bytes, bytearray, memoryview]
+Form = Literal["placed", "moved", "turned"]
 
 #: The limit of a call, if none is given: so many different squares, as the program has it. Beyond it a file is refused as `Full`.
 SQUARES = 1 << 31
@@ -34,6 +42,8 @@ _NAME = "libgolly_canon.so.1"
 _HERE = os.path.dirname(os.path.abspath(__file__))
 _PLACES = [os.path.join(_HERE, "..", "..", "lib", _NAME), os.path.join(_HERE, "..", "out", "library", _NAME)]
 _CHUNK = 1 << 16
+_FORMS = ("placed", "moved", "turned")  # by their numbers
+_GIVEN = ("canon", "to_rle", "show", "step")
 _AMBIGUOUS, _NO_ROOM = 43, 64
 _SEED = secrets.randbits(64)  # so that no file can be made that takes long to read
 
@@ -45,15 +55,17 @@ class _Struct(ctypes.Structure):
 
 
 # How the header declares each call.
-_NUMBER, _BYTES = ctypes.c_uint64, [ctypes.c_char_p, ctypes.c_size_t]
+_NUMBER, _FORM, _BYTES = ctypes.c_uint64, ctypes.c_uint32, [ctypes.c_char_p, ctypes.c_size_t]
 _OUT = [ctypes.c_char_p, ctypes.c_size_t, ctypes.POINTER(ctypes.c_size_t)]
 _LINE, _FLAG, _STREAM = ctypes.POINTER(ctypes.c_uint64), ctypes.POINTER(ctypes.c_uint32), ctypes.POINTER(_Struct)
 _CALLS = {
-    **{f"open_{it}": [_STREAM, _NUMBER, _NUMBER] for it in ("canon", "to_rle", "show", "step")},
+    **{f"open_{it}": [_STREAM, _NUMBER, _NUMBER] for it in _GIVEN},
+    "open_canon_form": [_STREAM, _FORM, _NUMBER, _NUMBER],
     "feed": [_STREAM, *_BYTES, _LINE],
     "finish": [_STREAM, *_OUT, _LINE],
     "close": [_STREAM],
-    "same": [*_BYTES, *_BYTES, _NUMBER, _NUMBER, _FLAG, _LINE],
+    "key": [*_BYTES, _FORM, _NUMBER, _NUMBER, *_OUT, _LINE],
+    "same_form": [*_BYTES, *_BYTES, _FORM, _NUMBER, _NUMBER, _FLAG, _LINE],
     "step_by_table": [*_BYTES, *_BYTES, _NUMBER, _NUMBER, *_OUT, _LINE, _FLAG],
     "status_name": [ctypes.c_uint32, *_OUT],
     "version": _OUT,
@@ -152,14 +164,21 @@ class Stream:
                 file.feed(chunk)
             text = file.finish()
 
-    `gives` says what comes of it: `canon`, `to_rle`, `show` or `step`. `limit` is the most different squares that it may store.
+    `gives` says what comes of it: `canon`, `to_rle`, `show` or `step`; `form` is that of the text of `canon`. `limit` is the most different squares
+    that it may store.
     """
 
-    def __init__(self, gives: str = "canon", *, limit: int = SQUARES) -> None:
+    def __init__(self, gives: str = "canon", *, form: Form = "placed", limit: int = SQUARES) -> None:
         self._struct, self._line, self._thread = _Struct(), ctypes.c_uint64(), threading.get_ident()
-        if f"open_{gives}" not in _CALLS:
+        if gives not in _GIVEN:
             raise ValueError(f"a stream gives canon, to_rle, show or step, and not {gives!r}")
-        self._check(getattr(_library, f"golly_canon_open_{gives}")(self._own(), _limit_of(limit), _SEED))
+        if gives == "canon":
+            status = _library.golly_canon_open_canon_form(self._own(), _number_of(form), _limit_of(limit), _SEED)
+        elif form == "placed":
+            status = getattr(_library, f"golly_canon_open_{gives}")(self._own(), _limit_of(limit), _SEED)
+        else:
+            raise ValueError(f"{gives} takes a pattern as it lies")
+        self._check(status)
 
     def _own(self) -> Any:
         """The stream as a call takes it, in the thread that made it."""
@@ -210,26 +229,44 @@ def _limit_of(limit: int) -> int:
     return min(limit, 1 << 62)
 
 
+def _number_of(form: Form) -> int:
+    """The number of a form."""
+    if form not in _FORMS:
+        raise ValueError(f"a form is placed, moved or turned, and not {form!r}")
+    return _FORMS.index(form)
+
+
 def _chunks_of(source: Union[BinaryIO, Iterable[Bytes]]) -> Iterator[Bytes]:
     """The chunks of an open file, or the chunks that were given."""
     read = getattr(source, "read", None)
     return iter(source) if read is None else iter(lambda: read(_CHUNK), b"")
 
 
-def stream(source: Union[BinaryIO, Iterable[Bytes]], gives: str = "canon", *, limit: int = SQUARES) -> bytes:
+def stream(source: Union[BinaryIO, Iterable[Bytes]], gives: str = "canon", *, form: Form = "placed", limit: int = SQUARES) -> bytes:
     """The text of a file that comes in chunks: of a file that is open for reading in binary, or of an iterable of chunks.
 
-    `gives` is `canon`, `to_rle`, `show` or `step`. What it reads is not held. Raises `Refused`.
+    `gives` is `canon`, `to_rle`, `show` or `step`; `form` is that of the text of `canon`. What it reads is not held. Raises `Refused`.
     """
-    with Stream(gives, limit=limit) as file:
+    with Stream(gives, form=form, limit=limit) as file:
         for chunk in _chunks_of(source):
             file.feed(chunk)
         return file.finish()
 
 
-def canon(data: Bytes, *, limit: int = SQUARES) -> bytes:
-    """The canonical text of the pattern of a file. Raises `Refused`."""
-    return stream([data], "canon", limit=limit)
+def canon(data: Bytes, form: Form = "placed", *, limit: int = SQUARES) -> bytes:
+    """The canonical text of the pattern of a file, in a form. Raises `Refused`, also of a pattern with more than 2^20 cells that aren't 0 (`TooManyCells`),
+    unless the form is `placed`."""
+    return stream([data], "canon", form=form, limit=limit)
+
+
+def key(data: Bytes, form: Form = "placed", *, limit: int = SQUARES) -> bytes:
+    """The SHA-256 of the text that `canon` gives, 32 bytes; `.hex()` is what `sha256sum` writes of it. Raises `Refused` as `canon` does."""
+    file, found, needed, line = _bytes_of(data), ctypes.create_string_buffer(32), ctypes.c_size_t(), ctypes.c_uint64()
+    out = found, len(found), ctypes.byref(needed), ctypes.byref(line)
+    status = _library.golly_canon_key(file, len(file), _number_of(form), _limit_of(limit), _SEED, *out)
+    if status:
+        raise _refused(status, line.value, False)
+    return found.raw
 
 
 def to_rle(data: Bytes, *, limit: int = SQUARES) -> bytes:
@@ -242,12 +279,13 @@ def show(data: Bytes, *, limit: int = SQUARES) -> Shown:
     return Shown.of(stream([data], "show", limit=limit))
 
 
-def same(first: Bytes, second: Bytes, *, limit: int = SQUARES) -> bool:
-    """Whether two files are one pattern. Raises `Refused` for the first file where that is refused, and else for the second."""
-    one, other = _bytes_of(first), _bytes_of(second)
+def same(first: Bytes, second: Bytes, form: Form = "placed", *, limit: int = SQUARES) -> bool:
+    """Whether two files are one pattern, in a form: whether `canon` gives one text of them. Raises `Refused` for the first file where that is refused,
+    and else for the second."""
+    one, other, number = _bytes_of(first), _bytes_of(second), _number_of(form)
     is_same, line = ctypes.c_uint32(), ctypes.c_uint64()
     answered = ctypes.byref(is_same), ctypes.byref(line)
-    status = _library.golly_canon_same(one, len(one), other, len(other), _limit_of(limit), _SEED, *answered)
+    status = _library.golly_canon_same_form(one, len(one), other, len(other), number, _limit_of(limit), _SEED, *answered)
     if status:
         raise _refused(status, line.value, False)
     return bool(is_same.value)

@@ -1,7 +1,9 @@
 /* Does by the library what the program golly_canon does with the same words, to compare the two: it writes the same bytes, and ends with the
    same status. The memory for a text is a byte at first, so that each text is asked for again.
    calls canon FILE | show FILE | rle FILE | step FILE [TABLE] | same A B
-   calls pieces N canon FILE | show FILE | rle FILE | step FILE: by a stream, which is fed N bytes at a time. Nothing is held at the end then,
+   calls moved FILE | turned FILE | same_moved A B | same_turned A B: the canonical text in a form, and the comparison
+   calls key FILE | key_moved FILE | key_turned FILE: the 32 bytes of the key
+   calls pieces N canon FILE | show FILE | rle FILE | step FILE | moved FILE | turned FILE: by a stream, which is fed N bytes at a time. Nothing is held at the end then,
    also where memory is refused. */
 #include <golly_canon.h>
 #include <stdio.h>
@@ -66,12 +68,36 @@ static int refused(uint32_t status, uint64_t line, int in_table)
 
 typedef uint32_t text_call(const unsigned char *, size_t, uint64_t, uint64_t, unsigned char *, size_t, size_t *, uint64_t *);
 
+/* The calls in a form, with the arguments of the others. */
+#define IN_FORM(name, call, form) \
+    static uint32_t name(const unsigned char *bytes, size_t length, uint64_t limit, uint64_t seed, \
+                         unsigned char *out, size_t room, size_t *needed, uint64_t *line) \
+    { \
+        return call(bytes, length, form, limit, seed, out, room, needed, line); \
+    }
+IN_FORM(moved, golly_canon_canon_form, GOLLY_CANON_MOVED)
+IN_FORM(turned, golly_canon_canon_form, GOLLY_CANON_TURNED)
+IN_FORM(key, golly_canon_key, GOLLY_CANON_PLACED)
+IN_FORM(key_moved, golly_canon_key, GOLLY_CANON_MOVED)
+IN_FORM(key_turned, golly_canon_key, GOLLY_CANON_TURNED)
+
+static text_call *call_of(const char *word)
+{
+    static const struct {
+        const char *word;
+        text_call *call;
+    } all[] = {{"canon", golly_canon_canon}, {"show", golly_canon_show}, {"rle", golly_canon_to_rle}, {"step", golly_canon_step},
+               {"moved", moved}, {"turned", turned}, {"key", key}, {"key_moved", key_moved}, {"key_turned", key_turned}};
+    size_t i;
+    for (i = 0; i < sizeof all / sizeof *all; i++)
+        if (!strcmp(all[i].word, word))
+            return all[i].call;
+    exit(5);
+}
+
 static int text(const char *word, struct bytes file, const struct bytes *table)
 {
-    text_call *call = !strcmp(word, "canon") ? golly_canon_canon
-        : !strcmp(word, "show")              ? golly_canon_show
-        : !strcmp(word, "rle")               ? golly_canon_to_rle
-                                             : golly_canon_step;
+    text_call *call = call_of(word);
     struct bytes answer = {room_for(1), 1};
     size_t needed = 12345;
     uint64_t line = 12345;
@@ -94,11 +120,15 @@ static int text(const char *word, struct bytes file, const struct bytes *table)
     return status == GOLLY_CANON_OK ? 0 : refused(status, line, (int)in_table);
 }
 
-static int same(struct bytes first, struct bytes second)
+static int same(const char *word, struct bytes first, struct bytes second)
 {
     uint32_t is_same = 12345, status;
     uint64_t line;
-    status = golly_canon_same(first.at, first.length, second.at, second.length, GOLLY_CANON_SQUARES, SEED, &is_same, &line);
+    if (!strcmp(word, "same"))
+        status = golly_canon_same(first.at, first.length, second.at, second.length, GOLLY_CANON_SQUARES, SEED, &is_same, &line);
+    else
+        status = golly_canon_same_form(first.at, first.length, second.at, second.length,
+                                       !strcmp(word, "same_moved") ? GOLLY_CANON_MOVED : GOLLY_CANON_TURNED, GOLLY_CANON_SQUARES, SEED, &is_same, &line);
     if (status != GOLLY_CANON_OK)
         return refused(status, line, 0);
     fputs(is_same ? "same\n" : "different\n", stdout);
@@ -139,12 +169,24 @@ static uint32_t finish(golly_canon_stream *stream, struct bytes *answer, uint64_
     return answer->at ? golly_canon_finish(stream, answer->at, answer->length, &answer->length, line) : GOLLY_CANON_MEMORY;
 }
 
+static uint32_t open_moved(golly_canon_stream *stream, uint64_t limit, uint64_t seed)
+{
+    return golly_canon_open_canon_form(stream, GOLLY_CANON_MOVED, limit, seed);
+}
+
+static uint32_t open_turned(golly_canon_stream *stream, uint64_t limit, uint64_t seed)
+{
+    return golly_canon_open_canon_form(stream, GOLLY_CANON_TURNED, limit, seed);
+}
+
 static int stream(const char *word, const char *name, size_t size)
 {
     static char in[1 << 16];
     open_call *open = !strcmp(word, "canon") ? golly_canon_open_canon
         : !strcmp(word, "show")              ? golly_canon_open_show
         : !strcmp(word, "rle")               ? golly_canon_open_to_rle
+        : !strcmp(word, "moved")             ? open_moved
+        : !strcmp(word, "turned")            ? open_turned
                                              : golly_canon_open_step;
     golly_canon_stream stream = {0};
     struct bytes answer = {NULL, 12345};
@@ -181,8 +223,8 @@ int main(int count, char **words)
     first = file_of(words[2]);
     if (count > 3)
         second = file_of(words[3]);
-    if (!strcmp(words[1], "same") && count > 3)
-        status = same(first, second);
+    if (!strncmp(words[1], "same", 4) && count > 3)
+        status = same(words[1], first, second);
     else
         status = text(words[1], first, count > 3 ? &second : NULL);
     free(first.at);

@@ -133,6 +133,165 @@ static void comparisons(void)
               && line == 2, "same refuses the first file first");
 }
 
+/* Files, and the pattern that each is in a form, as a file of RLE: worked out by hand. The plane goes from -2^61 to 2^61 - 1. */
+#define FIRST "-2305843009213693952"
+static const struct {
+    const char *what;
+    uint32_t form;
+    const char *file, *as;
+} formed[] = {
+    {"a pattern lies where it lies", GOLLY_CANON_PLACED, "#CXRLE Pos=-5,7\nx = 3, y = 3\nbo$2bo$3o!\n", "#CXRLE Pos=-5,7\nx = 3, y = 3\nbo$2bo$3o!\n"},
+    {"a glider at (0, 0)", GOLLY_CANON_MOVED, GLIDER, GLIDER},
+    {"a glider far away", GOLLY_CANON_MOVED, "#CXRLE Pos=-12345,777\nx = 3, y = 3\nbo$2bo$3o!\n", GLIDER},
+    {"a glider at the first corner", GOLLY_CANON_MOVED, "#CXRLE Pos=" FIRST "," FIRST "\nx = 3, y = 3\nbo$2bo$3o!\n", GLIDER},
+    {"a glider at the last corner", GOLLY_CANON_MOVED, "#CXRLE Pos=2305843009213693949,2305843009213693949\nx = 3, y = 3\nbo$2bo$3o!\n", GLIDER},
+    {"a generation stays", GOLLY_CANON_MOVED, "#CXRLE Pos=-12345,777 Gen=9\nx = 1, y = 1\no!\n", "#CXRLE Pos=0,0 Gen=9\nx = 1, y = 1\no!\n"},
+    {"a blank pattern, moved", GOLLY_CANON_MOVED, "x = 0, y = 0\n!\n", "x = 0, y = 0\n!\n"},
+    {"a blank pattern, turned", GOLLY_CANON_TURNED, "x = 0, y = 0\n!\n", "x = 0, y = 0\n!\n"},
+    {"256 states, moved", GOLLY_CANON_MOVED, "#CXRLE Pos=" FIRST "," FIRST "\nx = 2, y = 1, rule = Spread\nyOpA!\n", "x = 2, y = 1, rule = Spread\nyOpA!\n"},
+    {"256 states, turned", GOLLY_CANON_TURNED, "#CXRLE Pos=" FIRST "," FIRST "\nx = 2, y = 1, rule = Spread\nyOpA!\n", "x = 1, y = 2, rule = Spread\npA$yO!\n"},
+    {"a box of 2^61 columns", GOLLY_CANON_MOVED, "#CXRLE Pos=" FIRST ",777\nx = 1, y = 1\no2305843009213693950bo!\n", "x = 1, y = 1\no2305843009213693950bo!\n"},
+    {"a column more ends with the plane", GOLLY_CANON_MOVED, "#CXRLE Pos=" FIRST ",777\nx = 1, y = 1\no2305843009213693951bo!\n",
+     "#CXRLE Pos=-1,0\nx = 1, y = 1\no2305843009213693951bo!\n"},
+    {"a box as wide as the plane", GOLLY_CANON_MOVED, "#CXRLE Pos=" FIRST ",777\nx = 1, y = 1\no4611686018427387902bo!\n",
+     "#CXRLE Pos=" FIRST ",0\nx = 1, y = 1\no4611686018427387902bo!\n"},
+    {"a box as high as the plane", GOLLY_CANON_MOVED, "#CXRLE Pos=777," FIRST "\nx = 1, y = 1\no4611686018427387903$o!\n",
+     "#CXRLE Pos=0," FIRST "\nx = 1, y = 1\no4611686018427387903$o!\n"},
+    {"cells at the corners of the plane", GOLLY_CANON_MOVED, "#CXRLE Pos=" FIRST "," FIRST "\nx = 2, y = 2\no4611686018427387902bo4611686018427387903$o!\n",
+     "#CXRLE Pos=" FIRST "," FIRST "\nx = 2, y = 2\no4611686018427387902bo4611686018427387903$o!\n"},
+};
+
+/* The eight images of a glider. The last one has the least text: its first row ends behind one cell. */
+static const char *const images[] = {
+    "x = 3, y = 3\nbo$2bo$3o!\n", "x = 3, y = 3\nbo$o$3o!\n", "x = 3, y = 3\n3o$2bo$bo!\n", "x = 3, y = 3\n3o$o$bo!\n",
+    "x = 3, y = 3\n2bo$obo$b2o!\n", "x = 3, y = 3\nb2o$obo$2bo!\n", "x = 3, y = 3\n2o$obo$o!\n", "x = 3, y = 3\no$obo$2o!\n"};
+#define TURNED_TEXT "[M2] (canonical 1)\n#R B3/S23\n$$$$....*$....*.*$....**$$\n"
+/* The SHA-256 of GLIDER_TEXT and of TURNED_TEXT, by sha256sum. */
+static const char GLIDER_KEY[] = "6d49a09978fd167769af106a97e3186cee07cf07e2e4481424797f7ae40b5459", TURNED_KEY[] = "0aaddeefbb950e8c098a8737580356b393d111c5bc6b88da9d7d913837ffba1c";
+/* 2^20 + 1 cells. */
+#define MANY "x = 1, y = 1\n1048577o!\n"
+
+/* Whether the text of a file in a form is the canonical text of another file. */
+static int is_formed(const char *file, uint32_t form, const char *as)
+{
+    static unsigned char text[8192], wanted[8192];
+    size_t length = 12345, wanted_length = 12345;
+    return golly_canon_canon_form((const unsigned char *)file, strlen(file), form, LIMIT, SEED, text, sizeof text, &length, &line) == GOLLY_CANON_OK
+        && line == 0 && golly_canon_canon((const unsigned char *)as, strlen(as), LIMIT, SEED, wanted, sizeof wanted, &wanted_length, &line) == GOLLY_CANON_OK
+        && length == wanted_length && memcmp(text, wanted, length) == 0;
+}
+
+static int is_key(uint32_t status, const char *key)
+{
+    char found[65] = "";
+    size_t i;
+    for (i = 0; i < 32; i++)
+        snprintf(found + 2 * i, 3, "%02x", memory[i]);
+    return status == GOLLY_CANON_OK && needed == 32 && line == 0 && strcmp(found, key) == 0 && untouched_from(32);
+}
+
+/* Whether the comparison of two files in a form ends with this status and line, and tells this. */
+static int is_compared(const char *first, const char *second, uint32_t form, uint32_t wanted, uint64_t at, uint32_t answer)
+{
+    uint32_t is_same = 12345, status;
+    line = 12345;
+    status = golly_canon_same_form((const unsigned char *)first, strlen(first), (const unsigned char *)second, strlen(second), form, LIMIT, SEED,
+                                   &is_same, &line);
+    return status == wanted && line == at && is_same == answer;
+}
+
+static void texts_in_forms(void)
+{
+    size_t i, length = sizeof GLIDER_TEXT - 1;
+    for (i = 0; i < sizeof formed / sizeof *formed; i++)
+        check(is_formed(formed[i].file, formed[i].form, formed[i].as), formed[i].what);
+    for (i = 0; i < 8; i++) {
+        check(is_text(golly_canon_canon_form((const unsigned char *)images[i], strlen(images[i]), GOLLY_CANON_TURNED, LIMIT, SEED, fresh(), WIDE, &needed,
+                                             &line), TURNED_TEXT) && line == 0, "an image of a glider, turned");
+        check(is_formed(images[i], GOLLY_CANON_MOVED, images[i]), "an image of a glider, moved");
+    }
+    check(is_text(golly_canon_canon_form(BYTES(GLIDER), GOLLY_CANON_MOVED, LIMIT, SEED, fresh(), length, &needed, &line), GLIDER_TEXT),
+          "canon_form fills the memory to its end");
+    check(golly_canon_canon_form(BYTES(GLIDER), GOLLY_CANON_MOVED, LIMIT, SEED, fresh(), length - 1, &needed, &line) == GOLLY_CANON_NO_ROOM
+              && needed == length && line == 0 && untouched_from(0), "canon_form writes nothing where the text doesn't fit");
+    for (i = 0; i < 3; i++) {
+        uint32_t form = (uint32_t)i;
+        check(is_fault(golly_canon_canon_form(BYTES("[M2]\n#R B3/S23\n....*$$$$$$$$\n4 0 0 0 9\n"), form, LIMIT, SEED, fresh(), WIDE, &needed, &line),
+                       GOLLY_CANON_BAD_CHILD, 4), "canon_form names the line and the kind");
+        check(is_fault(golly_canon_canon_form(BYTES(GLIDER), form, 0, SEED, fresh(), WIDE, &needed, &line), GOLLY_CANON_FULL, 0),
+              "a limit of 0 is full in each form");
+        check(is_fault(golly_canon_key(BYTES(GLIDER), form, 0, SEED, fresh(), WIDE, &needed, &line), GOLLY_CANON_FULL, 0), "and for its key");
+    }
+    check(golly_canon_canon_form(BYTES(MANY), GOLLY_CANON_PLACED, LIMIT, SEED, fresh(), 0, &needed, &line) == GOLLY_CANON_NO_ROOM && needed > 0,
+          "a placed pattern may have many cells");
+    check(is_fault(golly_canon_canon_form(BYTES(MANY), GOLLY_CANON_MOVED, LIMIT, SEED, fresh(), WIDE, &needed, &line), GOLLY_CANON_TOO_MANY_CELLS, 0),
+          "a moved one may not");
+    check(is_fault(golly_canon_canon_form(BYTES(MANY), GOLLY_CANON_TURNED, LIMIT, SEED, fresh(), WIDE, &needed, &line), GOLLY_CANON_TOO_MANY_CELLS, 0),
+          "nor a turned one");
+    check(is_fault(golly_canon_canon_form(BYTES(GLIDER), 3, LIMIT, SEED, fresh(), WIDE, &needed, &line), GOLLY_CANON_NO_FORM, 0), "3 is no form");
+    check(is_fault(golly_canon_canon_form(BYTES("x\n"), UINT32_MAX, LIMIT, SEED, fresh(), WIDE, &needed, &line), GOLLY_CANON_NO_FORM, 0),
+          "no form is told before the file is read");
+}
+
+static void keys(void)
+{
+    check(is_key(golly_canon_key(BYTES(GLIDER), GOLLY_CANON_PLACED, LIMIT, SEED, fresh(), WIDE, &needed, &line), GLIDER_KEY), "the key of a placed glider");
+    check(is_key(golly_canon_key(BYTES("#CXRLE Pos=5,5\n" GLIDER), GOLLY_CANON_MOVED, LIMIT, SEED, fresh(), WIDE, &needed, &line), GLIDER_KEY),
+          "the key of a moved glider");
+    check(is_key(golly_canon_key(BYTES(GLIDER), GOLLY_CANON_TURNED, LIMIT, SEED, fresh(), 32, &needed, &line), TURNED_KEY), "the key of a turned glider");
+    check(golly_canon_key(BYTES(GLIDER), GOLLY_CANON_MOVED, LIMIT, SEED, fresh(), 31, &needed, &line) == GOLLY_CANON_NO_ROOM && needed == 32 && line == 0
+              && untouched_from(0), "a key may lack room");
+    check(is_fault(golly_canon_key(BYTES("x = 3\n"), GOLLY_CANON_MOVED, LIMIT, SEED, fresh(), WIDE, &needed, &line), GOLLY_CANON_BAD_HEADER, 1),
+          "a key is refused as the text");
+    check(is_fault(golly_canon_key(BYTES(MANY), GOLLY_CANON_TURNED, LIMIT, SEED, fresh(), WIDE, &needed, &line), GOLLY_CANON_TOO_MANY_CELLS, 0),
+          "so is that of too many cells");
+    check(is_fault(golly_canon_key(BYTES(GLIDER), 3, LIMIT, SEED, fresh(), WIDE, &needed, &line), GOLLY_CANON_NO_FORM, 0), "no form has no key");
+}
+
+static void comparisons_in_forms(void)
+{
+    static const char shifted[] = "#CXRLE Pos=-12345,777\nx = 3, y = 3\nbo$2bo$3o!\n", later[] = "#CXRLE Gen=1\nx = 3, y = 3\nbo$2bo$3o!\n";
+    static const char other_rule[] = "x = 3, y = 3, rule = B36/S23\nbo$2bo$3o!\n", more[] = "x = 3, y = 3\nbo$2bo$4o!\n";
+    size_t i;
+    for (i = 0; i < 8; i++) {
+        check(is_compared(images[i], shifted, GOLLY_CANON_MOVED, GOLLY_CANON_OK, 0, i == 0), "a shift takes one image alone to a glider");
+        check(is_compared(images[i], shifted, GOLLY_CANON_TURNED, GOLLY_CANON_OK, 0, 1), "a turn takes each image to a glider");
+    }
+    for (i = 0; i < 3; i++) {
+        uint32_t form = (uint32_t)i;
+        check(is_compared(GLIDER, GLIDER_TEXT, form, GOLLY_CANON_OK, 0, 1), "two spellings are one in each form");
+        check(is_compared(GLIDER, later, form, GOLLY_CANON_OK, 0, 0), "two generations are told apart");
+        check(is_compared(GLIDER, other_rule, form, GOLLY_CANON_OK, 0, 0), "so are two rules");
+        check(is_compared(GLIDER, more, form, GOLLY_CANON_OK, 0, 0), "and two patterns");
+        check(is_compared("\nx\n", "x = 1, y = 1\n0o!\n", form, GOLLY_CANON_BAD_HEADER, 2, 0), "the first file is refused first");
+        check(is_compared(GLIDER, "x = 1, y = 1\n0o!\n", form, GOLLY_CANON_ZERO_COUNT, 2, 0), "the second file is refused");
+        check(is_compared(MANY, "x = 1, y = 1\n0o!\n", form, GOLLY_CANON_ZERO_COUNT, 2, 0), "it is refused before cells are counted");
+    }
+    check(is_compared(GLIDER, shifted, GOLLY_CANON_PLACED, GOLLY_CANON_OK, 0, 0), "a placed glider isn't one elsewhere");
+    check(is_compared(MANY, MANY, GOLLY_CANON_PLACED, GOLLY_CANON_OK, 0, 1), "placed patterns of many cells are compared");
+    check(is_compared(GLIDER, MANY, GOLLY_CANON_MOVED, GOLLY_CANON_TOO_MANY_CELLS, 0, 0), "moved ones aren't");
+    check(is_compared(MANY, GLIDER, GOLLY_CANON_TURNED, GOLLY_CANON_TOO_MANY_CELLS, 0, 0), "nor turned ones");
+    check(is_compared(later, MANY, GOLLY_CANON_TURNED, GOLLY_CANON_OK, 0, 0), "but two generations are told apart before");
+    check(is_compared(GLIDER, "", 3, GOLLY_CANON_NO_FORM, 0, 0), "no form is told before a file is read");
+}
+
+static void forms(void)
+{
+    texts_in_forms();
+    keys();
+    comparisons_in_forms();
+}
+
+static uint32_t open_moved(golly_canon_stream *stream, uint64_t limit, uint64_t seed)
+{
+    return golly_canon_open_canon_form(stream, GOLLY_CANON_MOVED, limit, seed);
+}
+
+static uint32_t open_turned(golly_canon_stream *stream, uint64_t limit, uint64_t seed)
+{
+    return golly_canon_open_canon_form(stream, GOLLY_CANON_TURNED, limit, seed);
+}
+
 /* A file of a stream, and the text that its finish gives. */
 typedef uint32_t open_call(golly_canon_stream *, uint64_t, uint64_t);
 static const struct {
@@ -149,6 +308,8 @@ static const struct {
     {"to_rle in pieces", golly_canon_open_to_rle, BYTES(GLIDER_TEXT), "#CXRLE Pos=0,0\nx = 3, y = 3, rule = B3/S23\nbo$2bo$3o!\n"},
     {"show in pieces", golly_canon_open_show, BYTES(GLIDER), "rule B3/S23\ngeneration 0\npopulation 5\nbox 0 0 3 3\nnodes 1\n"},
     {"step in pieces", golly_canon_open_step, BYTES("x = 3, y = 1\n3o!\n"), "[M2] (canonical 1)\n#R B3/S23\n#G 1\n$$$.....*$.....*$.....*$$$\n"},
+    {"a moved text in pieces", open_moved, BYTES("#CXRLE Pos=-12345,777\n" GLIDER), GLIDER_TEXT},
+    {"a turned text in pieces", open_turned, BYTES("x = 3, y = 3\n3o$o$bo!\n"), TURNED_TEXT},
 };
 
 /* A file that is refused: the first byte of `refused` is the first that is fed with the fault, and where it has no byte, finish tells the fault. */
@@ -169,6 +330,8 @@ static const struct {
     {"an empty file", golly_canon_open_canon, BYTES(""), "", GOLLY_CANON_NO_HEADER, 1},
     {"too many cells", golly_canon_open_to_rle, BYTES("x = 2000000, y = 1\n2000000o!\n"), "", GOLLY_CANON_TOO_MANY_CELLS, 0},
     {"a name without a table", golly_canon_open_step, BYTES(WIRE), "", GOLLY_CANON_NEEDS_TABLE, 0},
+    {"too many cells to be moved", open_moved, BYTES(MANY), "", GOLLY_CANON_TOO_MANY_CELLS, 0},
+    {"a child of a turned pattern", open_turned, BYTES("[M2]\n4 0 0 0 9"), "\n", GOLLY_CANON_BAD_CHILD, 2},
 };
 
 static uint32_t feed(golly_canon_stream *stream, const void *piece, size_t length)
@@ -326,6 +489,9 @@ static void open_streams(void)
     check(golly_canon_open_step(&stream, LIMIT, SEED) == GOLLY_CANON_OK && is_told(&stream, BYTES("x\n"), GOLLY_CANON_BAD_HEADER, 1)
               && golly_canon_open_canon(&stream, LIMIT, SEED) == GOLLY_CANON_OK && is_fed(&stream, BYTES(GLIDER)) && is_finished(&stream, GLIDER_TEXT),
           "a refused stream is opened");
+    check(golly_canon_open_canon_form(&stream, GOLLY_CANON_PLACED, LIMIT, SEED) == GOLLY_CANON_OK && is_fed(&stream, BYTES(GLIDER))
+              && is_finished(&stream, GLIDER_TEXT), "a stream is opened for a placed text");
+    check(golly_canon_open_canon_form(&stream, 3, LIMIT, SEED) == GOLLY_CANON_NO_FORM && is_spent(&stream), "a stream of no form is closed");
     golly_canon_close(&stream);
 }
 
@@ -391,7 +557,7 @@ static void names(void)
         {34, "UnsupportedNeighborhood"}, {35, "UnsupportedSymmetry"}, {36, "BadVariable"}, {37, "BadTransition"}, {38, "UnboundOutput"},
         {39, "NotQuiet"}, {40, ""}, {41, "RuleMismatch"}, {42, "NeedsTable"}, {43, "Ambiguous"}, {44, "TooManyCells"},
         {45, "GenerationTooLarge"}, {46, "StateBeyondTable"}, {51, "ReadFault"}, {52, "WriteFault"}, {53, "InputTooLong"}, {54, ""},
-        {64, "NoRoom"}, {65, ""}, {256, ""}, {257, ""}, {UINT32_MAX, ""}};
+        {64, "NoRoom"}, {65, "NoForm"}, {66, ""}, {256, ""}, {257, ""}, {UINT32_MAX, ""}};
     size_t i;
     for (i = 0; i < sizeof all / sizeof *all; i++)
         check(is_name(all[i].status, all[i].name), all[i].name[0] ? all[i].name : "a number without a name");
@@ -453,7 +619,7 @@ static void *deep_calls(void *given_count)
     golly_canon_stream stream = {0};
     size_t length;
     uint64_t at;
-    uint32_t same, in_table, status;
+    uint32_t same, in_table, status, form;
     long *wrong = given_count;
     *wrong += golly_canon_canon(BYTES(CORNERS), LIMIT, SEED, own, sizeof own, &length, &at) != GOLLY_CANON_OK;
     *wrong += golly_canon_show(BYTES(CORNERS), LIMIT, SEED, own, sizeof own, &length, &at) != GOLLY_CANON_OK;
@@ -464,6 +630,11 @@ static void *deep_calls(void *given_count)
     *wrong += golly_canon_same(BYTES(CORNERS), BYTES(ROWS), LIMIT, SEED, &same, &at) != GOLLY_CANON_OK || same;
     *wrong += golly_canon_canon(BYTES(ROWS), LIMIT, SEED, own, sizeof own, &length, &at) != GOLLY_CANON_OK;
     *wrong += golly_canon_show(BYTES(ROWS), LIMIT, SEED, own, sizeof own, &length, &at) != GOLLY_CANON_OK;
+    for (form = GOLLY_CANON_PLACED; form <= GOLLY_CANON_TURNED; form++) {
+        *wrong += golly_canon_canon_form(BYTES(CORNERS), form, LIMIT, SEED, own, sizeof own, &length, &at) != GOLLY_CANON_OK;
+        *wrong += golly_canon_key(BYTES(CORNERS), form, LIMIT, SEED, own, sizeof own, &length, &at) != GOLLY_CANON_OK;
+        *wrong += golly_canon_same_form(BYTES(CORNERS), BYTES(CORNERS), form, LIMIT, SEED, &same, &at) != GOLLY_CANON_OK || !same;
+    }
     status = golly_canon_open_step(&stream, LIMIT, SEED);
     if (status == GOLLY_CANON_OK)
         status = golly_canon_feed(&stream, BYTES(CORNERS), &at);
@@ -491,6 +662,7 @@ int main(void)
     texts();
     tables();
     comparisons();
+    forms();
     streams();
     names();
     threads();

@@ -1,11 +1,12 @@
 #!/usr/bin/env python3
 """Calls the shared library by ctypes, beside the program, on each file of a folder and on files that are refused, by each limit of a store in turn
-beside the independent reader, and from two threads at once; and streams, fed in random pieces, beside the calls on whole files. The last line is
-'N passed, M failed'.
+beside the independent reader, and from two threads at once; streams, fed in random pieces, beside the calls on whole files; and the forms of small and
+random files, their keys too, beside the independent reader. The last line is 'N passed, M failed'.
 
 usage: tests/library/library.py PROGRAM FOLDER"""
 
 import ctypes
+import hashlib
 import os
 import pathlib
 import random
@@ -15,8 +16,8 @@ from typing import NamedTuple
 
 sys.path.insert(0, os.path.dirname(os.path.dirname(os.path.abspath(__file__))))
 
-from independent import commands  # noqa: E402
-from independent.fuzz import small_files  # noqa: E402
+from independent import commands, forms, rle, rules  # noqa: E402
+from independent.fuzz import random_files, small_files  # noqa: E402
 from shared import c_interface, processes  # noqa: E402
 from shared.c_interface import FULL, LINE_TOO_LONG, NO_ROOM, SPENT, SQUARES, Stream  # noqa: E402
 from shared.counting import check, ended  # noqa: E402
@@ -25,6 +26,7 @@ library = c_interface.loaded()
 
 # The greatest limit of a store that is tried.
 MOST_LIMIT = 4096
+RANDOM_FILES = 300
 IN_PIECES = " in pieces"
 
 
@@ -65,6 +67,18 @@ STEPPED = {
     "no header": (b"o!\n", small_files.SPREAD_TABLE, 0),
 }
 
+# Files with their least limits for a moved text, and for a comparison with the first of them, moved: of each file what reading it takes, then the squares
+# of the plane of the moved pattern, and its root.
+MOVED = {
+    "a glider": (small_files.LIFE_FILES["a glider"], 66, 66),
+    "a glider far away": (b"#CXRLE Pos=-12345,777\nx = 3, y = 3\nbo$2bo$3o!\n", 132, 132),
+    "the example glider.mc": (small_files.LIFE_FILES["the example glider.mc"], 70, 70),
+    "a blank plane": (b"x = 0, y = 0, rule = 23/3\n!\n", 0, 66),
+    "two states at the corner": (small_files.NAMED_FILES["two states at the corner"][0], 186, 252),
+    "cells at the ends of the plane": (b"#CXRLE Pos=-2305843009213693952,777\nx = 1, y = 1\no4611686018427387902bo!\n", 246, 309),
+    "no header": (b"o!\n", 0, 66),
+}
+
 # Each call on a whole file, and what opens a stream that ends with its answer.
 CALLS = {
     "canon": (library.golly_canon_canon, library.golly_canon_open_canon),
@@ -100,16 +114,33 @@ def stepped_by(table):
     return call
 
 
-def compared_with(other):
+def compared_with(other, same=library.golly_canon_same):
     """The call that compares with another file, with the arguments of the others. It writes the line of the program."""
     def call(file, length, limit, seed, out, room, needed, line):
         is_same = ctypes.c_uint32()
-        status = library.golly_canon_same(file, length, other, ctypes.c_size_t(len(other)), limit, seed, ctypes.byref(is_same), line)
+        status = same(file, length, other, ctypes.c_size_t(len(other)), limit, seed, ctypes.byref(is_same), line)
         text = b"" if status else (b"same\n" if is_same.value else b"different\n")
         ctypes.memmove(out, text, len(text))
         needed._obj.value = len(text)
         return status
     return call
+
+
+def in_form(call, form):
+    """A call in a form, with the arguments of the others."""
+    return lambda file, length, *others: call(file, length, ctypes.c_uint32(forms.FORMS.index(form)), *others)
+
+
+def compared_in(other, form):
+    """The call that compares with another file in a form, with the arguments of the others, as `compared_with`."""
+    def call(first, length, second, other_length, *others):
+        return library.golly_canon_same_form(first, length, second, other_length, ctypes.c_uint32(forms.FORMS.index(form)), *others)
+    return compared_with(other, call)
+
+
+def opened_in(form):
+    """The call that opens a stream for a text in a form, with the arguments of the others."""
+    return lambda stream, *others: library.golly_canon_open_canon_form(stream, ctypes.c_uint32(forms.FORMS.index(form)), *others)
 
 
 def pieces_of(file, cutting):
@@ -211,6 +242,82 @@ def check_limits():
         check(first == least, f"each limit: {what}: {first} and not {least}")
 
 
+def formed(data, form):
+    """The text of a file in a form, as the independent reader has it, and what it tells where it refuses."""
+    answer = commands.answer_of(lambda: (0, forms.text_in(commands.File(data), form)))
+    return answer.output, answer.fault
+
+
+def key_of(answer):
+    """The key of a text, and what is told where there is none."""
+    return (hashlib.sha256(answer[0]).digest() if answer[0] else b""), answer[1]
+
+
+def wrong_forms(files):
+    """The files whose text or key in a form is another one than the independent reader's, or that aren't compared by those texts: each with the file
+    before it, and the first with the last."""
+    for form in forms.FORMS:
+        answers = [formed(file, form) for file in files]
+        for at, (file, answer) in enumerate(zip(files, answers)):
+            before = answers[at - 1]
+            told = ("", before[1]) if before[1] else ("", answer[1])
+            same = (b"same\n" if answer[0] == before[0] else b"different\n", "") if told == ("", "") else (b"", told[1])
+            if outcome_of(in_form(library.golly_canon_canon_form, form), file) != answer:
+                yield f"{form}: {file!r}"
+            if outcome_of(by_stream(opened_in(form), at), file) != answer:
+                yield f"{form} in pieces: {file!r}"
+            if outcome_of(in_form(library.golly_canon_key, form), file) != key_of(answer):
+                yield f"the key of {form}: {file!r}"
+            if "TooManyCells" not in told[1] and outcome_of(compared_in(file, form), files[at - 1]) != same:
+                yield f"{form} beside the file before: {file!r}"
+
+
+def random_file(number):
+    """A file of few cells, right or nearly so."""
+    source = random.Random(f"form {number}")
+    rule, greatest = random_files.rule_text(source)
+    return random_files.mutated(source, random_files.pattern_file(source, rule, greatest))
+
+
+def has_few_cells(data):
+    answer = commands.show(commands.File(data))
+    return answer.fault != "" or int(answer.output.split(b"\n")[2].split()[1]) < 3000
+
+
+def check_forms():
+    """The texts, keys and comparisons of small files, of gliders in every place and orientation, and of random files, as the independent reader has them.
+    Then each limit of a store."""
+    glider = [(1, 0), (2, 1), (0, 2), (1, 2), (2, 2)]
+    gliders = [rle.rle_text(rules.CONWAY, 0, sorted(((x + west, y + north, 1) for x, y, _ in image), key=lambda cell: (cell[1], cell[0])))
+               for image in forms.images_of([(x, y, 1) for x, y in glider]) for west, north in ((0, 0), (-12345, 777), (2**61 - 3, -(2**61) + 3))]
+    small = [*small_files.LIFE_FILES.values(), *(file for file, _ in small_files.NAMED_FILES.values()), *(file for file, _, _ in MOVED.values())]
+    chosen = [file for file in map(random_file, range(RANDOM_FILES)) if has_few_cells(file)]
+    for what, files in (("gliders", gliders), ("small files", small), ("random files", chosen)):
+        wrong = list(wrong_forms(files))
+        check(not wrong and len(files) > 20, f"{len(files)} {what} in forms: {wrong[:2]}")
+    check(len({text_of(in_form(library.golly_canon_key, "turned"), file) for file in gliders}) == 1, "one key of all turned gliders")
+    check(len({text_of(in_form(library.golly_canon_key, "moved"), file) for file in gliders}) == 8, "eight keys of all moved gliders")
+    check(len({text_of(in_form(library.golly_canon_key, "placed"), file) for file in gliders}) == 24, "24 keys of all placed gliders")
+    first = MOVED["a glider"][0]
+    for name, (file, least, least_both) in MOVED.items():
+        answer, both = formed(file, "moved"), commands.answer_of(lambda: same_in_form(first, file, "moved"))
+        for what, call, wanted in (("text", library.golly_canon_canon_form, answer), ("key", library.golly_canon_key, key_of(answer))):
+            found = first_limit(in_form(call, "moved"), file, wanted)
+            check(found == least, f"each limit: moved {what} of {name}: {found} and not {least}")
+        found = first_limit(by_stream(opened_in("moved"), 1), file, answer)
+        check(found == least, f"each limit: moved text of {name}{IN_PIECES}: {found} and not {least}")
+        found = first_limit(compared_in(file, "moved"), first, (both.output, both.fault))
+        check(found == least_both, f"each limit: a glider and {name}, moved: {found} and not {least_both}")
+        if name in WORKED:
+            found = first_limit(in_form(library.golly_canon_canon_form, "turned"), file, formed(file, "turned"))
+            check(found == WORKED[name][1].read, f"each limit: turned text of {name}: {found}")
+
+
+def same_in_form(first, second, form):
+    one, other = (forms.text_in(commands.File(data), form) for data in (first, second))
+    return (0, b"same\n") if one == other else (1, b"different\n")
+
+
 def of_program(program, words, file):
     run = processes.run([program, *words], file)
     return run.output, run.error.decode()
@@ -233,6 +340,7 @@ def main(program, folder):
 
     check_streams(files)
     check_limits()
+    check_forms()
 
     # Two threads at once: ctypes lets go of the interpreter while a call runs. Each stream stays with its thread.
     wanted = {name: text_of(library.golly_canon_canon, file) for name, file in files.items()}

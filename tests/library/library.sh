@@ -55,7 +55,7 @@ sed -n 's/^    \(GOLLY_CANON_[A-Z_]*\) = [0-9]*,*$/\1/p' "$top/include/golly_can
 verdict "the header's numbers have their names" "$(awk '
     { name = $2; gsub(/[A-Z]/, "_&", name); name = "GOLLY_CANON" toupper(name); if ($2 == "OK") name = "GOLLY_CANON_OK" }
     name != $1 { print " " $0 }
-    END { if (NR != 40) print " " NR " numbers" }' told 2>&1)"
+    END { if (NR != 41) print " " NR " numbers" }' told 2>&1)"
 verdict "the header serves C++" "$(printf '#include <golly_canon.h>\nint main() { return 0; }\n' > header.cpp
     ! command -v c++ > /dev/null || c++ -Wall -Wextra -Werror -I"$top/include" -c header.cpp -o header.o 2>&1)"
 
@@ -116,7 +116,8 @@ if command -v valgrind > /dev/null; then
     problems=
     for words in "canon files/gosper_glider_gun.mc" "show files/gosper_glider_gun.mc" "rle files/gosper_glider_gun.mc" "step files/glider.rle" \
         "step files/wire.rle files/WireWorld.rule" "step files/wire.rle files/broken.rule" "same files/glider.rle files/glider.mc" \
-        "canon files/child.mc" \
+        "canon files/child.mc" "moved files/gosper_glider_gun.mc" "turned files/wire.rle" "key_moved files/glider.rle" "key_turned files/child.mc" \
+        "same_moved files/glider.rle files/glider.mc" "same_turned files/glider.rle files/child.mc" \
         "pieces 1 canon files/gosper_glider_gun.mc" "pieces 7 show files/gosper_glider_gun.mc" "pieces 65536 rle files/gosper_glider_gun.mc" \
         "pieces 7 step files/glider.rle" "pieces 1 canon files/child.mc" "pieces 7 step files/wire.rle" "pieces 1 show files/empty.rle"; do
         valgrind -q --error-exitcode=9 --leak-check=full --show-leak-kinds=all ./calls $words > out 2> err
@@ -164,12 +165,17 @@ each_request rle files/glider.mc
 each_request step files/glider.rle
 each_request step files/wire.rle files/WireWorld.rule
 each_request same files/glider.rle files/glider.mc
+each_request moved files/glider.rle
+each_request key files/glider.rle
+each_request same_moved files/glider.rle files/glider.mc
 each_request canon files/child.mc
 each_request pieces 1 canon files/glider.rle
 each_request pieces 7 canon files/gosper_glider_gun.mc
 each_request pieces 7 show files/glider.rle
 each_request pieces 7 rle files/glider.mc
 each_request pieces 7 step files/glider.rle
+each_request pieces 7 moved files/glider.rle
+each_request pieces 7 turned files/glider.mc
 each_request pieces 7 canon files/child.mc
 each_request pieces 65536 step files/wire.rle
 
@@ -220,6 +226,11 @@ printf '%s\n' 'some files/child.mc: line 4: BadChild' 'some files/cut.gz: Compre
     'some files/deeper/a glider.mc = some files/glider.rle' 'some files/deeper/a glider.mc = some files/packed.rle.gz' > wanted
 python3 -B "$top/examples/doubles.py" 'some files' > out 2>&1
 verdict "examples/doubles.py" "$([ $? = 1 ] || echo ' another status')$(sort out | diff - wanted)"
+printf 'x = 3, y = 3\n2o$obo$o!\n' > 'some files/turned.rle'
+sed 's/^.*packed.rle.gz$/&\nsome files\/deeper\/a glider.mc = some files\/turned.rle/' wanted > wanted_turned
+python3 -B "$top/examples/doubles.py" 'some files' turned > out 2>&1
+verdict "examples/doubles.py of turned patterns" "$([ $? = 1 ] || echo ' another status')$(sort out | diff - wanted_turned)"
+verdict "examples/doubles.py wants a form" "$(python3 -B "$top/examples/doubles.py" 'some files' shifted 2> /dev/null && echo ' status 0')"
 verdict "examples/doubles.py wants a folder" "$(python3 -B "$top/examples/doubles.py" 'no folder' 2> /dev/null && echo ' status 0')"
 python3 -B "$top/tests/library/library.py" "$program" "$top/examples" > said 2>&1
 counted "the library from Python" $?

@@ -5,6 +5,7 @@ program. The module is found by PYTHONPATH. The last line is 'N passed, M failed
 usage: tests/library/module.py PROGRAM"""
 
 import doctest
+import hashlib
 import io
 import os
 import random
@@ -28,6 +29,10 @@ README = os.path.join(os.path.dirname(os.path.abspath(__file__)), "../../README.
 RANDOM_FILES = 200
 GLIDER = b"x = 3, y = 3, rule = 23/3\nbo$2bo$3o!\n"
 GLIDER_TEXT = LIFE + b"$$$$.....*$......*$....***$$\n"
+ELSEWHERE = b"#CXRLE Pos=-12345,777\n" + GLIDER
+# The glider, turned: of its eight images the one whose first row ends behind one cell.
+TURNED_TEXT = LIFE + b"$$$$....*$....*.*$....**$$\n"
+MIRRORED = b"x = 3, y = 3\n3o$2bo$bo!\n"
 CHILD = b"[M2]\n#R B3/S23\n....*$$$$$$$$\n4 0 0 0 9\n"
 
 
@@ -41,9 +46,9 @@ def outcome_of(call, *arguments, **more):
         return type(error).__name__
 
 
-def fed(chunks, gives="canon"):
+def fed(chunks, gives="canon", form="placed"):
     """What a stream gives that is fed one chunk after another."""
-    with Stream(gives) as it:
+    with Stream(gives, form=form) as it:
         for chunk in chunks:
             it.feed(chunk)
         return it.finish()
@@ -87,11 +92,22 @@ ROWS = [
     ("canon of macrocell", outcome_of(golly_canon.canon, FILES["pair.mc"]), PAIR_TEXT),
     ("canon of a bytearray", outcome_of(golly_canon.canon, bytearray(GLIDER)), GLIDER_TEXT),
     ("canon of a part of a memoryview", outcome_of(golly_canon.canon, memoryview(b".." + GLIDER)[2:]), GLIDER_TEXT),
+    ("canon, placed", outcome_of(golly_canon.canon, GLIDER, "placed"), GLIDER_TEXT),
+    ("canon, moved", outcome_of(golly_canon.canon, ELSEWHERE, "moved"), GLIDER_TEXT),
+    ("canon, turned", outcome_of(golly_canon.canon, MIRRORED, form="turned"), TURNED_TEXT),
+    ("canon of a blank plane, moved", outcome_of(golly_canon.canon, FILES["input"], "moved"), LIFE),
+    ("key", outcome_of(golly_canon.key, GLIDER), hashlib.sha256(GLIDER_TEXT).digest()),
+    ("key, moved", outcome_of(golly_canon.key, ELSEWHERE, "moved"), hashlib.sha256(GLIDER_TEXT).digest()),
+    ("key, turned", outcome_of(golly_canon.key, bytearray(MIRRORED), form="turned"), hashlib.sha256(TURNED_TEXT).digest()),
     ("to_rle", outcome_of(golly_canon.to_rle, FILES["pair.mc"]), PAIR_RLE),
     ("show", outcome_of(golly_canon.show, FILES["pair.rle"]), Shown("B3/S23", 0, 2, Box(-4, 0, 9, 1), 2)),
     ("show of a blank plane", outcome_of(golly_canon.show, FILES["input"]), Shown("B3/S23", 0, 0, None, 0)),
     ("same", outcome_of(golly_canon.same, FILES["pair.rle"], FILES["pair.mc"]), True),
     ("same of others", outcome_of(golly_canon.same, FILES["pair.rle"], FILES["named.rle"]), False),
+    ("same, placed", outcome_of(golly_canon.same, GLIDER, ELSEWHERE, "placed"), False),
+    ("same, moved", outcome_of(golly_canon.same, GLIDER, ELSEWHERE, "moved"), True),
+    ("same of a mirrored one, moved", outcome_of(golly_canon.same, ELSEWHERE, MIRRORED, "moved"), False),
+    ("same, turned", outcome_of(golly_canon.same, ELSEWHERE, MIRRORED, form="turned"), True),
     ("step", outcome_of(golly_canon.step, FILES["line.rle"]), LINE_STEPPED),
     ("step by a table", outcome_of(golly_canon.step, FILES["spread.rle"], FILES["spread.rule"]), SPREAD_STEPPED),
     ("a stream of bytes", outcome_of(fed, (GLIDER[at:at + 1] for at in range(len(GLIDER)))), GLIDER_TEXT),
@@ -99,6 +115,9 @@ ROWS = [
     ("a stream to RLE", outcome_of(fed, [FILES["pair.mc"]], "to_rle"), PAIR_RLE),
     ("a stream that is shown", outcome_of(fed, [FILES["pair.mc"]], "show"), PAIR_SHOWN),
     ("a stream that is stepped", outcome_of(fed, [FILES["line.rle"]], "step"), LINE_STEPPED),
+    ("a stream of a moved text", outcome_of(fed, (ELSEWHERE[at:at + 7] for at in range(0, len(ELSEWHERE), 7)), form="moved"), GLIDER_TEXT),
+    ("an open file of a turned text", outcome_of(golly_canon.stream, io.BytesIO(MIRRORED), form="turned"), TURNED_TEXT),
+    ("a stream to RLE in a form", outcome_of(Stream, "to_rle", form="moved"), "ValueError"),
     ("an open file", outcome_of(golly_canon.stream, io.BytesIO(GLIDER)), GLIDER_TEXT),
     ("an open file to RLE", outcome_of(golly_canon.stream, io.BytesIO(FILES["pair.mc"]), "to_rle"), PAIR_RLE),
     ("a long file", outcome_of(golly_canon.stream, io.BytesIO(b"#C a comment\n" * 20_000 + GLIDER)), GLIDER_TEXT),
@@ -110,6 +129,15 @@ ROWS = [
     ("the first of two", outcome_of(golly_canon.same, CHILD, b""), NO_CHILD),
     ("the second of two", outcome_of(golly_canon.same, GLIDER, CHILD), NO_CHILD),
     ("too many cells", outcome_of(golly_canon.to_rle, FILES["many.rle"]), ("TooManyCells", None, False, "TooManyCells")),
+    ("too many cells for a form", outcome_of(golly_canon.canon, FILES["many.rle"], "turned"), ("TooManyCells", None, False, "TooManyCells")),
+    ("too many cells for a key", outcome_of(golly_canon.key, FILES["many.rle"], "moved"), ("TooManyCells", None, False, "TooManyCells")),
+    ("a file that is refused in a form", outcome_of(golly_canon.canon, CHILD, "moved"), NO_CHILD),
+    ("a file that is refused for its key", outcome_of(golly_canon.key, CHILD), NO_CHILD),
+    ("the second of two in a form", outcome_of(golly_canon.same, GLIDER, CHILD, "turned"), NO_CHILD),
+    ("a limit of 0 in a form", outcome_of(golly_canon.canon, GLIDER, "moved", limit=0), ("Full", None, False, "Full")),
+    ("another form", outcome_of(golly_canon.canon, GLIDER, "shifted"), "ValueError"),
+    ("a key in another form", outcome_of(golly_canon.key, GLIDER, 1), "ValueError"),
+    ("same in another form", outcome_of(golly_canon.same, GLIDER, GLIDER, None), "ValueError"),
     ("a name without its table", outcome_of(golly_canon.step, FILES["spread.rle"]), ("NeedsTable", None, False, "NeedsTable")),
     ("a table of another name", outcome_of(golly_canon.step, GLIDER, FILES["spread.rule"]), ("RuleMismatch", None, False, "RuleMismatch")),
     ("a refused table", outcome_of(golly_canon.step, GLIDER, FILES["bad.rule"]), ("NoTable", 2, True, "table line 2: NoTable")),
@@ -199,7 +227,7 @@ def without_library(path):
 def main(program):
     program = processes.program_of(program)
     results = doctest.testmod(golly_canon)
-    check(results.attempted == 3 and results.failed == 0, f"the example of the module: {results}")
+    check(results.attempted == 4 and results.failed == 0, f"the example of the module: {results}")
     found = outcome_of(names_of_readme)
     check(found == (GLIDER_TEXT, 5, True), f"the example of README.md: {found}")
     for name, found, wanted in ROWS:

@@ -13,4 +13,5 @@ name_or_none (Some kind) = kind_name kind
 abbrev pub status_name : ℕ → List ℕ
 status_name number =
     if number == 0 then codes "OK"
-    else (if number == 64 then codes "NoRoom" else name_or_none (find (λ kind. kind_number kind == number) KINDS))
+    else (if number == 64 then codes "NoRoom"
+    else (if number == 65 then codes "NoForm" else name_or_none (find (λ kind. kind_number kind == number) KINDS)))

@@ -4,6 +4,7 @@
 #![tactic(auto)]
 
 mod comparing;
+mod in_form;
 mod naming;
 mod stepping;
 mod streams;

@@ -6,7 +6,7 @@ ghost use Rattle.life_base.specs.Kinds.{kind_number, kind_name};
 ghost use Rattle.library_calls.specs.Told.{Gives};
 ghost use Rattle.golly_canon_c.specs.Naming.{status_name};
 
-use library_calls::{NO_ROOM, give};
+use library_calls::{NO_FORM, NO_ROOM, give};
 use life_base::Kind;
 
 /// The version of the program, and so of the library.
@@ -67,13 +67,14 @@ fn kind_of(number: u32) -> Option<Kind>
         .find(|kind| kind.number() as u32 == number)
 }
 
-/// The name of a status: that of the kind, `OK` for 0, `NoRoom`, and no byte for a number that no call answers.
+/// The name of a status: that of the kind, `OK` for 0, `NoRoom`, `NoForm`, and no byte for a number that no call answers.
 fn name_of(number: u32) -> &'static [u8]
     ensures { result.now ≡ status_name number }
 {
     match number {
         0 => b"OK",
         NO_ROOM => b"NoRoom",
+        NO_FORM => b"NoForm",
         _ => match kind_of(number) {
             Some(kind) => kind.name().as_bytes(),
             None => b"",
@@ -81,13 +82,14 @@ fn name_of(number: u32) -> &'static [u8]
     }
 }
 
-/// The name of a status: `OK`, `NoRoom`, the name of the kind of fault, and no byte for a number that no call answers.
+/// The name of a status: `OK`, `NoRoom`, `NoForm`, the name of the kind of fault, and no byte for a number that no call answers.
 #[unsafe(no_mangle)]
 pub extern "C" fn golly_canon_status_name(number: u32, out: &mut [u8], needed: &mut usize) -> u32
     ensures kind { (kind : KindValue) → number ≡ kind_number kind → Gives (kind_name kind) (record { before = out.old; after = out.new; needed = needed.new; status = result }) }
     ensures ok { number ≡ 0 → Gives (codes "OK") (record { before = out.old; after = out.new; needed = needed.new; status = result }) }
     ensures no_room { number ≡ 64 → Gives (codes "NoRoom") (record { before = out.old; after = out.new; needed = needed.new; status = result }) }
-    ensures none { number ≢ 0 → number ≢ 64 → ((kind : KindValue) → number ≢ kind_number kind) → Gives [] (record { before = out.old; after = out.new; needed = needed.new; status = result }) }
+    ensures no_form { number ≡ 65 → Gives (codes "NoForm") (record { before = out.old; after = out.new; needed = needed.new; status = result }) }
+    ensures none { number ≢ 0 → number ≢ 64 → number ≢ 65 → ((kind : KindValue) → number ≢ kind_number kind) → Gives [] (record { before = out.old; after = out.new; needed = needed.new; status = result }) }
 {
     give(name_of(number), out, needed)
 }

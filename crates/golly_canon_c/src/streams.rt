@@ -1,11 +1,15 @@
 //! The calls on streams: a file in pieces, and one answer at its end.
 
-ghost use Rattle.std.specs.Prelude.{◌≡◌, ◌++◌, ℕ, List, None, IfSome};
+ghost use Rattle.std.specs.Prelude.{◌≡◌, ◌++◌, ℕ, List, None, IfSome, MatchOption};
 ghost use Rattle.life_base.specs.declared.fault.Fault.{Fault as FaultValue};
+ghost use Rattle.library_calls.specs.Forms.{text_in};
+ghost use Rattle.library_calls.specs.InForm.{form_numbered};
 ghost use Rattle.library_calls.specs.Streams.{session_of, IsOpen, IsFed, HasText, HasFault, Opens, Takes, Ends, IsSpent, TellsPiece, TellsNothing, TellsEnd};
 ghost use Rattle.library_calls.specs.declared.form.Form.{Form as FormValue};
 
-use library_calls::{Stream, close, feed, finish, open_canon, open_show, open_step, open_to_rle};
+use library_calls::{
+    Stream, close, feed, finish, open_canon, open_canon_form, open_show, open_step, open_to_rle,
+};
 use std::alloc::Global;
 
 /// Opens a stream whose end gives the canonical text, and closes it first where it is open.
@@ -19,6 +23,20 @@ pub extern "C" fn golly_canon_open_canon(
     ensures { Opens FormValue.Canonical limit result (session_of stream.new) }
 {
     open_canon(alloc, stream, limit, seed)
+}
+
+/// Opens a stream whose end gives the canonical text in the form with this number, and closes it first where it is open.
+#[unsafe(no_mangle)]
+pub extern "C" fn golly_canon_open_canon_form(
+    alloc: Global,
+    stream: &mut Stream,
+    form: u32,
+    limit: u64,
+    seed: u64,
+) -> u32
+    ensures { MatchOption (form_numbered form) ((result ≡ 65) × (session_of stream.new ≡ None)) (λ form. Opens (text_in form) limit result (session_of stream.new)) }
+{
+    open_canon_form(alloc, stream, form, limit, seed)
 }
 
 /// Opens a stream whose end gives the pattern in extended RLE, and closes it first where it is open.

@@ -12,8 +12,8 @@ none_found number [] differs = refl
 none_found number (kind ∷ kinds) differs = grind (arith, common_steps, differs kind, none_found number kinds differs)
 
 -- such a number has no name
-unnamed : (number : ℕ) → number ≢ 0 → number ≢ 64 → ((kind : Kind) → number ≢ kind_number kind) → status_name number ≡ []
-unnamed number not_ok not_room differs = grind (arith, common_steps, none_found number KINDS differs)
+unnamed : (number : ℕ) → number ≢ 0 → number ≢ 64 → number ≢ 65 → ((kind : Kind) → number ≢ kind_number kind) → status_name number ≡ []
+unnamed number not_ok not_room not_form differs = grind (arith, common_steps, none_found number KINDS differs)
 
 pub returns-clause-none : goal.returns-clause-none
-returns-clause-none c not_ok not_room differs = rw (c.name_of.ensures, unnamed c.args.number not_ok not_room differs) at c.give.ensures
+returns-clause-none c not_ok not_room not_form differs = rw (c.name_of.ensures, unnamed c.args.number not_ok not_room not_form differs) at c.give.ensures

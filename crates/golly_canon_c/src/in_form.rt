@@ -1,0 +1,63 @@
+//! The calls on the form of a pattern: where it lies, moved, or turned.
+
+ghost use Rattle.std.specs.Prelude.{MatchOption};
+ghost use Rattle.library_calls.specs.ComparingInForm.{ComparesInForm, ComparesInNone};
+ghost use Rattle.library_calls.specs.InForm.{form_numbered, IsKeyInForm, IsTextInForm, RefusesInForm, TellsNoForm};
+ghost use Rattle.library_calls.specs.Told.{Answers};
+
+use library_calls::{canon_form, key, same_form};
+use std::alloc::Global;
+
+/// The canonical text of the pattern of a file of either format, in the form with this number.
+#[unsafe(no_mangle)]
+pub extern "C" fn golly_canon_canon_form(
+    alloc: Global,
+    bytes: &[u8],
+    form: u32,
+    limit: u64,
+    seed: u64,
+    out: &mut [u8],
+    needed: &mut usize,
+    line: &mut u64,
+) -> u32
+    ensures { MatchOption (form_numbered form) (TellsNoForm line.new (record { before = out.old; after = out.new; needed = needed.new; status = result }))
+        (λ form. Answers (IsTextInForm form bytes.now) (RefusesInForm form limit bytes.now) line.new (record { before = out.old; after = out.new; needed = needed.new; status = result })) }
+{
+    canon_form(alloc, bytes, form, limit, seed, out, needed, line)
+}
+
+/// The key of the pattern of a file of either format, in the form with this number: the SHA-256 of the text that `golly_canon_canon_form` gives.
+#[unsafe(no_mangle)]
+pub extern "C" fn golly_canon_key(
+    alloc: Global,
+    bytes: &[u8],
+    form: u32,
+    limit: u64,
+    seed: u64,
+    out: &mut [u8],
+    needed: &mut usize,
+    line: &mut u64,
+) -> u32
+    ensures { MatchOption (form_numbered form) (TellsNoForm line.new (record { before = out.old; after = out.new; needed = needed.new; status = result }))
+        (λ form. Answers (IsKeyInForm form bytes.now) (RefusesInForm form limit bytes.now) line.new (record { before = out.old; after = out.new; needed = needed.new; status = result })) }
+{
+    key(alloc, bytes, form, limit, seed, out, needed, line)
+}
+
+/// Whether two files, each of either format, are one pattern in the form with this number: 1 or 0 in `is_same`. A refusal leaves 0 there.
+#[unsafe(no_mangle)]
+pub extern "C" fn golly_canon_same_form(
+    alloc: Global,
+    first: &[u8],
+    second: &[u8],
+    form: u32,
+    limit: u64,
+    seed: u64,
+    is_same: &mut u32,
+    line: &mut u64,
+) -> u32
+    ensures { MatchOption (form_numbered form) (ComparesInNone (record { status = result; is_same = is_same.new; line = line.new }))
+        (λ form. ComparesInForm form limit first.now second.now (record { status = result; is_same = is_same.new; line = line.new })) }
+{
+    same_form(alloc, first, second, form, limit, seed, is_same, line)
+}
