@@ -14,8 +14,8 @@
  *
  *     GOLLY_CANON_OK        the text stands in the first `*needed` bytes at `out`. It has no 0 byte behind it, and what lies there is untouched.
  *     GOLLY_CANON_NO_ROOM   the text has `*needed` bytes, which are more than `room`. Nothing was written at `out`: hand over more memory.
- *     any other status      the number of a kind of fault. Nothing was written at `out`, and `*needed` is 0. `*line` is the number of the line
- *                           that the file is refused at, counted from 1, or 0 where the fault is of no line.
+ *     any other status      the number of a kind of fault, or GOLLY_CANON_NO_FORM. Nothing was written at `out`, and `*needed` is 0. `*line` is the
+ *                           number of the line that the file is refused at, counted from 1, or 0 where the fault is of no line.
  *
  * With the first two `*line` is 0. With a `room` of 0 a call tells the length of its text alone, and the next one reads the file again; a stream
  * doesn't. A file is its bytes as they stand, not compressed, and whole: of a file of either format that was cut short a part can be a pattern too.

@@ -281,7 +281,7 @@ def show(data: Bytes, *, limit: int = SQUARES) -> Shown:
 
 def same(first: Bytes, second: Bytes, form: Form = "placed", *, limit: int = SQUARES) -> bool:
     """Whether two files are one pattern, in a form: whether `canon` gives one text of them. Raises `Refused` for the first file where that is refused,
-    and else for the second."""
+    and else for the second. Two turned patterns of different generations are told apart whatever their cells."""
     one, other, number = _bytes_of(first), _bytes_of(second), _number_of(form)
     is_same, line = ctypes.c_uint32(), ctypes.c_uint64()
     answered = ctypes.byref(is_same), ctypes.byref(line)

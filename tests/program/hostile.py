@@ -605,6 +605,13 @@ JOBS = [
     faulty("to RLE from a refused file", "convert empty --to rle", "line 1: NoHeader"),
     faulty("to macrocell from a refused file", "convert empty --to mc", "line 1: NoHeader"),
     faulty("to RLE with too many cells", "convert many.rle --to rle", "TooManyCells", little=60 * MEGABYTE),
+    faulty("a moved text of too many cells", "canon many.rle --form moved", "TooManyCells", little=60 * MEGABYTE),
+    faulty("a turned text of too many cells", "canon many.rle --form turned", "TooManyCells", little=60 * MEGABYTE),
+    faulty("too many cells beside themselves, moved", "same many.rle many.rle --form moved", "TooManyCells", little=60 * MEGABYTE),
+    faulty("too many cells beside few, turned", "same line.rle many.rle --form turned", "TooManyCells", little=60 * MEGABYTE),
+    faulty("a refused file behind too many cells", "same many.rle bad.rle --form moved", "line 2: StateRange"),
+    told("turned patterns of two generations", "same many.rle last.rle --form turned", b"different\n", status=1),
+    told("turned patterns of two generations, the other way about", "same last.rle many.rle --form turned", b"different\n", status=1),
     failing("to RLE from an absent file", "convert absent --to rle", "ReadFault"),
     failing("to macrocell from a folder", "convert . --to mc", "ReadFault"),
 ]
@@ -752,12 +759,16 @@ def few_lines(name, lines, output, words, more_files=(), rule=b"B3/S23", **more)
 
 BLOCKS_SHOWN = b"rule B3/S23\ngeneration 0\npopulation 1048576\nbox %d %d %d %d\nnodes 59\n" % (2 * (-HALF // 2,) + 2 * ((511 << 52) + 2,))
 STILL = {"still.rule": FILES["still.rule"]}.items()
+# The blocks, moved: the first of them stands at (0, 0). Each turn or reflection of them, moved, is the same.
+MOVED_BLOCKS = BLOCK + chain(4, 52, b"L C 0 0 0\n") + chain(53, 61, b"L C C C C\n", 50) + b"62 0 0 0 59\n"
 # A step by a table visits each place of the plane beside which a cell is, and so takes the cells times the levels, however few lines say them. Such
 # a file has less than a kilobyte. One under a B/S rule remembers what it was told of the squares around a square.
 FEW_LINES = [
     few_lines("2^20 cells in 60 lines", BLOCKS, LIFE + BLOCKS, "canon input"),
     few_lines("2^20 cells in 60 lines that are shown", BLOCKS, BLOCKS_SHOWN, "show input"),
     few_lines("2^20 cells in 60 lines, to RLE", BLOCKS, rle_of(block_cells), "convert input --to rle", each=4000, little=60 * MEGABYTE),
+    few_lines("2^20 cells in 60 lines, moved", BLOCKS, LIFE + MOVED_BLOCKS, "canon input --form moved", each=8000, little=40 * MEGABYTE),
+    few_lines("2^20 cells in 60 lines, turned", BLOCKS, LIFE + MOVED_BLOCKS, "canon input --form turned", each=120_000, seconds=240, little=40 * MEGABYTE),
     few_lines("2^20 cells in 60 lines that stay", BLOCKS, LIFE + b"#G 1\n" + BLOCKS, "step input"),
     few_lines("786,432 cells in 60 lines that turn", BLINKERS, LIFE + b"#G 1\n" + TURNED_BLINKERS, "step input"),
     few_lines("2^20 single cells in 60 lines that die", SPECKS, LIFE + b"#G 1\n", "step input"),
