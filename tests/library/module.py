@@ -204,17 +204,17 @@ def random_triple(number):
     return random_files.mutated(source, pattern), random_files.mutated(source, pattern), random_files.mutated(source, table, (0.7, 0.3))
 
 
-def names_of_readme():
+def names_of_page():
     """What the example of docs/LIBRARY.md gives its names, beside the file that it opens."""
     with open(PAGE, encoding="utf-8") as it:
-        example = re.search(r"^\*\*From Python\*\*.*\n\n((?:    .*\n)+)", it.read(), re.MULTILINE)[1]
+        example = re.search(r"^## From Python\n.*?\n\n((?:    [^\n]*\n)+)", it.read(), re.MULTILINE | re.DOTALL)[1]
     with tempfile.TemporaryDirectory() as folder:
         path = os.path.join(folder, "glider.rle")
         with open(path, "wb") as it:
             it.write(GLIDER)
         names = {}
         exec(textwrap.dedent(example).replace('open("glider.rle", "rb").read()', f"open({path!r}, 'rb').read()"), names)
-    return names["text"], names["population"], names["is_double"]
+    return names["text"], names["population"], names["is_double"], names["key"]
 
 
 def without_library(path):
@@ -228,8 +228,8 @@ def main(program):
     program = processes.program_of(program)
     results = doctest.testmod(golly_canon)
     check(results.attempted == 4 and results.failed == 0, f"the example of the module: {results}")
-    found = outcome_of(names_of_readme)
-    check(found == (GLIDER_TEXT, 5, True), f"the example of docs/LIBRARY.md: {found}")
+    found = outcome_of(names_of_page)
+    check(found == (GLIDER_TEXT, 5, True, hashlib.sha256(TURNED_TEXT).digest()), f"the example of docs/LIBRARY.md: {found}")
     for name, found, wanted in ROWS:
         check(found == wanted, f"{name}: {found!r} and not {wanted!r}")
     wrong = [number for number in range(RANDOM_FILES) if not as_the_program(program, *random_triple(number))]
