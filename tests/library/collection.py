@@ -1,0 +1,462 @@
+#!/usr/bin/env python3
+"""examples/collection.py: its table, doubles and refusals, of files and of archives; the same table from a cluster of this machine where a worker is
+killed in the middle of a share, and where the scheduler is killed and another one starts; a share that is done twice, and one that kills each worker;
+and a run that is cut off and goes on. A named pipe in the list holds a worker until the test writes the pattern into it, so nothing hangs on how fast
+the machine is. Where no Python here has Dask, what takes it is skipped. The module golly_canon is found by PYTHONPATH. The last line is 'N passed, M
+failed'.
+
+usage: tests/library/collection.py"""
+
+import contextlib
+import gzip
+import hashlib
+import io
+import os
+import re
+import shutil
+import signal
+import socket
+import sqlite3
+import subprocess
+import sys
+import tarfile
+import tempfile
+import time
+import zipfile
+
+sys.path.insert(0, os.path.dirname(os.path.dirname(os.path.abspath(__file__))))
+EXAMPLES = os.path.join(os.path.dirname(os.path.abspath(__file__)), "../../examples")
+sys.path.insert(0, EXAMPLES)
+
+import collection  # noqa: E402
+from shared.counting import check, ended  # noqa: E402
+from shared.fixtures import LIFE  # noqa: E402
+
+PROGRAM = os.path.abspath(os.path.join(EXAMPLES, "collection.py"))
+PAGE = os.path.abspath(os.path.join(EXAMPLES, "../docs/COLLECTIONS.md"))
+PATTERNS, SHARE, PATIENCE = 100, "20", 120
+GLIDER = b"x = 3, y = 3, rule = 23/3\nbo$2bo$3o!\n"
+GLIDER_KEY = hashlib.sha256(LIFE + b"$$$$.....*$......*$....***$$\n").digest()
+CHILD = b"[M2]\n#R B3/S23\n....*$$$$$$$$\n4 0 0 0 9\n"
+HELD = "held.rle"  # the named pipe
+WITHOUT_DASK = ["--workers", "0"]
+runs = []  # which end with the test
+ROWS = "SELECT path, member, key, kind, line, why FROM file ORDER BY id"
+
+
+# ---- the files: each pattern has a row of eight cells, and below it the bits of its number
+
+
+def spellings(number):
+    """Three files of a pattern. The first two lie in one place, the third lies in another one."""
+    bits = "".join("bo"[number >> at & 1] for at in range(7)) + "o"
+    plain = f"x = 8, y = 2, rule = B3/S23\n8o${bits}!\n".encode()
+    other = f"#C another spelling\nx = 0, y = 0, rule = 23/3\n{'o' * 8}\n$\n{bits}\n!\n".encode()
+    return plain, gzip.compress(other, mtime=0), b"#CXRLE Pos=%d,-7\n" % (number + 1) + plain
+
+
+def made():
+    """Makes the files, and returns their paths in the order of the list. The first file is a glider, and so is what comes out of the pipe; each 25th
+    pattern has a file behind it that is refused."""
+    files = {"glider.rle": GLIDER}
+    for number in range(PATTERNS):
+        for part, data in zip("abc", spellings(number)):
+            files[f"{number:03}{part}.rle"] = data
+        if number == PATTERNS // 2:
+            files[HELD] = None
+        if number % 25 == 0:
+            files[f"{number:03}z.mc"] = CHILD
+    for name, data in files.items():
+        if data is not None:
+            with open(name, "wb") as it:
+                it.write(data)
+    os.mkfifo(HELD)
+    with open("list", "w", encoding="utf-8") as it:
+        it.writelines(f"{name}\n" for name in files)
+    return list(files)
+
+
+# ---- running it
+
+
+def rows(table):
+    """The rows of the files in a table."""
+    with contextlib.closing(sqlite3.connect(table, timeout=60)) as it:
+        return it.execute(ROWS).fetchall()
+
+
+def shares_done(table):
+    """How many shares are done in a table, which may not be there yet."""
+    try:
+        with contextlib.closing(sqlite3.connect(f"file:{table}?mode=ro", uri=True, timeout=60)) as it:
+            return it.execute("SELECT count(*) FROM share").fetchone()[0]
+    except sqlite3.OperationalError:
+        return 0
+
+
+def started(python, table, *words, **how):
+    """The program on the list, which goes on while the test does."""
+    command = [python, "-B", PROGRAM, "--from", "list", "--share", SHARE, "--table", table, *words]
+    run = subprocess.Popen(command, stdout=subprocess.PIPE, stderr=subprocess.PIPE, text=True, **how)
+    runs.append(run)
+    return run
+
+
+def end_of(run, held=None):
+    """The status, the output and the errors of a run. The pattern goes into the pipe first, when a worker reads it."""
+    own = until(lambda: run.poll() is None and opened(held) or run.poll() is not None and -1) if held else -1
+    if own != -1:
+        os.write(own, GLIDER)
+        os.close(own)
+    try:
+        said = run.communicate(timeout=PATIENCE)
+    except subprocess.TimeoutExpired:
+        run.kill()
+        said = run.communicate()
+    return (run.returncode, *said)
+
+
+def ran(*words):
+    """The program in this Python, on these words."""
+    return end_of(subprocess.Popen([sys.executable, "-B", PROGRAM, *words], stdout=subprocess.PIPE, stderr=subprocess.PIPE, text=True))
+
+
+def until(what):
+    """Waits until something is the case, and returns it."""
+    last = time.monotonic() + PATIENCE
+    while time.monotonic() < last:
+        found = what()
+        if found:
+            return found
+        time.sleep(0.05)
+    raise TimeoutError("the test waited in vain")
+
+
+def opened(pipe):
+    """The pipe, open for writing, or None where nobody reads it."""
+    try:
+        return os.open(pipe, os.O_WRONLY | os.O_NONBLOCK)
+    except OSError:
+        return None
+
+
+@contextlib.contextmanager
+def reading(pipe):
+    """The pipe, while somebody reads it."""
+    own = until(lambda: opened(pipe))
+    try:
+        yield own
+    finally:
+        os.close(own)
+
+
+def holds(pid, pipe):
+    """Whether a process has the pipe open."""
+    try:
+        return any(os.path.realpath(f"/proc/{pid}/fd/{it}") == os.path.realpath(pipe) for it in os.listdir(f"/proc/{pid}/fd"))
+    except OSError:
+        return False
+
+
+def killed(process):
+    process.kill()
+    process.wait()
+
+
+# ---- without Dask
+
+
+def of_one_process(paths):
+    """Returns the rows that this process comes to without Dask, which each other run has to come to."""
+    status, output, errors = end_of(started(sys.executable, "alone.sqlite", *WITHOUT_DASK), HELD)
+    check(status == 0, f"without Dask: status {status}, {errors}")
+    found = rows("alone.sqlite")
+    check([it[0] for it in found] == paths, "a row for each file, in the order of the list")
+    keys = {it[0]: it[2] for it in found}
+    check(keys["glider.rle"] == keys[HELD] == GLIDER_KEY, "the key of a glider is the SHA-256 of its text")
+    patterns = [[keys[f"{number:03}{part}.rle"] for part in "abc"] for number in range(PATTERNS)]
+    check(all(a == b and a and c and a != c for a, b, c in patterns), "two spellings have one key, and the pattern elsewhere another one")
+    check(len({a for a, _, _ in patterns}) == len({c for _, _, c in patterns}) == PATTERNS, "each pattern has a key of its own")
+    refused = [it[1:] for it in found if it[0].endswith(".mc")]
+    check(refused == [(None, None, "BadChild", 4, "line 4: BadChild")] * 4, f"refusals: {refused}")
+    wanted = ["glider.rle = held.rle"] + [f"{number:03}a.rle = {number:03}b.rle" for number in range(PATTERNS)]
+    check(output.splitlines() == wanted, f"the doubles: {output[:200]}")
+    counts = "collection: 306 files, 302 keys, 4 refused, 0 unread, 201 patterns, 101 groups\n"
+    check(errors == counts, f"the counts: {errors}")
+    return found
+
+
+def of_archives(paths):
+    """The same files in a zip and in two tars, and what is no archive."""
+    names = [it for it in paths if it != HELD]
+    tars = tarfile.open("all.tar", "w"), tarfile.open("all.tar.xz", "w:xz")
+    with tars[0], tars[1], zipfile.ZipFile("all.zip", "w") as zipped:
+        for it in names:
+            tars[0].add(it)
+            tars[1].add(it)
+            zipped.write(it)
+    archives = ["all.tar", "all.zip", "all.tar.xz"]
+    status, output, errors = ran("--archive", "--form", "moved", "--table", "archives.sqlite", *WITHOUT_DASK, *archives)
+    found = rows("archives.sqlite")
+    check(status == 0 and len(found) == 3 * len(names), f"archives: status {status}, {len(found)} rows, {errors}")
+    check([it[:2] for it in found] == [(archive, name) for archive in archives for name in names], "a row for each file of an archive")
+    parts = [[it[2:] for it in found if it[0] == archive] for archive in archives]
+    check(parts[0] == parts[1] == parts[2], "each archive gives the same keys and refusals")
+    check("all.tar/007a.rle = all.tar/007c.rle" in output.splitlines(), "a pattern elsewhere is the same one, moved")
+    check(f" {PATTERNS + 1} patterns, {PATTERNS + 1} groups" in errors, f"patterns, moved: {errors}")
+    with open("all.tar", "rb") as whole, open("cut.tar", "wb") as cut:
+        cut.write(whole.read(20_000))
+    status, _, _ = ran("--archive", "--table", "cut_tar.sqlite", *WITHOUT_DASK, "cut.tar", "glider.rle", "no such.zip")
+    kinds = [(it[0], it[3]) for it in rows("cut_tar.sqlite") if it[3] == "ReadFault"]
+    check(status == 1 and kinds[-2:] == [("glider.rle", "ReadFault"), ("no such.zip", "ReadFault")], f"what is no archive: status {status}, {kinds}")
+    check(kinds[0][0] == "cut.tar" and len(rows("cut_tar.sqlite")) > len(kinds), "an archive that is cut gives what stands before")
+
+
+def of_page():
+    """The program of docs/COLLECTIONS.md, in which other processes do the shares."""
+    with open(PAGE, encoding="utf-8") as it:
+        program = re.search(r"^```python\n(.*?)^```$", it.read(), re.MULTILINE | re.DOTALL)[1]
+    archives = ["all.tar", "all.zip", "all.tar.xz"]
+    places = os.pathsep.join([os.path.abspath(EXAMPLES), os.environ.get("PYTHONPATH", "")])
+    with open("page.py", "w", encoding="utf-8") as it:
+        it.write(program)
+    run = subprocess.run([sys.executable, "-B", "page.py", "page.sqlite", *archives], env={**os.environ, "PYTHONPATH": places}, capture_output=True,
+                         text=True, check=False, timeout=PATIENCE)
+    status, _, errors = ran("--archive", "--form", "turned", "--table", "turned.sqlite", *WITHOUT_DASK, *archives)
+    check(status == 0 and run.returncode == 0 and rows("page.sqlite") == rows("turned.sqlite"), f"the page: {run.stderr} {errors}")
+
+
+def of_unread():
+    """A file that can't be read is tried again by the next run."""
+    words = ["--table", "late.sqlite", *WITHOUT_DASK, "glider.rle", "late.rle"]
+    status, _, _ = ran(*words)
+    found = rows("late.sqlite")
+    check(status == 1 and found[1][:5] == ("late.rle", None, None, "ReadFault", None), f"a file that isn't there: status {status}, {found}")
+    shutil.copy("glider.rle", "late.rle")
+    status, output, _ = ran(*words)
+    check(status == 0 and output == "glider.rle = late.rle\n" and rows("late.sqlite")[1][2] == GLIDER_KEY, f"it is there: status {status}, {output}")
+    os.mkdir("names")
+    for name in (b"names/a\nb.rle", b"names/\xff.rle"):
+        shutil.copy("glider.rle", name)
+    given = subprocess.run([sys.executable, "-B", PROGRAM, "--table", "names.sqlite", "--from", "-", *WITHOUT_DASK], capture_output=True, check=False,
+                           input=b"names/a\nb.rle\0names/\xff.rle\0")
+    check(given.returncode == 0 and [it[0] for it in rows("names.sqlite")] == ["names/a\nb.rle", "names/\\xff.rle"], f"names: {given.stderr}")
+
+
+def of_words():
+    """Words that can't be followed."""
+    for words, said in [
+        (["--table", "x.sqlite"], "name files, or a list by --from"),
+        (["glider.rle"], "--table"),
+        (["--table", "x.sqlite", "--from", "no list"], "no list: No such file or directory"),
+        (["--table", "x.sqlite", "--form", "shifted", "glider.rle"], "shifted"),
+        (["--table", "x.sqlite", "--share", "0", "glider.rle"], "--share takes a number above 0"),
+        (["--table", "x.sqlite", "--workers", "2", "--scheduler", "tcp://one:8786", "glider.rle"], "not allowed with"),
+        (["--table", "alone.sqlite", *WITHOUT_DASK, "glider.rle"], "alone.sqlite: it is the table of another list, form or size of shares"),
+        (["--table", "glider.rle", *WITHOUT_DASK, "glider.rle"], "glider.rle: file is not a database"),
+        (["--table", "no/x.sqlite", *WITHOUT_DASK, "glider.rle"], "no/x.sqlite: unable to open database file"),
+    ]:
+        status, _, errors = ran(*words)
+        check(status == 2 and said in errors and "Traceback" not in errors, f"{' '.join(words)}: status {status}, {errors}")
+    check(not os.path.exists("x.sqlite"), "words that can't be followed make no table")
+    run = subprocess.run([sys.executable, "-B", PROGRAM, "--table", "x.sqlite", *WITHOUT_DASK, "glider.rle"], capture_output=True, text=True,
+                         check=False, env={**os.environ, "GOLLY_CANON_LIBRARY": "/nowhere"})
+    said = run.stderr
+    check(run.returncode == 1 and "the library of golly_canon isn't found" in said and "Traceback" not in said, f"no library: {said}")
+
+
+def of_shares(paths):
+    """Shares that are done twice, in another order, or not at all, by the module itself."""
+    names = [it for it in paths if it != HELD]
+    shares = collection.shares_of(names, "placed", False, 20)
+    done = {share[0]: collection.rows_of(share) for share in shares}
+    check(all(collection.rows_of(share) == done[share[0]] for share in shares), "a share that is done twice has the same rows")
+    tables = [collection.Table(f"shares{which}.sqlite", shares, "placed") for which in (1, 2)]
+    order = [share[0] for share in shares]
+    for number in order:
+        tables[0].take(number, done[number])
+    for number in [*reversed(order), *order]:
+        tables[1].take(number, done[number])
+    tables[1].take(order[3], done[order[4]])  # a done share stays
+    found = [rows(f"shares{which}.sqlite") for which in (1, 2)]
+    check(found[0] == found[1] and len(found[0]) == len(names), "the order of shares, and shares done twice")
+    check(tables[1].left(shares) == [], "nothing is left")
+    some = collection.Table("shares3.sqlite", shares, "placed")
+    with contextlib.redirect_stderr(io.StringIO()) as told:
+        failed = collection.run(some, shares[:2], lambda given: iter([(0, "KilledWorker: it died"), (1, done[1])]))
+    wanted = "share 0 (glider.rle to 005c.rle) isn't done: KilledWorker: it died"
+    check(failed == [0] and wanted in told.getvalue() and some.left(shares[:2]) == shares[:1], f"a share that fails: {failed}, {told.getvalue()}")
+    with contextlib.redirect_stderr(io.StringIO()):
+        failed = collection.run(some, shares, lambda given: ((it[0], "no library") for it in given))
+    check(len(failed) == collection.MOST_FAILED, f"a run ends behind {len(failed)} shares that fail")
+
+
+def of_two_runs(wanted):
+    """A run is held in the middle of a share, and another one with the same words does all of them. Then the first goes on with what it had begun."""
+    first = started(sys.executable, "both.sqlite", *WITHOUT_DASK)
+    with reading(HELD) as own:
+        until(lambda: holds(first.pid, HELD))
+        os.rename(HELD, "pipe")
+        shutil.copy("glider.rle", HELD)
+        second = end_of(started(sys.executable, "both.sqlite", *WITHOUT_DASK))
+        check(second[0] == 0 and rows("both.sqlite") == wanted, f"a second run on the table of the first: {second}")
+        os.rename("pipe", HELD)
+        os.write(own, GLIDER)
+    status, _, errors = end_of(first)
+    check(status == 0 and rows("both.sqlite") == wanted, f"the first run does shares that are done: status {status}, {errors}")
+
+
+def of_parquet(wanted):
+    """The rows as Parquet, where pyarrow is there."""
+    words = ["--share", SHARE, "--table", "alone.sqlite", "--parquet", "alone.parquet", "--from", "list", *WITHOUT_DASK]
+    status, _, errors = ran(*words)
+    try:
+        import pyarrow.parquet
+    except ImportError:
+        check(status == 2 and "--parquet takes pyarrow, which isn't installed" in errors, f"without pyarrow: status {status}, {errors}")
+        print(f"skipped: Parquet, since pyarrow isn't installed for {sys.executable}")
+        return
+    found = [tuple(it.values()) for it in pyarrow.parquet.read_table("alone.parquet").to_pylist()]
+    check(status == 0 and found == wanted, f"the rows as Parquet: status {status}, {errors}")
+
+
+# ---- with Dask
+
+
+def with_dask():
+    """A Python here that has Dask, or None."""
+    for python in dict.fromkeys([sys.executable, shutil.which("python3"), "/usr/bin/python3"]):
+        looked = [python, "-c", "import importlib.util, sys; sys.exit(importlib.util.find_spec('distributed') is None)"]
+        with contextlib.suppress(OSError, TypeError):
+            if subprocess.run(looked, stderr=subprocess.DEVNULL, check=False).returncode == 0:
+                return python
+    return None
+
+
+class Cluster:
+    """A scheduler and workers of this machine, each a process. What it started it ends."""
+
+    def __init__(self, python):
+        with socket.socket() as it:
+            it.bind(("127.0.0.1", 0))
+            self.port = it.getsockname()[1]
+        self.python, self.address, self.processes = python, f"tcp://127.0.0.1:{self.port}", []
+
+    def start(self, name, *words):
+        log = open(f"{name}.log", "ab")
+        with log:
+            it = subprocess.Popen([self.python, "-B", "-m", f"distributed.cli.dask_{name}", *words], stdout=log, stderr=log, cwd="/")
+        self.processes.append(it)
+        return it
+
+    def scheduler(self):
+        return self.start("scheduler", "--host", "127.0.0.1", "--port", str(self.port), "--no-dashboard")
+
+    def worker(self):
+        folder = tempfile.mkdtemp(dir=os.getcwd())
+        words = ["--no-nanny", "--no-dashboard", "--nthreads", "1", "--memory-limit", "0", "--local-directory", folder]
+        return self.start("worker", self.address, *words)
+
+    def __enter__(self):
+        return self
+
+    def __exit__(self, *_):
+        for it in self.processes:
+            killed(it)
+
+
+def of_cluster(python, wanted):
+    """A worker is killed in the middle of a share, then the scheduler, in one run; and another run is cut off, and goes on."""
+    with Cluster(python) as cluster:
+        scheduler, workers = cluster.scheduler(), [cluster.worker(), cluster.worker()]
+        run = started(python, "cluster.sqlite", "--scheduler", cluster.address)
+        with reading(HELD):
+            victim = until(lambda: next((it for it in workers if holds(it.pid, HELD)), None))
+            killed(victim)
+        other = next(it for it in workers if it is not victim)
+        with reading(HELD):
+            check(until(lambda: holds(other.pid, HELD)), "the other worker does the share whose worker was killed")
+            before = shares_done("cluster.sqlite")
+            killed(scheduler)
+            killed(other)
+        check(run.poll() is None and 0 < before < len(wanted) / int(SHARE), f"the run waits for a scheduler, with {before} shares done")
+        cluster.scheduler()
+        last = cluster.worker()
+        status, _, errors = end_of(run, HELD)
+        check(status == 0 and "the scheduler is away" in errors and "Traceback" not in errors, f"another scheduler: status {status}, {errors}")
+        check(rows("cluster.sqlite") == wanted, "a killed worker and a killed scheduler change nothing")
+
+        run = started(python, "cut.sqlite", "--scheduler", cluster.address)
+        with reading(HELD):
+            until(lambda: holds(last.pid, HELD) and shares_done("cut.sqlite"))
+            killed(run)
+            run.communicate()
+        until(lambda: not holds(last.pid, HELD))  # so that the pattern goes to the next run
+        before = shares_done("cut.sqlite")
+        check(0 < before < len(wanted) / int(SHARE), f"a run is cut off with {before} shares done")
+        os.rename("glider.rle", "away")  # of a done share, which is not read again
+        status, _, errors = end_of(started(python, "cut.sqlite", "--scheduler", cluster.address), HELD)
+        os.rename("away", "glider.rle")
+        check(status == 0 and rows("cut.sqlite") == wanted, f"a run that was cut off goes on: status {status}, {errors}")
+    status, _, errors = end_of(started(python, "cut.sqlite", "--scheduler", cluster.address))
+    check(status == 0 and rows("cut.sqlite") == wanted, f"a table in which all is done wants no scheduler: status {status}, {errors}")
+
+
+def worker_of(run):
+    """The process that has the pipe open, beside this one, where the program has started it."""
+    for it in filter(str.isdigit, os.listdir("/proc")):
+        if int(it) != os.getpid() and holds(int(it), HELD):
+            with open(f"/proc/{it}/stat", encoding="utf-8") as status:
+                return int(it) if int(status.read().rpartition(") ")[2].split()[1]) == run.pid else None
+    return None
+
+
+def of_local_workers(python, wanted):
+    """Workers that the program starts itself: a share that kills its worker as often as Dask allows, here once, is left out, and is done when the run
+    goes on."""
+    run = started(python, "local.sqlite", "--workers", "1", env={**os.environ, "DASK_DISTRIBUTED__SCHEDULER__ALLOWED_FAILURES": "0"})
+    with reading(HELD):
+        os.kill(until(lambda: worker_of(run)), signal.SIGKILL)
+        until(lambda: worker_of(run) is None)
+    status, _, errors = end_of(run)
+    place = next(number for number, it in enumerate(wanted) if it[0] == HELD) // int(SHARE)
+    is_told = f"share {place} (" in errors and "KilledWorker" in errors
+    check(status == 1 and is_told, f"a share that kills its worker: status {status}, {errors}")
+    check(0 < shares_done("local.sqlite") < len(wanted) / int(SHARE), f"the other shares are done: {shares_done('local.sqlite')}")
+    status, output, errors = end_of(started(python, "local.sqlite", "--workers", "1"), HELD)
+    check(status == 0 and rows("local.sqlite") == wanted and output.startswith("glider.rle = held.rle\n"), f"it goes on: status {status}, {errors}")
+
+
+def all_of(paths):
+    wanted = of_one_process(paths)
+    of_archives(paths)
+    of_page()
+    of_unread()
+    of_words()
+    of_shares(paths)
+    of_two_runs(wanted)
+    of_parquet(wanted)
+    python = with_dask()
+    if python:
+        of_cluster(python, wanted)
+        of_local_workers(python, wanted)
+    else:
+        print("skipped: a cluster, since no Python here has Dask (apt-get install python3-distributed)")
+
+
+def main():
+    with tempfile.TemporaryDirectory() as folder:
+        os.chdir(folder)
+        try:
+            all_of(made())
+        except TimeoutError as why:
+            check(False, f"{why}, with {len(runs)} runs behind it")
+        finally:
+            for it in runs:
+                killed(it)
+            os.chdir("/")
+    return ended()
+
+
+if __name__ == "__main__":
+    sys.exit(main())
