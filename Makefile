@@ -2,7 +2,10 @@
 #
 #   make           builds the proved program as ./golly_canon and runs it on an example
 #   make library   builds the proved library for C in out/library: static, shared, and a pkg-config file
-#   make test      the merge gate, and every other check
+#   make page      builds the page and the module for browsers in out/page from the library that make library has proved
+#   make test      the merge gate, and every other check but for the next two
+#   make test_page the page and the module in a headless Chromium, beside ./golly_canon
+#   make test_collection   a collection on a cluster of this machine, by the library of make library
 #   make quick     builds the same program without proving it, runs it on FILE=.. and keeps nothing
 #   make plants    tries the wrong bodies that the gate leaves out, before a release
 #   make fuzz      compares the program with the independent reader on CASES=.. random files by SEED=..
@@ -44,11 +47,21 @@ golly_canon: FORCE
 library: FORCE
 	@RT="$(RT)" CC="$(CC)" CFLAGS="$(CFLAGS)" LDFLAGS="$(LDFLAGS)" sh scripts/library "$(PREFIX)"
 
+page: FORCE
+	@sh scripts/heap
+	@RT="$(RT)" python3 -B scripts/page
+
 quick:
 	@RT="$(RT)" FILE="$(FILE)" sh scripts/quick
 
 test:
 	@RT="$(RT)" python3 tests/all
+
+test_page: golly_canon
+	@RT="$(RT)" python3 -B tests/page/page.py ./golly_canon
+
+test_collection: library_is_built
+	@PYTHONPATH=python python3 -B tests/library/collection.py
 
 plants:
 	@RT="$(RT)" sh scripts/plants
@@ -108,5 +121,5 @@ distclean: clean
 
 FORCE:
 
-.PHONY: all library quick test plants fuzz fuzz_library times bench instructions install program_is_built library_is_built install_program install_library \
-    uninstall help clean distclean FORCE
+.PHONY: all library page quick test test_page test_collection plants fuzz fuzz_library times bench instructions install program_is_built library_is_built \
+    install_program install_library uninstall help clean distclean FORCE

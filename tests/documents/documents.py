@@ -91,8 +91,8 @@ def of_kinds():
 
 
 def of_checks():
-    """Whether each script in tests/ is named by tests/all, or by a check that tests/all names."""
-    runs = text_of("tests/all") + text_of("tests/library/library.sh")
+    """Whether each script in tests/ is named by tests/all, by a check that tests/all names, or by a target of the Makefile."""
+    runs = text_of("tests/all") + text_of("tests/library/library.sh") + text_of("Makefile")
     for path in sorted(glob.glob("tests/*/*.sh", root_dir=TOP) + glob.glob("tests/*/*.py", root_dir=TOP)):
         if "/shared/" not in path and (path.endswith(".sh") or '__name__ == "__main__"' in text_of(path)):
             yield f"{path}: it is run", path in runs

@@ -1,0 +1,265 @@
+"""What the module answers in a browser: the same as the program, byte by byte."""
+
+import base64
+import hashlib
+import importlib.machinery
+import importlib.util
+import os
+import tempfile
+
+import compare
+from independent import commands
+from judged import Program
+from shared import counting, fixtures
+
+# What a page and a worker run alike: it answers each case, as the texts in base64, or the lines of refusals.
+ANSWERING = """
+const bytes = text => Uint8Array.from(atob(text), it => it.charCodeAt(0));
+const packed = found => btoa(Array.from(found, it => String.fromCharCode(it)).join(""));
+const answer = act => {
+  try {
+    const found = act();
+    return found instanceof Uint8Array ? `text ${packed(found)}` : typeof found === "boolean" ? (found ? "same" : "different") : found;
+  } catch (why) {
+    return why instanceof Refused ? `refused ${why.message}` : `fault ${why.stack}`;
+  }
+};
+const lines = ({ rule, generation, population, box, nodes }) => `text ${packed(new TextEncoder().encode(
+  `rule ${rule}\\ngeneration ${generation}\\npopulation ${population}\\nbox ${box ? Object.values(box).join(" ") : "none"}\\nnodes ${nodes}\\n`))}`;
+const chunked = (golly, gives, data) => {
+  const stream = golly.stream({ gives });
+  try {
+    const size = Math.floor(data.length / 8) + 1;
+    for (let at = 0; at < data.length; at += size) stream.feed(data.subarray(at, at + size));
+    return stream.finish();
+  } finally {
+    stream.close();
+  }
+};
+const answersOf = (golly, it) => {
+  const [pattern, other, table] = [it.pattern, it.other, it.table].map(text => text === null ? null : bytes(text));
+  const found = { canon: answer(() => golly.canon(pattern)), show: answer(() => lines(golly.show(pattern))), rle: answer(() => golly.toRle(pattern)),
+    step: answer(() => golly.step(pattern)), same: answer(() => golly.same(pattern, other)), chunks: answer(() => chunked(golly, "canon", pattern)) };
+  if (table !== null) found.table = answer(() => golly.step(pattern, { table }));
+  return found;
+};
+"""
+BATCH = 50
+TOP = os.path.dirname(os.path.dirname(os.path.dirname(os.path.abspath(__file__))))
+# Bytes of a stack on which some calls have room, and those that go deep have none.
+LOW_STACKS = [1 << 10, 1 << 11, 3 << 10, 1 << 12, 5 << 10, 6 << 10, 1 << 13, 3 << 12]
+
+
+def told(answer):
+    """An answer of the program as the browser tells it."""
+    if answer.status == 1 or answer.output == b"same\n":
+        return answer.output.decode().strip()
+    return f"text {base64.b64encode(answer.output).decode()}" if answer.status == 0 else f"refused {answer.fault.strip()}"
+
+
+def wanted_of(program, case):
+    """What the program answers of a case."""
+    program.put("pattern", case.pattern)
+    program.put("other", case.other)
+    runs = {"canon": ["canon", "pattern"], "show": ["show", "pattern"], "rle": ["convert", "pattern", "--to", "rle"], "step": ["step", "pattern"],
+            "same": ["same", "pattern", "other"], "chunks": ["canon", "pattern"]}
+    if case.table is not None:
+        program.put("table", case.table)
+        runs["table"] = ["step", "pattern", "--table", "table"]
+    return {name: told(program.answer(words, "pattern")) for name, words in runs.items()}
+
+
+def packed(case):
+    return {name: None if data is None else base64.b64encode(data).decode()
+            for name, data in (("pattern", case.pattern), ("other", case.other), ("table", case.table))}
+
+
+def cases_of(seed, count):
+    """Random cases, and the small files of the tests with what is refused in each way."""
+    for name, data in fixtures.FILES.items():
+        if not name.endswith(".rule"):
+            tables = [it for it in fixtures.FILES if it.endswith(".rule") and it.split(".")[0] == name.split(".")[0]]
+            yield compare.Case(name, data, fixtures.FILES["pair.mc"], fixtures.FILES[tables[0]] if tables else None)
+    for number in range(count):
+        yield compare.random_case(seed, number)
+
+
+def opened(browser, address, where):
+    """A page with the module, and `golly` in it or in its worker, behind the function `asked`."""
+    browser.open(f"{address}/blank.html")
+    if where == "page":
+        browser.run(f"""const it = await import("{address}/golly_canon.mjs"); const Refused = it.Refused; {ANSWERING}
+            const golly = await it.load(); window.golly = golly; window.asked = async cases => cases.map(one => answersOf(golly, one));""")
+    else:
+        program = f"""import {{ load, Refused }} from "{address}/golly_canon.mjs"; {ANSWERING}
+            const golly = load(); self.onmessage = async event => self.postMessage(event.data.map(one => answersOf(golly_, one)));
+            const golly_ = await golly; self.postMessage("ready");"""
+        browser.run("""const worker = new Worker(URL.createObjectURL(new Blob([given[0]], { type: "text/javascript" })), { type: "module" });
+            await new Promise((done, not) => { worker.onmessage = done; worker.onerror = event => not(new Error(event.message)); });
+            window.asked = cases => new Promise((done, not) => {
+              worker.onmessage = event => done(event.data);
+              worker.onerror = not;
+              worker.postMessage(cases);
+            });""",
+                    program)
+
+
+def compares(browser, address, path, seed, count, least=20):
+    """The page and a worker answer what the program answers: of half of the files each."""
+    cases = list(cases_of(seed, count))
+    before, kinds, answers = os.getcwd(), set(), 0
+    with tempfile.TemporaryDirectory() as folder:
+        os.chdir(folder)
+        program = Program(path)
+        for where, some in (("page", cases[::2]), ("worker", cases[1::2])):
+            opened(browser, address, where)
+            problems, texts = [], set()
+            for at in range(0, len(some), BATCH):
+                batch = some[at: at + BATCH]
+                for case, found in zip(batch, browser.run("return window.asked(given[0]);", [packed(it) for it in batch])):
+                    wanted = wanted_of(program, case)
+                    answers += len(wanted)
+                    texts.add(found["canon"])
+                    kinds.update(it.split()[-1] for it in wanted.values() if it.startswith("refused"))
+                    problems += [f"{case.name}: {name} is {found.get(name)!r:.200} and not {wanted[name]!r:.200}" for name in wanted
+                                 if found.get(name) != wanted[name]]
+            problems += [] if len(texts) > len(some) / 3 else [f"there are only {len(texts)} different answers"]
+            counting.row(f"{len(some)} files in a {where} are answered as by the program", problems)
+        os.chdir(before)
+    print(f"{answers} answers, {len(kinds)} kinds of refusal: {' '.join(sorted(kinds))}", flush=True)
+    counting.check(len(kinds) >= least, f"only {len(kinds)} kinds of refusal came up")
+
+
+def calls(browser, address):
+    """What else the module does: forms, keys, reading what comes in chunks, limits, and what it is loaded from."""
+    opened(browser, address, "page")
+    rows = {
+        "a version": ("return golly.version;", version()),
+        "a limit of one square": ("try { golly.canon(given[0], { limit: 1 }); } catch (why) { return why.message; }", "Full"),
+        "a stream of bytes": ("return text(await golly.read(new Blob([given[0]]).stream()));", None),
+        "a blob": ("return text(await golly.read(new Blob([given[0]])));", None),
+        "a response": ("return text(await golly.read(new Response(given[0])));", None),
+        "chunks": ("return text(await golly.read([given[0].slice(0, 5), given[0].slice(5)]));", None),
+        "a response that is compiled": (f"const it = await import('{address}/golly_canon.mjs'); "
+                                        f"return text((await it.load(fetch('{address}/golly_canon.wasm'))).canon(given[0]));", None),
+        "a buffer of an array": ("return text(golly.canon(new TextEncoder().encode('x' + given[0]).subarray(1)));", None),
+        "no memory of 64 bits": (f"const it = await import('{address}/golly_canon.mjs'); const real = WebAssembly.validate; "
+                                 "WebAssembly.validate = () => false; "
+                                 "try { await it.load(); } catch (why) { return why.message.split(':')[0]; } "
+                                 "finally { WebAssembly.validate = real; }", "this browser has no WebAssembly memory of 64 bits"),
+        "a module that isn't there": (f"try {{ await (await import('{address}/golly_canon.mjs')).load('{address}/no.wasm'); }} "
+                                      "catch (why) { return why.message.split('/').at(-1); }", "no.wasm can't be read: 404"),
+        "what is no file": ("try { golly.canon(7); } catch (why) { return why.constructor.name; }", "TypeError"),
+        "what is no form": ("try { golly.canon(given[0], { form: 'here' }); } catch (why) { return why.constructor.name; }", "RangeError"),
+        "a closed stream": ("const it = golly.stream(); it.close(); it.close(); "
+                            "try { it.feed(given[0]); } catch (why) { return why.message; }", "Spent"),
+        "a text that is asked for twice": ("const it = golly.stream(); it.feed(given[0]); it.finish(); const found = it.finish(); it.close(); "
+                                           "return text(found);", None),
+        "progress": ("let last; await golly.read(new Blob([given[0]]), { onProgress: it => last = it }); return last;", None),
+    }
+    glider = fixtures.FILES["line.rle"].decode()
+    text = commands.canon(commands.File(glider.encode())).output.decode()
+    for name, (script, wanted) in rows.items():
+        wanted = {None: text}.get(wanted, wanted) if name != "progress" else len(glider)
+        found = browser.run("const text = it => new TextDecoder().decode(it); const golly = window.golly; " + script, glider)
+        counting.row(name, [] if found == wanted else [f"{found!r} and not {wanted!r}"])
+    forms(browser)
+
+
+def version():
+    """The version that the crate names."""
+    with open(os.path.join(TOP, "crates", "golly_canon_c", "src", "naming.rt"), encoding="utf-8") as it:
+        return it.read().split('= b"')[1].split('"')[0]
+
+
+# A glider, the same elsewhere, the same reflected, and another pattern.
+GLIDERS = ["x=3,y=3\nbo$2bo$3o!", "#CXRLE Pos=-70,5\nx=3,y=3\nbo$2bo$3o!", "#CXRLE Pos=9,9\nx=3,y=3\nbo$o$3o!", "x=3,y=3\n3o$3o!"]
+WANTED = {"placed": [True, False, False, False], "moved": [True, True, False, False], "turned": [True, True, True, False]}
+
+
+def memory(browser, address):
+    """Memory that is refused is told as such, and the calls give back what they take."""
+    opened(browser, address, "page")
+    small = f"const golly = await (await import('{address}/golly_canon.mjs')).load(undefined, {{ memory: 2 ** 22 }});"
+    rows = {
+        "memory that is there": ("return golly_.show(soup).rule;", "B3/S23"),
+        "memory that is refused": ("try { golly.canon(soup); } catch (why) { return why.message; }", "Memory"),
+        "a file behind it": ("try { golly.canon(soup); } catch {} return golly.show('x=1,y=1\\no!').nodes;", 1),
+        "calls give their memory back": (
+            "for (let i = 0; i < 500; i++) { golly.canon('x=1,y=1\\no!'); golly.same('[M2]', '[M2]'); "
+            "try { golly.step('x=1,y=1\\nq'); } catch {} } return 0;", 0),
+    }
+    soup = "let seed = 1; const cell = () => 'bo'[(seed = (seed * 1103515245 + 12345) % 2147483648) >> 16 & 1]; " \
+           "const row = () => Array.from({ length: 2000 }, cell).join('') + '$'; " \
+           "const soup = 'x=1,y=1\\n' + Array.from({ length: 1000 }, row).join('\\n');"
+    for name, (script, wanted) in rows.items():
+        found = browser.run(small + "const golly_ = window.golly;" + soup + script)
+        counting.row(name, [] if found == wanted else [f"{found!r} and not {wanted!r}"])
+
+
+def patched(wasm, stack):
+    """The module with its stack this low: the first global is the top of the stack, below which there is nothing."""
+    for section, at, data in page_script().sections(wasm):
+        if section == 6:
+            # One global, an i64 that changes, whose value is a number in LEB128: as long a number takes its place.
+            end = data.index(0x0B)
+            length = end - 4
+            if data[:4] != b"\x01\x7e\x01\x42" or length < 3:
+                raise ValueError(f"a section of globals {data!r}")
+            number = bytes((stack >> 7 * it & 127) | (128 if it < length - 1 else 0) for it in range(length))
+            return wasm[: at + 4] + number + wasm[at + 4 + length:]
+    raise ValueError("no section of globals")
+
+
+def page_script():
+    """scripts/page as a module."""
+    loader = importlib.machinery.SourceFileLoader("page_script", os.path.join(TOP, "scripts", "page"))
+    spec = importlib.util.spec_from_loader("page_script", loader)
+    module = importlib.util.module_from_spec(spec)
+    loader.exec_module(module)
+    return module
+
+
+# Two files: the second goes down all levels of the plane.
+SHALLOW = "[M2]\n*$\n"
+DEEP = "#CXRLE Pos=-2305843009213693952,0\nx=1,y=1\n4611686018427387903o!"
+
+
+def stacks(browser, address, folder):
+    """A call that runs over the stack stops, and is told as a fault; the next one is made on a new module."""
+    with open(os.path.join(folder, "golly_canon.wasm"), "rb") as it:
+        wasm = it.read()
+    opened(browser, address, "page")
+    script = f"""const it = await import("{address}/golly_canon.mjs"); const [low, shallow, deep] = given;
+        const golly = await it.load(Uint8Array.from(atob(low), one => one.charCodeAt(0)));
+        const tried = act => {{ try {{ act(); return "done"; }} catch (why) {{ return why instanceof it.Fault ? "fault" : why.message; }} }};
+        const open = golly.stream();
+        const acts = [() => open.feed(shallow), () => golly.canon(shallow), () => golly.canon(deep), () => open.finish(), () => golly.canon(shallow)];
+        const found = acts.map(tried);
+        open.close();
+        return found;"""
+    found = {}
+    for stack in LOW_STACKS:
+        low = base64.b64encode(patched(wasm, stack)).decode()
+        found[stack] = browser.run(script, low, SHALLOW, DEEP)
+    counting.row("a stack that is too low", [] if ["done", "done", "fault", "fault", "done"] in found.values() else [repr(found)])
+    full = browser.run(script, base64.b64encode(wasm).decode(), SHALLOW, DEEP)
+    counting.row("the stack as it is", [] if full == ["done"] * 5 else [repr(full)])
+
+
+def forms(browser):
+    """Each form groups four files as it should, by texts, keys and comparisons."""
+    for form, wanted in WANTED.items():
+        script = """const [files, form] = given; const golly = window.golly; const text = it => new TextDecoder().decode(it);
+            const hex = it => Array.from(it, byte => byte.toString(16).padStart(2, "0")).join("");
+            const texts = files.map(it => text(golly.canon(it, { form })));
+            for (const [index, it] of files.entries()) {
+              if (text(await golly.read([it.slice(0, 7), it.slice(7)], { form })) !== texts[index]) texts[index] = "other";
+            }
+            return { texts, keys: files.map(it => hex(golly.key(it, { form }))), same: files.map(it => golly.same(files[0], it, { form })) };"""
+        found = browser.run(script, GLIDERS, form)
+        digests = [hashlib.sha256(it.encode()).hexdigest() for it in found["texts"]]
+        problems = [] if [it == found["texts"][0] for it in found["texts"]] == wanted else [f"texts {found['texts']}"]
+        problems += [] if found["same"] == wanted else [f"same {found['same']}"]
+        problems += [] if found["keys"] == digests else [f"keys {found['keys']}"]
+        counting.row(f"patterns that are {form}", problems)

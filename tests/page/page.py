@@ -1,0 +1,114 @@
+#!/usr/bin/env python3
+"""The page and the module for browsers, which scripts/page builds here over what `rt ci` has proved: what they are made of, and in a headless Chromium
+that the module answers as PROGRAM does, and what the page does with files. Where there is no Chromium or no chromedriver, or what scripts/page needs
+beside the toolchain isn't there, a line says that this is skipped.
+
+usage: tests/page/page.py PROGRAM [--cases N] [--seed SEED] [--built FOLDER] [--pictures FOLDER]
+
+With `--built` the page of that folder is tested in place of a new one, and with `--pictures` the windows are saved there as pictures.
+"""
+
+import argparse
+import os
+import re
+import shutil
+import subprocess
+import sys
+import tempfile
+
+HERE = os.path.dirname(os.path.abspath(__file__))
+TOP = os.path.dirname(os.path.dirname(HERE))
+sys.path[1:1] = [os.path.join(TOP, "tests"), os.path.join(TOP, "tests", "program")]
+
+import browser as browsers  # noqa: E402
+import of_module  # noqa: E402
+import of_page  # noqa: E402
+from shared import counting, processes  # noqa: E402
+
+# The most bytes of the page.
+MOST = 400_000
+
+
+def built(folder):
+    """Builds the page into a folder. Returns why it can't be built here, if so."""
+    words = [sys.executable, "-B", os.path.join(TOP, "scripts", "page"), folder]
+    ran = subprocess.run(words, stdout=subprocess.PIPE, stderr=subprocess.STDOUT, text=True, check=False)
+    print(ran.stdout, end="", flush=True)
+    lacks = re.search(r"^scripts/page: there is no .*", ran.stdout, re.MULTILINE)
+    if ran.returncode and lacks is None:
+        counting.check(False, "scripts/page builds the page")
+    return lacks[0] if lacks else None if ran.returncode == 0 else "it can't be built"
+
+
+def types():
+    """The module has types for what it exports, and for each call of the library."""
+    texts = []
+    for name in ("golly_canon.mjs", "golly_canon.d.ts"):
+        with open(os.path.join(TOP, "web", name), encoding="utf-8") as it:
+            texts.append(it.read())
+    exported, typed = [set(re.findall(r"(?m)^export (?:async )?(?:function|class|const) (\w+)", it)) for it in texts]
+    counting.row("types for what the module exports", [] if exported == typed else [f"{sorted(exported ^ typed)}"])
+    calls = set(re.findall(r"(?m)^  (?:async )?(\w+)\(.*\{$", texts[0].split("class Library")[1])) - {"constructor"}
+    typed = set(re.findall(r"(?m)^  (\w+)\(", texts[1].split("interface Library")[1].split("\n}")[0]))
+    counting.row("types for the calls of the library", [] if calls == typed and len(calls) == 8 else [f"{sorted(calls)} and {sorted(typed)}"])
+
+
+def made_of(folder):
+    """What the page is made of: its size, its policy, and no address of another place."""
+    with open(os.path.join(folder, "golly_canon.html"), encoding="utf-8") as it:
+        page = it.read()
+    counting.row(f"a page of {len(page)} bytes", [] if len(page) <= MOST else [f"it has more than {MOST}"])
+    policy = re.search(r'Content-Security-Policy" content="([^"]*)"', page)
+    is_strict = policy and policy[1].startswith("default-src 'none'; ") and not re.search("http|unsafe-inline|\\*", policy[1])
+    counting.row("its policy", [] if is_strict else [str(policy and policy[1])])
+    counting.row("no address of another place", re.findall(r"https?://[^\s\"'<]*", page))
+
+
+def in_firefox(folder, program, options):
+    """A part of that in Firefox, where it is installed."""
+    if not shutil.which(browsers.FIREFOX):
+        print(f"skipped: the same in Firefox, since there is no {browsers.FIREFOX}", flush=True)
+        return
+    with browsers.Server(folder) as server, browsers.Firefox() as browser:
+        of_module.compares(browser, server.address, program, f"{options.seed} in Firefox", options.cases // 5, 10)
+        of_page.examples(browser, f"file://{folder}/golly_canon.html", "in Firefox")
+
+
+def main():
+    parser = argparse.ArgumentParser(description=__doc__, formatter_class=argparse.RawDescriptionHelpFormatter)
+    parser.add_argument("program")
+    parser.add_argument("--cases", type=int, default=500)
+    parser.add_argument("--seed", default="1")
+    parser.add_argument("--built")
+    parser.add_argument("--pictures")
+    options = parser.parse_args()
+    program = processes.program_of(options.program)
+    types()
+    with tempfile.TemporaryDirectory() as work:
+        folder = os.path.join(work, "page")
+        lacks = None
+        if options.built:
+            shutil.copytree(options.built, folder)
+        else:
+            lacks = built(folder)
+        if lacks is None:
+            made_of(folder)
+        if lacks is None and not browsers.is_there():
+            lacks = f"there is no {browsers.CHROMIUM} with its {browsers.DRIVER}"
+        if lacks is None:
+            with open(os.path.join(folder, "blank.html"), "w", encoding="utf-8") as it:
+                it.write('<!doctype html><title>blank</title><link rel="icon" href="data:,">')
+            with browsers.Server(folder) as server, browsers.Browser() as browser:
+                of_module.compares(browser, server.address, program, options.seed, options.cases)
+                of_module.calls(browser, server.address)
+                of_module.memory(browser, server.address)
+                of_module.stacks(browser, server.address, folder)
+            of_page.rows(folder, program, options.pictures)
+            in_firefox(folder, program, options)
+        else:
+            print(f"skipped: {lacks}", flush=True)
+    return counting.ended()
+
+
+if __name__ == "__main__":
+    sys.exit(main())

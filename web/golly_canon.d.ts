@@ -1,0 +1,109 @@
+/** One canonical text for each cellular-automaton pattern, by the proved library golly_canon, compiled for WebAssembly. */
+
+/** A file: its bytes, or a text that is read as UTF-8. */
+export type Data = string | ArrayBuffer | ArrayBufferView;
+
+/**
+ * A form of a pattern: the pattern where it lies; wherever it lies; or also however it is turned or reflected. Rule and generation count in each. The
+ * last two are for patterns of up to 2^20 cells that aren't 0.
+ */
+export type Form = "placed" | "moved" | "turned";
+
+/** The forms, from the one in which fewest patterns are one. */
+export const FORMS: readonly Form[];
+
+/** The limit of a call, if none is given: so many different squares. Beyond it a file is refused as `Full`. */
+export const SQUARES: number;
+
+/** The most different squares that a call may store; a square takes some 40 bytes. */
+export interface Limited {
+  limit?: number | bigint;
+}
+
+export interface InForm extends Limited {
+  form?: Form;
+}
+
+/** The least box of the cells that aren't 0. `top` is the row with the least number, as y grows downwards. */
+export interface Box {
+  left: bigint;
+  top: bigint;
+  width: bigint;
+  height: bigint;
+}
+
+/** What a file holds: its rule in the canonical spelling, its generation, how many cells aren't 0, their least box, the squares of the canonical text. */
+export interface Shown {
+  rule: string;
+  generation: bigint;
+  population: bigint;
+  box: Box | null;
+  nodes: number;
+}
+
+/** Why a file, a rule table or a pattern is refused. As a text it is the line that the program writes, as `line 4: BadChild`. */
+export class Refused extends Error {
+  /** The name of the kind of fault, as docs/FORMATS.md has it. */
+  readonly kind: string;
+  /** The line of the file, counted from 1, or null where the fault is of no line. */
+  readonly line: number | null;
+  /** Whether it is a line of the rule table. */
+  readonly inTable: boolean;
+  constructor(kind: string, line?: number | null, inTable?: boolean);
+}
+
+/** The module stopped in a call, as where its stack is full: nothing is said of the file. The next call is made on a new module. */
+export class Fault extends Error {}
+
+/** Whether there is WebAssembly memory of 64 bits here, without which the library can't be loaded. */
+export function isSupported(): boolean;
+
+/**
+ * Loads the library: from golly_canon.wasm beside this file, or from what is given. `memory` is the most memory that it may take, in bytes.
+ */
+export function load(
+  source?: WebAssembly.Module | BufferSource | Response | URL | string | Promise<WebAssembly.Module | BufferSource | Response>,
+  options?: { memory?: number },
+): Promise<Library>;
+
+/** The library. Each call throws `Refused`, or `Fault`; what it returns is the caller's. */
+export interface Library {
+  readonly version: string;
+  /** The canonical text of the pattern of a file, in a form. */
+  canon(data: Data, options?: InForm): Uint8Array;
+  /** The SHA-256 of that text, 32 bytes. */
+  key(data: Data, options?: InForm): Uint8Array;
+  /** Whether two files are one pattern, in a form. It throws for the first file where that is refused, and else for the second. */
+  same(first: Data, second: Data, options?: InForm): boolean;
+  /** The pattern of a file in extended RLE, of up to 2^20 cells that aren't 0. */
+  toRle(data: Data, options?: Limited): Uint8Array;
+  show(data: Data, options?: Limited): Shown;
+  /** The canonical text of the next generation: by the B/S rule of the file, or by the rule table of its name, the bytes of a .rule file. */
+  step(data: Data, options?: Limited & { table?: Data }): Uint8Array;
+  /** A stream for a file that comes in chunks: of its canonical text, which has a form, of its RLE, of the next generation, or of what it holds. */
+  stream(options?: InForm & { gives?: "canon" }): Stream<Uint8Array>;
+  stream(options: Limited & { gives: "toRle" | "step" }): Stream<Uint8Array>;
+  stream(options: Limited & { gives: "show" }): Stream<Shown>;
+  /** What comes of a file that is read to its end and not held. */
+  read(source: Source, options?: InForm & Told & { gives?: "canon" }): Promise<Uint8Array>;
+  read(source: Source, options: Limited & Told & { gives: "toRle" | "step" }): Promise<Uint8Array>;
+  read(source: Source, options: Limited & Told & { gives: "show" }): Promise<Shown>;
+}
+
+/** Who is told how many bytes of a file were read. */
+export interface Told {
+  onProgress?: (bytes: number) => void;
+}
+
+/** What a file is read from: a stream of bytes, a blob, a response, bytes, or chunks one behind another. */
+export type Source = ReadableStream<Uint8Array> | Blob | Response | Data | Iterable<Data> | AsyncIterable<Data>;
+
+/** A file that comes in chunks, cut anywhere, which need not be held. */
+export interface Stream<Text> {
+  /** Takes the next chunk. A line is refused with the chunk in which it ends; then each further chunk and the end are refused alike. */
+  feed(chunk: Data): void;
+  /** Ends the file, and returns what comes of it. Called again it returns the same. */
+  finish(): Text;
+  /** Gives the memory of the stream back. A stream that is lost without it keeps its memory for as long as the library is there. */
+  close(): void;
+}

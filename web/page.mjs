@@ -1,0 +1,717 @@
+/** The page: it takes files, has them read by the worker, and says which of them are one pattern. */
+
+import { EXAMPLES } from "./examples.mjs";
+import { Failed, Jobs, Stopped } from "./jobs.mjs";
+import { Picture } from "./picture.mjs";
+import { SENTENCES } from "./sentences.mjs";
+import { filesOfTransfer, sourcesOf } from "./archive.mjs";
+
+const $ = id => document.getElementById(id);
+/** What counts as one pattern: the words of each form. */
+const FORMS = { placed: "As placed", moved: "Moved", turned: "Moved, turned or reflected" };
+/** The most rows of the list, and the most bytes of a text, that are shown. */
+const MOST_ROWS = 500;
+const MOST_SHOWN = 1 << 16;
+/** The most cells that aren't 0 for RLE and for a step. */
+const MOST_CELLS = 2n ** 20n;
+/** From one generation to the next while it runs, in milliseconds. */
+const PACE = 60;
+
+const memory = Number(new URLSearchParams(location.hash.slice(1)).get("memory"));
+const jobs = new Jobs(memory > 0 ? memory * 2 ** 20 : undefined);
+const picture = new Picture($("picture"), showPlace, showPoint);
+
+/** The files, each with what is known of it: `summary` and `keys`, or `failed`. */
+let files = [];
+/** The rule tables, by the names of their rules. */
+let tables = new Map();
+/** What is shown: its file, its text, its summary and its tree, and the text of the file itself. */
+let shown = null;
+let form = "placed";
+let isChosen = false;
+let isRunning = false;
+/** A number that is another one behind each stop, and each time all is cleared. */
+let turn = 0;
+
+// ---- words
+
+/** A whole number, in groups of three digits. */
+const grouped = number => number.toString().replace(/\B(?=(\d{3})+(?!\d))/g, "\u202f");
+
+const counted = (number, one, many) => `${grouped(number)} ${number === 1 || number === 1n ? one : many}`;
+
+function sizeOf(bytes) {
+  return bytes < 1e6 ? `${grouped(Math.ceil(bytes / 1000))} KB` : `${(bytes / 1e6).toFixed(1)} MB`;
+}
+
+function boxOf({ box }) {
+  return box === null ? "none" : `${grouped(box.width)} \u00d7 ${grouped(box.height)} at (${grouped(box.left)}, ${grouped(box.top)})`;
+}
+
+/** A power of two in words: its digits, or its exponent where it has many. */
+function powerOf(k) {
+  return k < 20 ? grouped(2 ** k) : `2${String(k).replace(/\d/g, it => "\u2070\u00b9\u00b2\u00b3\u2074\u2075\u2076\u2077\u2078\u2079"[it])}`;
+}
+
+/** What a kind of fault means. The program has another limit of squares than the page. */
+function sentenceOf(kind) {
+  return kind === "Full" ? `The pattern comes to more than ${powerOf(26)} different squares.` : (SENTENCES[kind] ?? "");
+}
+
+function showPlace({ x, y, zoom }) {
+  const far = powerOf(Math.max(0, -zoom));
+  const scale = zoom === 0 ? "one pixel a cell" : zoom > 0 ? `${2 ** zoom} pixels a cell` : `a pixel is ${far} \u00d7 ${far} cells`;
+  $("place").textContent = `Middle: cell (${grouped(x)}, ${grouped(y)}); ${scale}.`;
+}
+
+function showPoint(point) {
+  $("under").textContent = point === null ? "" : `Under the pointer: cell (${grouped(point.x)}, ${grouped(point.y)}), state ${point.state}.`;
+}
+
+function say(text) {
+  $("said").textContent = text;
+}
+
+/** An element with a text and these properties. */
+function made(name, text = "", properties = {}) {
+  return Object.assign(document.createElement(name), { textContent: text, ...properties });
+}
+
+function button(text, onClick, properties = {}) {
+  const it = made("button", text, { type: "button", ...properties });
+  it.addEventListener("click", onClick);
+  return it;
+}
+
+// ---- taking files
+
+let taken = Promise.resolve();
+
+/** Takes files behind those that were given before. */
+function take(source) {
+  const mine = turn;
+  taken = taken.then(() => (mine === turn ? takeNow(source, mine) : undefined));
+}
+
+async function takeNow(source, mine) {
+  const given = [];
+  try {
+    working("Looking at the files", null);
+    for await (const file of source) {
+      if (mine !== turn) {
+        return;
+      }
+      given.push(file);
+    }
+    await readAll(given, mine);
+  } catch (why) {
+    if (!(why instanceof Stopped)) {
+      say(`That did not work: ${why.message}.`);
+    }
+  } finally {
+    if (mine === turn) {
+      notWorking();
+      showCompared();
+    }
+  }
+}
+
+/** Reads files one after another, and those in zips, with a bar over the bytes of all of them. The first one that is a pattern is shown. */
+async function readAll(given, mine) {
+  const whole = given.reduce((sum, { blob }) => sum + blob.size, 0);
+  let before = 0;
+  for (const [index, file] of given.entries()) {
+    const sources = await sourcesOf(file);
+    let within = 0; // a zip has some bytes beside those of its files
+    for (const [place, source] of sources.entries()) {
+      if (mine !== turn) {
+        return;
+      }
+      const [number, count] = sources.length > 1 ? [place, sources.length] : [index, given.length];
+      const about = count > 1 ? `${source.name} (${grouped(number + 1)} of ${grouped(count)})` : source.name;
+      const at = before + within;
+      await readOne(source, bytes => working(`${bytes < source.size ? "Reading" : "Writing the text of"} ${about}`, (at + bytes) / whole));
+      within += source.size;
+    }
+    before += file.blob.size;
+  }
+}
+
+/** Reads a source: a rule table, or a file that is a pattern or is refused. */
+async function readOne(file, onProgress) {
+  onProgress(0);
+  if (isTable(file)) {
+    await takeTable(file);
+  } else {
+    await readPattern(file, onProgress);
+  }
+}
+
+async function readPattern(file, onProgress) {
+  files.push(file);
+  const isShown = shown === null;
+  try {
+    if (file.why !== undefined) {
+      throw new Failed({ unreadable: file.why });
+    }
+    const found = await jobs.ask("read", { source: sourceOf(file), isShown }, onProgress);
+    Object.assign(file, { summary: found.summary, keys: found.keys });
+    if (isShown) {
+      show(file, found);
+    }
+    if (found.lacksKeys) {
+      working(`Turning ${file.name}`, null);
+      Object.assign(file.keys, await jobs.ask("keys"));
+    }
+    if (file === shown?.file) {
+      showSummary();
+    }
+  } catch (why) {
+    if (!(why instanceof Failed)) {
+      files = files.filter(it => it !== file);
+      throw why;
+    }
+    file.failed = why;
+    if (files.length === 1) {
+      showRefused(file);
+    }
+  }
+}
+
+/** A file as the worker is told of it. */
+function sourceOf({ blob, bytes, packed, sum, length }) {
+  return { blob, bytes: bytes?.slice(), packed, sum, length };
+}
+
+/** Whether a file is a rule table, by its name or its first word. */
+function isTable({ name, bytes, packed, why }) {
+  return why === undefined && (/\.rule$/i.test(name) || (!packed && new TextDecoder().decode(bytes?.subarray(0, 5)) === "@RULE"));
+}
+
+async function takeTable(file) {
+  const stream = (file.blob ?? new Blob([file.bytes])).stream();
+  const unpacked = file.packed ? stream.pipeThrough(new DecompressionStream(file.packed)) : stream;
+  const bytes = new Uint8Array(await new Response(unpacked).arrayBuffer().catch(() => new ArrayBuffer(0)));
+  const name = /^@RULE[ \t]+(\S+)/m.exec(new TextDecoder("latin1").decode(bytes.subarray(0, MOST_SHOWN)))?.[1];
+  if (name === undefined) {
+    say(`${file.name} is no rule table: it has no line @RULE with a name.`);
+    return;
+  }
+  tables.set(name, bytes);
+  say(`The rule table of ${name} serves the steps of patterns under that name.`);
+  showSteps();
+}
+
+function takeText(text, name) {
+  take((async function* () {
+    yield { name, blob: new Blob([text]) };
+  })());
+}
+
+// ---- what is at work
+
+function working(what, share) {
+  $("working").hidden = false;
+  $("doing").textContent = what;
+  if (share === null || Number.isNaN(share)) {
+    $("bar").removeAttribute("value");
+  } else {
+    $("bar").value = share;
+  }
+}
+
+function notWorking() {
+  $("working").hidden = true;
+}
+
+/** Ends what is at work. What was read stays. */
+function stop() {
+  turn++;
+  jobs.stop();
+  running(false);
+  notWorking();
+  files = files.filter(it => it.keys !== undefined || it.failed !== undefined);
+  say("Stopped.");
+  showCompared();
+}
+
+function clear() {
+  turn++;
+  jobs.stop();
+  running(false);
+  notWorking();
+  files = [];
+  tables = new Map();
+  shown = null;
+  isChosen = false;
+  say("");
+  for (const id of ["compared", "refused", "shown"]) {
+    $(id).hidden = true;
+  }
+  $("clear").hidden = true;
+}
+
+// ---- comparing
+
+/** The files that are one pattern in a form, each group with two or more. */
+function groupsIn(which) {
+  const groups = new Map();
+  for (const file of files) {
+    const key = file.keys?.[which];
+    if (key !== undefined && !groups.get(key)?.push(file)) {
+      groups.set(key, [file]);
+    }
+  }
+  return [...groups.values()].filter(it => it.length > 1);
+}
+
+function formsThere() {
+  return Object.keys(FORMS).filter(it => files.some(file => file.keys?.[it] !== undefined));
+}
+
+function showCompared() {
+  $("clear").hidden = files.length === 0;
+  $("compared").hidden = files.length < 2;
+  if (files.length < 2) {
+    return;
+  }
+  const forms = formsThere();
+  if (!isChosen) {
+    form = forms.find(it => groupsIn(it).length > 0) ?? "placed";
+  }
+  const groups = groupsIn(form);
+  $("answer").textContent = answerOf(groups);
+  $("why").textContent = whyOf(groups);
+  $("forms").replaceChildren(...forms.map(it => {
+    const choice = button(`${FORMS[it]} (${counted(groupsIn(it).length, "group", "groups")})`, () => {
+      [form, isChosen] = [it, true];
+      showCompared();
+    });
+    choice.ariaPressed = String(it === form);
+    return choice;
+  }));
+  showList(groups);
+}
+
+/** What is added to a sentence on files that are one pattern in a form, and on those that are compared in it. */
+const HOW = { placed: "", moved: ", at different places", turned: ", turned or reflected" };
+const WHATEVER = { placed: "", moved: ", wherever they lie", turned: ", however they lie or are turned" };
+
+/** The first form in which the files of a group are one pattern. */
+const formOf = group => Object.keys(FORMS).find(it => group.every(file => file.keys[it] === group[0].keys[it]));
+
+function answerOf(groups) {
+  const patterns = files.filter(it => it.keys !== undefined);
+  if (groups.length === 1 && groups[0].length === files.length) {
+    return `${files.length === 2 ? "Both" : `All ${grouped(files.length)}`} files are one pattern${HOW[formOf(groups[0])]}.`;
+  }
+  if (groups.length === 0) {
+    const what = patterns.length === 2 ? "The files are two patterns" : "No two files are one pattern";
+    return patterns.length < 2 ? "There is nothing to compare." : `${what}${WHATEVER[form]}.`;
+  }
+  const doubles = groups.reduce((sum, it) => sum + it.length, 0);
+  const how = `${WHATEVER[form]}: ${counted(groups.length, "group", "groups")}`;
+  return `${grouped(doubles)} of ${grouped(files.length)} files share a pattern with another${how}.`;
+}
+
+/** What two files differ in, or by how much the one is moved; of more files how many were refused. */
+function whyOf(groups) {
+  const refused = files.filter(it => it.failed !== undefined).length;
+  if (files.length !== 2 || refused > 0) {
+    return refused > 0 ? `${counted(refused, "file was", "files were")} refused.` : "";
+  }
+  const [one, other] = files.map(it => it.summary);
+  if (groups.length === 0) {
+    const names = { rule: "rules", generation: "generations", population: "numbers of cells" };
+    const differing = Object.keys(names).find(it => one[it] !== other[it]);
+    if (differing) {
+      return `They have other ${names[differing]}: ${one[differing]} and ${other[differing]}.`;
+    }
+    const boxes = [one, other].map(boxOf);
+    return boxes[0] !== boxes[1] ? `Their boxes are ${boxes.join(" and ")}.` : "They have one rule, one generation and one box, and other cells.";
+  }
+  const found = formOf(groups[0]);
+  if (found === "placed") {
+    return "They name one rule and one generation, and give each cell of the plane the same state.";
+  }
+  if (found === "moved") {
+    const [right, down] = [other.box.left - one.box.left, other.box.top - one.box.top];
+    const ways = [
+      [right, "column", "columns", "east", "west"],
+      [down, "row", "rows", "south", "north"],
+    ].filter(([by]) => by !== 0n);
+    const said = ways.map(([by, unit, units, there, back]) => `${counted(by > 0n ? by : -by, unit, units)} to the ${by > 0n ? there : back}`);
+    return `The second one lies ${said.join(" and ")} of the first.`;
+  }
+  return "They name one rule and one generation.";
+}
+
+/** A colour for a group, apart from those of the groups before it. */
+const colourOf = index => `hsl(${(index * 137.5 + 40) % 360} 75% 72%)`;
+
+function showList(groups) {
+  const numbers = new Map(groups.flatMap((group, index) => group.map(file => [file, index])));
+  const order = file => numbers.get(file) ?? (file.failed === undefined ? groups.length : groups.length + 1);
+  const sorted = [...files].sort((one, other) => order(one) - order(other));
+  $("list").tBodies[0].replaceChildren(...sorted.slice(0, MOST_ROWS).map(file => rowOf(file, numbers.get(file))));
+  $("more").textContent = sorted.length > MOST_ROWS ? `And ${grouped(sorted.length - MOST_ROWS)} more, which the saved table has.` : "";
+}
+
+function rowOf(file, group) {
+  const row = document.createElement("tr");
+  const mark = made("span", group === undefined ? "" : String(group + 1), { className: "group" });
+  if (group !== undefined) {
+    mark.style.setProperty("--of-group", colourOf(group));
+  }
+  const name = button(file.name, () => choose(file), { className: "link" });
+  const cells = [mark, name].map(it => {
+    const cell = document.createElement("td");
+    cell.append(it);
+    return cell;
+  });
+  if (file.failed !== undefined) {
+    cells.push(made("td", file.failed.message, { className: "bad", colSpan: 4 }));
+  } else {
+    const { rule, generation, population } = file.summary;
+    cells.push(...[rule, grouped(generation), grouped(population), boxOf(file.summary)].map(it => made("td", it)));
+  }
+  if (file === shown?.file) {
+    row.className = "chosen";
+    name.ariaCurrent = "true";
+  }
+  row.append(...cells);
+  return row;
+}
+
+/** The list as a table with commas: a line for each file, those of one pattern with one number. */
+function tableOf() {
+  const numbers = new Map(groupsIn(form).flatMap((group, index) => group.map(file => [file, index + 1])));
+  // A text that begins as a formula is none to a reader of tables.
+  const quoted = text => `"${(/^[=+\-@\t\r]/.test(text) ? `'${text}` : text).replaceAll('"', '""')}"`;
+  const lines = files.map(file => {
+    const { rule, generation, population, box } = file.summary ?? {};
+    const place = box ? [box.left, box.top, box.width, box.height] : ["", "", "", ""];
+    return [numbers.get(file) ?? "", quoted(file.name), quoted(rule ?? ""), generation ?? "", population ?? "", ...place, file.keys?.placed ?? "",
+      quoted(file.failed?.message ?? "")].join(",");
+  });
+  return ["group,file,rule,generation,population,left,top,width,height,key,refused", ...lines].join("\r\n") + "\r\n";
+}
+
+// ---- showing a file
+
+async function choose(file) {
+  if (file.failed !== undefined) {
+    showRefused(file);
+    return;
+  }
+  const mine = turn;
+  running(false);
+  working(`Reading ${file.name}`, 0);
+  try {
+    const found = await jobs.ask("read", { source: sourceOf(file), isShown: true }, bytes => working(`Reading ${file.name}`, bytes / file.size));
+    show(file, found);
+    showCompared();
+  } catch (why) {
+    if (why instanceof Failed) {
+      say(`${file.name} can't be read any more: ${why.message}.`);
+    }
+  } finally {
+    if (mine === turn) {
+      notWorking();
+    }
+  }
+}
+
+function showRefused(file) {
+  const { refused, unreadable } = file.failed;
+  $("shown").hidden = true;
+  $("refused").hidden = false;
+  $("refused-name").textContent = `${file.name} is refused`;
+  if (refused === undefined) {
+    $("refused-told").textContent = unreadable === undefined ? "Fault" : "Unreadable";
+    $("refused-why").textContent = unreadable ?? `The library stopped (${file.failed.fault}); it was loaded anew. Nothing is said of the file.`;
+  } else {
+    $("refused-told").textContent = refused.told;
+    $("refused-why").textContent = sentenceOf(refused.kind);
+  }
+  const line = refused?.found ?? "";
+  $("refused-line").hidden = line === "";
+  $("refused-line").textContent = line === "" ? "" : `${refused.line}: ${line}`;
+}
+
+/** Shows a file with what was read of it. */
+function show(file, { text, summary, tree }) {
+  shown = { file, text, summary, tree, first: { text, summary, tree }, isRle: false, rle: null };
+  $("refused").hidden = true;
+  $("shown").hidden = false;
+  $("name").textContent = file.name;
+  showPattern(true);
+}
+
+/** Shows what is there of the pattern; it is a new one where it is of another file. */
+function showPattern(isNew) {
+  const { summary, tree } = shown;
+  $("picture").ariaLabel = `Picture of the pattern: ${counted(summary.population, "cell", "cells")}, generation ${summary.generation}`;
+  picture.show(tree, summary.box, isNew);
+  $("back").hidden = isOfFile();
+  showSummary();
+  showSteps();
+  showText();
+}
+
+/** Whether what is shown is the pattern of the file, and none behind steps. */
+const isOfFile = () => shown.text === shown.first.text;
+
+function showSummary() {
+  const { summary, file } = shown;
+  const rows = [["Rule", summary.rule], ["Generation", grouped(summary.generation)], ["Cells", grouped(summary.population)], ["Box", boxOf(summary)],
+    ["Squares", grouped(summary.nodes)]];
+  if (isOfFile()) {
+    rows.push(["Key", file.keys.placed]);
+    for (const it of Object.keys(file.keys).filter(it => it !== "placed")) {
+      rows.push([`Key, ${it}`, file.keys[it]]);
+    }
+  }
+  const cellOf = ([name, value]) => [made("dt", name), made("dd", value, { className: name.startsWith("Key") ? "key" : "" })];
+  $("summary").replaceChildren(...rows.flatMap(cellOf));
+}
+
+// ---- its text
+
+async function showText() {
+  const of = shown;
+  const { text, summary, isRle } = shown;
+  $("as-canonical").ariaPressed = String(!isRle);
+  $("as-rle").ariaPressed = String(isRle);
+  $("as-rle").disabled = summary.population > MOST_CELLS;
+  if (isRle && shown.rle === null) {
+    try {
+      const rle = (await jobs.ask("rle", { text })).text;
+      if (of !== shown || of.text !== text) {
+        return;
+      }
+      shown.rle = rle;
+    } catch (why) {
+      if (why instanceof Failed) {
+        $("written").value = why.message;
+      }
+      return;
+    }
+  }
+  const bytes = isRle ? shown.rle : text;
+  $("written").value = new TextDecoder().decode(bytes.subarray(0, MOST_SHOWN));
+  $("written-note").textContent = bytes.length > MOST_SHOWN ? `The first 64 KB of ${sizeOf(bytes.length)}; Save has all of it.` : "";
+  $("copy").disabled = bytes.length > 2 ** 24;
+}
+
+function written() {
+  return shown.isRle ? shown.rle : shown.text;
+}
+
+function saved(name, bytes, type = "text/plain") {
+  const address = URL.createObjectURL(new Blob([bytes], { type }));
+  made("a", "", { href: address, download: name }).click();
+  setTimeout(() => URL.revokeObjectURL(address), 60000);
+}
+
+async function copy() {
+  const text = new TextDecoder().decode(written());
+  try {
+    await navigator.clipboard.writeText(text);
+  } catch {
+    // The browser has no clipboard on this page: the text is marked, and copied as by the keyboard.
+    $("written").value = text;
+    $("written").select();
+    document.execCommand("copy");
+  }
+  say("Copied.");
+}
+
+function nameOfText() {
+  const name = shown.file.name.split("/").at(-1).replace(/\.(gz|rle|mc|txt)$/gi, "");
+  const generation = isOfFile() ? "" : ` at ${shown.summary.generation}`;
+  return `${name}${generation}.${shown.isRle ? "rle" : "mc"}`;
+}
+
+// ---- steps
+
+/** The rule table that a step takes: none under a B/S rule. */
+function tableOfShown() {
+  return tables.get(shown.summary.rule);
+}
+
+const isNamed = ({ rule }) => !/^B[0-8]*\/S[0-8]*V?$/.test(rule);
+
+function showSteps() {
+  if (shown === null) {
+    return;
+  }
+  const lacks = isNamed(shown.summary) && tableOfShown() === undefined;
+  const isLarge = shown.summary.population > MOST_CELLS;
+  for (const id of ["step", "run"]) {
+    $(id).disabled = lacks || isLarge;
+  }
+  $("no-step").textContent = lacks
+    ? `For a step drop the rule table of ${shown.summary.rule}, a .rule file.`
+    : isLarge ? `A step and RLE are for up to ${powerOf(20)} cells.` : "";
+}
+
+/** Makes one step. Returns whether there was one. */
+async function step() {
+  const of = shown;
+  try {
+    const found = await jobs.ask("step", { text: of.text, table: tableOfShown() });
+    if (of !== shown) {
+      return false;
+    }
+    Object.assign(shown, found, { rle: null });
+    showPattern(false);
+    say("");
+    return true;
+  } catch (why) {
+    if (why instanceof Failed) {
+      const { refused, fault } = why;
+      const told = refused ? `There is no next generation: ${refused.told}. ${sentenceOf(refused.kind)}` : "";
+      say(told || `The library stopped (${fault}); it was loaded anew.`);
+    }
+    return false;
+  }
+}
+
+function running(isOn) {
+  isRunning = isOn;
+  $("run").ariaPressed = String(isOn);
+  $("run").textContent = isOn ? "Pause" : "Run";
+}
+
+async function run() {
+  if (isRunning) {
+    running(false);
+    return;
+  }
+  running(true);
+  const of = shown;
+  while (isRunning && of === shown) {
+    const begun = performance.now();
+    if (!(await step())) {
+      break;
+    }
+    await new Promise(resolve => setTimeout(resolve, Math.max(0, PACE - (performance.now() - begun))));
+  }
+  running(false);
+}
+
+function back() {
+  running(false);
+  Object.assign(shown, shown.first, { rle: null });
+  showPattern(false);
+}
+
+// ---- what the user does
+
+function chosen(input) {
+  const given = [...input.files].map(it => ({ name: it.webkitRelativePath || it.name, blob: it }));
+  input.value = "";
+  take((async function* () {
+    yield* given;
+  })());
+}
+
+function addListeners() {
+  const acts = {
+    open: () => $("files").click(),
+    "open-folder": () => $("folder").click(),
+    clear,
+    stop,
+    nearer: () => picture.zoom(1),
+    farther: () => picture.zoom(-1),
+    whole: () => picture.whole(),
+    plane: () => picture.plane(),
+    step: () => step(),
+    run,
+    back,
+    copy,
+    save: () => saved(nameOfText(), written()),
+    "save-table": () => saved("patterns.csv", tableOf(), "text/csv"),
+    paste: () => {
+      $("typed").hidden = !$("typed").hidden;
+      $("paste").ariaExpanded = String(!$("typed").hidden);
+      $("text").focus();
+    },
+    "as-canonical": () => {
+      shown.isRle = false;
+      showText();
+    },
+    "as-rle": () => {
+      shown.isRle = true;
+      showText();
+    },
+  };
+  for (const [id, act] of Object.entries(acts)) {
+    $(id).addEventListener("click", act);
+  }
+  $("files").addEventListener("change", event => chosen(event.target));
+  $("folder").addEventListener("change", event => chosen(event.target));
+  $("typed").addEventListener("submit", event => {
+    event.preventDefault();
+    takeText($("text").value, nameOfPasted());
+    $("text").value = "";
+  });
+  addDropping();
+  document.addEventListener("paste", event => {
+    if (event.target instanceof HTMLTextAreaElement && !event.target.readOnly) {
+      return;
+    }
+    const transfer = event.clipboardData;
+    if (transfer.files.length > 0) {
+      take(filesOfTransfer(transfer));
+    } else if (transfer.getData("text/plain") !== "") {
+      takeText(transfer.getData("text/plain"), nameOfPasted());
+    }
+  });
+}
+
+function nameOfPasted() {
+  return `pasted ${files.filter(it => it.name.startsWith("pasted ")).length + 1}`;
+}
+
+function addDropping() {
+  let depth = 0;
+  const over = change => {
+    depth = change === 0 ? 0 : Math.max(0, depth + change);
+    $("dropping").hidden = depth === 0;
+  };
+  document.addEventListener("dragenter", () => over(1));
+  document.addEventListener("dragleave", () => over(-1));
+  document.addEventListener("dragover", event => event.preventDefault());
+  document.addEventListener("drop", event => {
+    event.preventDefault();
+    over(0);
+    const transfer = event.dataTransfer;
+    if ([...transfer.items].some(it => it.kind === "file")) {
+      take(filesOfTransfer(transfer));
+    } else if (transfer.getData("text/plain") !== "") {
+      takeText(transfer.getData("text/plain"), nameOfPasted());
+    }
+  });
+}
+
+function addExamples() {
+  $("examples").append(...Object.entries(EXAMPLES).map(([name, given]) => button(name, () => {
+    clear();
+    take((async function* () {
+      for (const [file, text] of Object.entries(given)) {
+        yield { name: file, blob: new Blob([text]) };
+      }
+    })());
+  }, { className: "link" })));
+}
+
+addListeners();
+addExamples();
+try {
+  await jobs.load();
+  say("");
+} catch (why) {
+  say(`The page can't work here: ${why.message}`);
+}

@@ -1,0 +1,2 @@
+/** What each kind of fault means, as the program's man page says it. */
+export const SENTENCES = SENTENCES_OF_THE_MAN_PAGE;

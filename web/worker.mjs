@@ -1,0 +1,100 @@
+/** The worker: it answers one request after another, so that the page never waits for the library. */
+
+import { FORMS, Refused, load } from "./golly_canon.mjs";
+import { sha256 } from "./sha256.mjs";
+import { Unreadable, checkSource, chunksOfSource, lineOf } from "./source.mjs";
+import { treeOf } from "./tree.mjs";
+
+/** The most different squares: a store of so many takes some 2.5 GB. */
+const LIMIT = 2 ** 26;
+/** The most cells that aren't 0 of a pattern that is moved, turned or written as RLE. */
+const MOST_CELLS = 2n ** 20n;
+let golly = null;
+
+/** The text of the file that was read last, where its other keys are lacking. */
+let last = null;
+
+/** The keys of a pattern in the other forms, but for those that take too much. */
+function otherKeys(text) {
+  const keys = {};
+  for (const form of FORMS.slice(1)) {
+    try {
+      keys[form] = sha256(golly.canon(text, { form, limit: LIMIT }));
+    } catch (why) {
+      if (!(why instanceof Refused)) {
+        throw why;
+      }
+    }
+  }
+  return keys;
+}
+
+/** A canonical text, with what there is to see of it. */
+function opened(text) {
+  const summary = golly.show(text, { limit: LIMIT });
+  return { text, summary, tree: treeOf(text) };
+}
+
+const acts = {
+  async load({ module, memory }) {
+    golly = await load(module, { memory });
+    return {};
+  },
+
+  /** Reads a file: its summary and its keys, or where it is to be shown its key as it is placed, its text and its tree. */
+  async read({ source, isShown }, tell) {
+    let text;
+    try {
+      text = await golly.read(chunksOfSource(source, tell), { limit: LIMIT });
+    } catch (why) {
+      if (why instanceof Refused) {
+        await checkSource(source); // a file that is damaged is no file that is refused
+        why.found = why.line === null ? "" : await lineOf(source, why.line);
+      }
+      throw why;
+    }
+    const found = isShown ? opened(text) : { summary: golly.show(text, { limit: LIMIT }) };
+    const hasForms = found.summary.population <= MOST_CELLS;
+    last = isShown && hasForms ? text.slice() : null;
+    return { ...found, keys: { placed: sha256(text), ...(hasForms && !isShown ? otherKeys(text) : {}) }, lacksKeys: last !== null };
+  },
+
+  /** The other keys of the file that was read last, so that it is shown before they are there. */
+  async keys() {
+    return otherKeys(last);
+  },
+
+  async rle({ text }) {
+    return { text: golly.toRle(text, { limit: LIMIT }) };
+  },
+
+  async step({ text, table }) {
+    return opened(golly.step(text, { table, limit: LIMIT }));
+  },
+};
+
+/** What the page is told of an error. */
+function toldOf(why) {
+  if (why instanceof Refused) {
+    return { refused: { told: why.message, kind: why.kind, line: why.line, inTable: why.inTable, found: why.found ?? "" } };
+  }
+  if (why instanceof Unreadable) {
+    return { unreadable: why.message };
+  }
+  return { fault: why.message };
+}
+
+/** The memory that is handed over and not copied. */
+function handedOver({ text, tree }) {
+  return [text, tree?.levels, tree?.parts, tree?.populations].filter(it => it !== undefined).map(it => it.buffer);
+}
+
+self.onmessage = async ({ data }) => {
+  const { id, act } = data;
+  try {
+    const done = await acts[act](data, progress => self.postMessage({ id, progress }));
+    self.postMessage({ id, done }, handedOver(done));
+  } catch (why) {
+    self.postMessage({ id, ...toldOf(why) });
+  }
+};
