@@ -61,7 +61,7 @@ test_page: golly_canon
 	@RT="$(RT)" python3 -B tests/page/page.py ./golly_canon
 
 test_collection: library_is_built
-	@PYTHONPATH=python python3 -B tests/library/collection.py
+	@PYTHONPATH="$(CURDIR)/python" python3 -B tests/library/collection.py
 
 plants:
 	@RT="$(RT)" sh scripts/plants
