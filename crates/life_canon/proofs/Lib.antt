@@ -5,6 +5,7 @@ mod Walk
 mod LineWords
 mod LineFacts
 mod Leaves
+mod LeafDigits
 mod Content
 mod Planes
 mod Canonical

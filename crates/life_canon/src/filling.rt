@@ -1,6 +1,6 @@
 //! Squares of a store, made from node lines.
 
-ghost use Rattle.std.specs.Prelude.{◌≡◌, ◌+◌, ◌-◌, ◌<◌, ◌≤◌, IfOk, IfErr, OnErr, max};
+ghost use Rattle.std.specs.Prelude.{◌≡◌, ◌+◌, ◌-◌, ◌/◌, ◌%◌, ◌^◌, ◌<◌, ◌≤◌, IfOk, IfErr, OnErr, max};
 ghost use Rattle.life_base.specs.declared.rule.Rule.{Rule as RuleValue};
 ghost use Rattle.life_base.specs.Tree.{depth, tree_cell};
 ghost use Rattle.life_mc.specs.Cells.{leaf_cell};
@@ -18,17 +18,33 @@ use life_base::{Kind, MAX_LEVEL};
 use life_mc::Line;
 use life_quad::{Id, Squares, grow};
 
-/// The cells of the square of level 1 whose north-west cell stands in this column and row of a leaf: a bit each, the north-west one the
-/// highest.
-fn four_bits(rows: &[u8; 8], column: u8, row: u8) -> u16
-    requires column { column < 7 }
-    requires row { row < 7 }
-    ensures square { two result ≡ tree_at (leaf_cell rows.now) 1 column row }
-    ensures small { result < 16 }
+/// By four cells of a row, a bit each: the western two and the eastern two as hexadecimal digits.
+static PAIRS: [u8; 16] = [
+    0x00, 0x01, 0x02, 0x03, 0x10, 0x11, 0x12, 0x13, 0x20, 0x21, 0x22, 0x23, 0x30, 0x31, 0x32, 0x33,
+];
+
+/// The four cells of a row of a leaf from this column on, by two: the digits of the western and of the eastern ones.
+fn pairs(row: u8, column: u8) -> u16
+    requires column { column < 5 }
+    ensures west { result / 16 ≡ row / 2 ^ (6 - column) % 4 }
+    ensures east { result % 16 ≡ row / 2 ^ (4 - column) % 4 }
+    ensures small { result < 64 }
 {
-    let north = (rows[row as usize] >> (6 - column)) % 4;
-    let south = (rows[row as usize + 1] >> (6 - column)) % 4;
-    u16::from(4 * north + south)
+    u16::from(PAIRS[usize::from((row >> (4 - column)) % 16)])
+}
+
+/// The cells of two squares of level 1 side by side, the western one's north-west cell in this column and row of a leaf: a hexadecimal digit each,
+/// of which the highest bit is the north-west cell, then come the north-east, the south-west and the south-east one.
+fn two_digits(rows: &[u8; 8], column: u8, row: u8) -> u16
+    requires column { column < 5 }
+    requires row { row < 7 }
+    ensures west { two (result / 16) ≡ tree_at (leaf_cell rows.now) 1 column row }
+    ensures east { two (result % 16) ≡ tree_at (leaf_cell rows.now) 1 (column + 2) row }
+    ensures small { result < 256 }
+{
+    let north = pairs(rows[row as usize], column);
+    let south = pairs(rows[row as usize + 1], column);
+    4 * north + south
 }
 
 /// The cells of the square of level 2 whose north-west cell stands in this column and row of a leaf, as `Squares::small` takes them.
@@ -37,11 +53,7 @@ fn sixteen_bits(rows: &[u8; 8], column: u8, row: u8) -> u16
     requires row { row < 5 }
     ensures { four result ≡ tree_at (leaf_cell rows.now) 2 column row }
 {
-    let nw = four_bits(rows, column, row);
-    let ne = four_bits(rows, column + 2, row);
-    let sw = four_bits(rows, column, row + 2);
-    let se = four_bits(rows, column + 2, row + 2);
-    4096 * nw + 256 * ne + 16 * sw + se
+    256 * two_digits(rows, column, row) + two_digits(rows, column, row + 2)
 }
 
 /// The square of a leaf.

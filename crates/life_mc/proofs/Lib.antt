@@ -27,3 +27,4 @@ pub mod NodeLines
 pub mod Accepted
 pub mod WiderPlanes
 pub mod WholeRows
+pub mod FewDigits

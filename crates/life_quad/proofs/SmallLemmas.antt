@@ -1,6 +1,7 @@
 -- Small squares by their quarters and by their numbers.
 use Rattle.std.specs.Prelude.{if◌then◌else◌}
 use Rattle.std.proofs.Common.{◌≡◌, ℕ, ◌+◌, ◌*◌, ◌-◌, ◌/◌, ◌%◌, ◌≤◌, ◌<◌, Bool, true, false, ◌&&◌, ◌==◌, None, Some, refl, sym, ◌∙◌, ap, arith}
+use Rattle.std.proofs.lemmas.Bool.Decides.{nat_tests}
 use Rattle.life_quad.specs.Store.{id_of, is_bit_id, is_digit_id, digit_id, small_of}
 use Rattle.life_quad.specs.SmallLaws.{IsDigit, digit_0, digit_of, Smalls, of_bits, of_digits, smalls, bits_of, digits_of, below_16}
 
@@ -84,3 +85,14 @@ module _ (a b c d : ℕ) where
   pub of_none : are_bit_ids ≡ false → are_digit_ids ≡ false → None ≡ small_of a b c d
   unfolding small_of
   of_none g h = rw (g, h) refl
+
+large_bit : (a : ℕ) → 528 ≤ a → is_bit_id a ≡ false
+large_bit a h = grind (arith, nat_tests)
+
+large_digit : (a : ℕ) → 528 ≤ a → is_digit_id a ≡ false
+large_digit a h = grind (arith, nat_tests)
+
+-- a square whose first quarter has so large a number has no quarters of one cell or of level 1
+pub large_first : (a b c d : ℕ) → 528 ≤ a → ((is_bit_id a && is_bit_id b && is_bit_id c && is_bit_id d) ≡ false)
+    × ((is_digit_id a && is_digit_id b && is_digit_id c && is_digit_id d) ≡ false)
+large_first a b c d h = (rw (large_bit a h) refl, rw (large_digit a h) refl)

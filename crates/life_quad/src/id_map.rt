@@ -148,6 +148,23 @@ impl<T: Copy> IdMap<T> {
         ensures same { OnErr result ((q : IdValue) → value_of self.new q ≡ value_of self.old q) }
         ensures refusals { IfErr result (λ e. e ≡ Memory) }
     {
+        let index = index_of(&self.starts, id.0);
+        if index < self.values.len() {
+            self.values[index] = value;
+            return Ok(());
+        }
+        self.set_apart(id, value)
+    }
+
+    /// The same where the page of the Id may have to be made. It is never inlined, so that `set` stays short.
+    #[inline(never)]
+    fn set_apart(&mut self, id: Id, value: T) -> Result<(), Kind>
+        ensures only { (q : IdValue) → (value_of self.new q ≡ value_of self.old q) ⊎ ((q ≡ id) × (value_of self.new q ≡ value)) }
+        ensures set { OnOk result (value_of self.new id ≡ value) }
+        ensures others { (q : IdValue) → q ≢ id → value_of self.new q ≡ value_of self.old q }
+        ensures same { OnErr result ((q : IdValue) → value_of self.new q ≡ value_of self.old q) }
+        ensures refusals { IfErr result (λ e. e ≡ Memory) }
+    {
         self.make_room(id)?;
         self.put(id, value);
         Ok(())

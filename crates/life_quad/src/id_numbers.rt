@@ -156,8 +156,7 @@ impl IdNumbers {
         let Some(count) = self.count.checked_add(1) else {
             return Err(Kind::Memory);
         };
-        self.pages.make_room(id)?;
-        self.pages.put(id, count);
+        self.pages.set(id, count)?;
         self.count = count;
         self.log = self.log.then(&[id.0]);
         Ok(count as u64)

@@ -106,6 +106,19 @@ impl Shared {
         if self.seen.get(id) {
             return Ok(id);
         }
+        self.mark_new(number)
+    }
+
+    /// The same of one that is new. It is never inlined, so that the join of one that is there stays short.
+    #[inline(never)]
+    fn mark_new(&mut self, number: u64) -> Result<Id, Kind>
+        requires small { IsSmall self.old.log (squares self.old.nodes) number }
+        requires first { FIRST_SMALL ≤ number }
+        requires last { number < FIRST_NODE }
+        requires new { ¬ Contains self.old.log number }
+        ensures { Answers self.old self.new (small_square number) result }
+    {
+        let id = Id(number);
         if self.nodes.len() as u64 + self.small == self.limit {
             return Err(Kind::Full);
         }

@@ -123,7 +123,8 @@ pub trait Squares {
         self.small_of_quarters(cells)
     }
 
-    /// The same by way of its quarters, however the store finds it elsewhere.
+    /// The same by way of its quarters, however the store finds it elsewhere. It is never inlined, so that `small` stays short.
+    #[inline(never)]
     fn small_of_quarters(&mut self, cells: u16) -> Result<Id, Kind>
         ensures known { IfOk result (λ id. knows self.new id) }
         ensures square { IfOk result (λ id. content self.new id ≡ four cells) }

@@ -1,6 +1,11 @@
 use Rattle.std.proofs.Common.{◌+◌, ◌*◌, Some, sym, ◌∙◌}
-use Rattle.life_quad.proofs.SmallLemmas.{of_two, of_four, of_none}
+use Rattle.life_quad.proofs.SmallLemmas.{of_two, of_four, of_none, large_first}
 use Rattle.life_quad.proofs.id.small_number.Goals as goal
+
+pub returns-then-nw-ge-LEVEL_TWO : goal.returns-then-nw-ge-LEVEL_TWO
+returns-then-nw-ge-LEVEL_TWO c =
+    let no = large_first _ _ _ _ c.if-nw-ge-LEVEL_TWO.true in
+    of_none _ _ _ _ no.0 no.1
 
 pub returns-then-are_bits : goal.returns-then-are_bits
 returns-then-are_bits c = of_two _ _ _ _ (sym c.are_bits.ensures ∙ c.if-are_bits.true)

@@ -11,10 +11,10 @@ pub invariant_of-self : goal.invariant_of-self
 invariant_of-self c =
     let numbers = c.self.inside.numbers.items in
     let old : Id → ℕ = value_of c.self.inside.pages in
-    let new : Id → ℕ = value_of c.make_room.new.self in
+    let new : Id → ℕ = value_of c.set.new.self in
     let none : length numbers ≡ 0 = search rules in (
       same_places (map id_of c.self.inside.log.ids) (number_by numbers old) (number_by numbers new)
-          (λ q. in_pages numbers new none q ∙ c.make_room.ensures.same q ∙ sym (in_pages numbers old none q)) c.self.invariant.0,
+          (λ q. in_pages numbers new none q ∙ c.in_err-set.ensures.same q ∙ sym (in_pages numbers old none q)) c.self.invariant.0,
       c.self.invariant.1,
       c.self.invariant.2,
     )
@@ -29,10 +29,9 @@ invariant_of-self-2 c =
     let number : c.in-Some.count ≡ length ids + 1 = count ∙ ap (λ n. n + 1) c.self.invariant.1 in
     let more : map id_of c.then-self-inside.result.ids ≡ ids ++ c.args.id ∷ [] = ids_more c.self.inside.log.ids c.then-self-inside.result.ids c.args.id
     c.then-self-inside.ensures in
-    let others : (q : Id) → q ≢ c.args.id → value_of c.put.new.self q ≡ value_of c.self.inside.pages q = λ q o. c.put.ensures.others q o
-    ∙ c.make_room.ensures.same q in
-    let placed = one_paged ids numbers (value_of c.self.inside.pages) (value_of c.put.new.self) c.args.id c.in-Some.count none c.self.invariant.0
-    c.put.ensures.set others absent number in (
+    let others : (q : Id) → q ≢ c.args.id → value_of c.set.new.self q ≡ value_of c.self.inside.pages q = c.set.ensures.others in
+    let placed = one_paged ids numbers (value_of c.self.inside.pages) (value_of c.set.new.self) c.args.id c.in-Some.count none c.self.invariant.0
+    c.in_ok-set.ensures.set others absent number in (
       rw more placed,
       number ∙ sym (ap length more ∙ length-append ids (c.args.id ∷ [])),
       c.self.invariant.2,

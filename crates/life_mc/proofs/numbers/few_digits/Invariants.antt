@@ -1,0 +1,12 @@
+use Rattle.std.proofs.Common.{◌≡◌, ◌^◌, ◌<◌, take, true}
+use Rattle.std.specs.Char.{is_ascii_digit}
+use Rattle.std.specs.List.{list_all}
+use Rattle.life_base.specs.Text.{value_of}
+use Rattle.life_mc.proofs.numbers.few_digits.Given as goal
+
+abbrev pub invariant-loop-i : goal.invariant-loop-i
+invariant-loop-i l = record {
+  digits : list_all is_ascii_digit (take l.i l.text) ≡ true;
+  number : l.number ≡ value_of (take l.i l.text);
+  small : l.number < 10 ^ l.i;
+}
