@@ -15,6 +15,7 @@ use life_base::{Kind, MAX_LEVEL};
 use life_quad::{Id, Squares};
 
 // A square of level 2 with these cells from a column to before `end`, east of the others. A blank one has no span.
+#[inline(always)]
 fn push_square<S: Squares>(
     squares: &mut S,
     spans: &mut Vec<Span>,

@@ -49,6 +49,7 @@ impl Builder {
     ///
     /// `Full` if the store holds its limit and a square of the runs before is new, or `Memory`. After an error the builder is only to
     /// be dropped.
+    #[inline(always)]
     pub fn add_run<S: Squares>(&mut self, squares: &mut S, run: Run) -> Result<(), Kind>
         requires filling { IsFilling (S.knows squares.old) (S.content squares.old) self.old }
         requires positive { 1 ≤ run.len }

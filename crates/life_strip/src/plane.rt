@@ -99,6 +99,7 @@ impl Plane {
     }
 
     // Gives the cells of a run its state.
+    #[inline(always)]
     pub(crate) fn add_run<S: Squares>(&mut self, squares: &mut S, run: Run) -> Result<(), Kind>
         requires filled { IsFilled (S.knows squares.old) (S.content squares.old) self.old }
         requires positive { 1 ≤ run.len }

@@ -22,12 +22,17 @@ pub(crate) struct Words {
     pub(crate) south: Word,
 }
 
-// The state of a cell, if it is 0 or 1.
-fn bit<S: Squares>(squares: &S, cell: Id) -> Option<u64>
-    requires { S.knows squares.now cell }
+// The state of a cell, if it is 0 or 1. In a soup each cell is the one of state 1, which is known beforehand.
+#[inline(always)]
+fn bit<S: Squares>(squares: &S, one: Id, cell: Id) -> Option<u64>
+    requires one { S.content squares.now one ≡ point 1 }
+    requires cell { S.knows squares.now cell }
     ensures square { IfSome result (λ b. S.content squares.now cell ≡ point b) }
     ensures small { IfSome result (λ b. b ≤ 1) }
 {
+    if cell == one {
+        return Some(1);
+    }
     let state = squares.state(cell)?;
     if state > 1 {
         return None;
@@ -57,6 +62,7 @@ pub(crate) fn read_word<S: Squares>(
     ensures cells { IfSome result (λ w. IsWord (cell_in (S.content squares.now) row.now) start w.cells) }
     ensures past { IfSome result (λ w. IsPast row.now w.index (start + 64)) }
 {
+    let one = squares.cell(1);
     let mut cells = 0;
     let mut index = from;
     let mut column = start;
@@ -65,14 +71,14 @@ pub(crate) fn read_word<S: Squares>(
         if column < span.end {
             let from = bits_after(column.max(span.start) - start);
             let after = bits_after(span.end - start);
-            cells += bit(squares, span.square)? * (from - after);
+            cells += bit(squares, one, span.square)? * (from - after);
             column = span.end;
         }
         index += 1;
     }
     if index < row.len() && row[index].start < start + 64 {
         let from = bits_after(column.max(row[index].start) - start);
-        cells += bit(squares, row[index].square)? * from;
+        cells += bit(squares, one, row[index].square)? * from;
     }
     Some(Word { cells, index })
 }

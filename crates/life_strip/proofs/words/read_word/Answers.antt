@@ -30,8 +30,8 @@ module _ (content : Id → Tree) (row : List Span) (index column start cells fir
   span-first c le lt = let later = m.later in let from = m.from in
       span-at row index column none past within c (omega (arith, later, le)) (omega (arith, from, le)) lt
 
-pub bit-requires : goal.bit-requires
-bit-requires g c =
+pub bit-requires-clause-cell : goal.bit-requires-clause-cell
+bit-requires-clause-cell g c =
     let inv = c.loop-index.invariant in
     let within = c.loop-index-test.true in
     let some = c.requires.columns c.loop-index.index none within in
@@ -119,8 +119,8 @@ loop-index-preserved g c =
       }
     ]
 
-pub bit-requires-then-row-index-2 : goal.bit-requires-then-row-index-2
-bit-requires-then-row-index-2 g c =
+pub bit-requires-then-row-index-2-clause-cell : goal.bit-requires-then-row-index-2-clause-cell
+bit-requires-then-row-index-2-clause-cell g c =
     let inv = c.loop-index.invariant in
     let within = c.if-index-row.true in
     let late : c.args.start + 64 ≤ (slice_index_or c.args.row.now c.loop-index.index none).end =
