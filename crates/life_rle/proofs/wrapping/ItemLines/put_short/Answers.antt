@@ -2,14 +2,14 @@ use Rattle.std.proofs.Common.{◌∷◌, [], ◌++◌, length, sym, ap, ◌∙�
 use Rattle.life_rle.proofs.PutItems.{short-count}
 use Rattle.life_rle.proofs.wrapping.ItemLines.put_short.Goals as goal
 
-pub returns-clause-text : goal.returns-clause-text
-returns-clause-text c =
+pub returns-then-count-ne1-clause-text : goal.returns-then-count-ne1-clause-text
+returns-then-count-ne1-clause-text c =
     let old = c.args.self.now.text.items in
     let letter = c.args.letter ∷ [] in
-    c.in_ok-push-3.ensures.items ∙ ap (λ l. l ++ letter) c.in_ok-push-2.ensures.items ∙ append_assoc old _ letter
-    ∙ ap (λ digit. old ++ (digit ++ letter)) (sym (short-count c.args.count c.requires.digit c.if-count-eq1.false))
+    c.in_ok-push-2.ensures.items ∙ ap (λ l. l ++ letter) c.in_ok-push.ensures.items ∙ append_assoc old _ letter
+    ∙ ap (λ digit. old ++ (digit ++ letter)) (sym (short-count c.args.count c.requires.digit c.if-count-ne1.true))
 
-pub returns-clause-used : goal.returns-clause-used
-returns-clause-used c =
-    let len = ap (λ digit. length (digit ++ c.args.letter ∷ [])) (short-count c.args.count c.requires.digit c.if-count-eq1.false) in
+pub returns-then-count-ne1-clause-used : goal.returns-then-count-ne1-clause-used
+returns-then-count-ne1-clause-used c =
+    let len = ap (λ digit. length (digit ++ c.args.letter ∷ [])) (short-count c.args.count c.requires.digit c.if-count-ne1.true) in
     omega (arith, len)
