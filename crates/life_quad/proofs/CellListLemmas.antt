@@ -367,7 +367,7 @@ module _ (content : Id → Tree) (band : List Placed) (i : ℕ) (d : Placed) (lt
   abbrev piece : Piece
   piece = record { square = content (get_or band i d).square; column = (get_or band i d).column }
 
-  pieces_more : pieces content (take (i + 1) band) ≡ pieces content (take i band) ++ piece ∷ []
+  pub pieces_more : pieces content (take (i + 1) band) ≡ pieces content (take i band) ++ piece ∷ []
   pieces_more = ap (pieces content) (take_more band i d lt) ∙ map_push (λ p. record { square = content p.square; column = p.column }) (take i band)
       (get_or band i d)
 

@@ -1,5 +1,5 @@
 -- Squares side by side, and their cells row by row.
-use Rattle.std.specs.Prelude.{◌≡◌, ℕ, zero, suc, ◌^◌, false, if◌then◌else◌, ℤ, pos, neg_ℤ, ◌+ℤ◌, ◌≤ℤ◌, List, [], ◌∷◌, ◌++◌, map}
+use Rattle.std.specs.Prelude.{◌≡◌, ◌==◌, ℕ, zero, suc, ◌^◌, Bool, false, if◌then◌else◌, ℤ, pos, neg_ℤ, ◌+ℤ◌, ◌≤ℤ◌, List, [], ◌∷◌, ◌++◌, map}
 use Rattle.std.specs.List.{flat_map}
 use Rattle.life_base.specs.declared.cell.Cell.{Cell}
 use Rattle.life_base.specs.Tree.{Tree, point, quad, depth, is_blank_tree, state_at, IsFull}
@@ -63,3 +63,24 @@ IsBand k west (p ∷ band) =
 -- the same, from some column on
 abbrev pub InBand : ℕ → List Piece → Type 0
 InBand k band = (west : ℤ) × IsBand k west band
+
+-- the states of the lower or of the upper row of a square of level 1
+abbrev pub pair_of : Bool → Tree → List ℕ
+pair_of low (point s) = []
+pair_of low (quad nw ne sw se) =
+    if low then state_at sw 0 0 ∷ state_at se 0 0 ∷ []
+    else state_at nw 0 0 ∷ state_at ne 0 0 ∷ []
+
+-- the states of a row of a square of level 2: in the southern or in the northern half, the lower or the upper one
+abbrev pub row_of : Bool → Bool → Tree → List ℕ
+row_of south low (point s) = []
+row_of south low (quad nw ne sw se) = if south then pair_of low sw ++ pair_of low se else pair_of low nw ++ pair_of low ne
+
+-- the cells of states side by side from (x, y) on, without those of state 0
+abbrev pub live_cells : ℤ → ℤ → List ℕ → List Cell
+live_cells x y [] = []
+live_cells x y (s ∷ states) = (if s == 0 then [] else record { x = x; y = y; state = s } ∷ []) ++ live_cells (x +ℤ pos 1) y states
+
+-- the cells of such a row of a band of level 2
+abbrev pub part_cells : Bool → Bool → ℤ → List Piece → List Cell
+part_cells south low y band = flat_map (λ p. live_cells p.column y (row_of south low p.square)) band

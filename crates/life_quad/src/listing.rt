@@ -2,17 +2,19 @@
 //!
 //! A band is a row of squares of one level, from the west to the east, without blank ones. Its upper half, and then its lower
 //! half, are bands of the level below; a band of level 0 is a row of cells. So no cell is sorted and no blank square is
-//! entered, and each band has at most as many squares as there are cells.
+//! entered, and each band has at most as many squares as there are cells. Where the list has room for all cells that a band of level 2
+//! may have, its four rows are taken from its squares at once.
 ghost use Rattle.std.specs.Prelude.{◌≡◌, ◌⊎◌, ◌+◌, ◌-◌, ◌^◌, ◌<◌, ◌≤◌, ◌+ℤ◌, ◌≤ℤ◌, pos, neg_ℤ, [], ◌∷◌, ◌++◌, length, All, Err, OnOk, IfOk, IfErr};
 ghost use Rattle.life_base.specs.declared.kind.Kind.TheVariants.{Memory, TooManyCells};
-ghost use Rattle.life_base.specs.Tree.{depth};
+ghost use Rattle.life_base.specs.Tree.{depth, state_at};
 ghost use Rattle.life_quad.specs.Cells.{IsCellList, population};
-ghost use Rattle.life_quad.specs.Bands.{InBand, IsPlaced, pieces, kept, northern, southern, upper, lower, row_cells, band_cells};
+ghost use Rattle.life_quad.specs.Bands.{InBand, IsPlaced, pieces, kept, northern, southern, upper, lower, row_cells, band_cells, pair_of, row_of, live_cells, part_cells};
+ghost use Rattle.life_quad.specs.Store.{two, four};
 
-use crate::moves::{Quarters, divide, is_blank};
+use crate::moves::{Quarters, divide, is_blank_at};
 use crate::runs::half_side;
 use crate::{Id, Squares};
-use life_base::{Cell, Kind, MAX_LEVEL};
+use life_base::{Cell, Kind, MAX_LEVEL, State};
 use std::alloc::Global;
 
 /// A square and the column of its western side.
@@ -93,7 +95,7 @@ fn keep<S: Squares>(
     ensures pieces { OnOk result (pieces (S.content squares.now) band.new.items ≡ pieces (S.content squares.now) band.old.items ++ kept (S.content squares.now square) column) }
     ensures refusals { IfErr result (λ e. e ≡ Memory) }
 {
-    if is_blank(squares, square) {
+    if is_blank_at(squares, level, square) {
         return Ok(());
     }
     place(band, square, column)
@@ -174,6 +176,147 @@ fn append_row<S: Squares>(
     Ok(())
 }
 
+/// The states of a row of the square of level 1 of a digit: of the lower one, or of the upper one.
+#[inline(always)]
+fn digit_states(digit: u16, low: bool) -> [State; 2]
+    requires { digit < 16 }
+    ensures { result ≡ pair_of low (two digit) }
+{
+    if low {
+        [(digit / 2 % 2) as u8, (digit % 2) as u8]
+    } else {
+        [(digit / 8) as u8, (digit / 4 % 2) as u8]
+    }
+}
+
+/// The states of a row of the square of level 2 with these cells, as `Squares::small_cells` tells them: in the southern or in the northern half,
+/// the lower or the upper one.
+#[inline(always)]
+fn small_states(cells: u16, south: bool, low: bool) -> (State, State, State, State)
+    ensures { result.0 ∷ result.1 ∷ result.2 ∷ result.3 ∷ [] ≡ row_of south low (four cells) }
+{
+    let (west, east) = if south {
+        (cells / 16 % 16, cells % 16)
+    } else {
+        (cells / 4096, cells / 256 % 16)
+    };
+    let west = digit_states(west, low);
+    let east = digit_states(east, low);
+    (west[0], west[1], east[0], east[1])
+}
+
+/// The state of a square of level 0.
+fn state_of<S: Squares>(squares: &S, id: Id) -> State
+    requires known { S.knows squares.now id }
+    requires level { depth (S.content squares.now id) ≡ 0 }
+    ensures { result ≡ state_at (S.content squares.now id) 0 0 }
+{
+    squares.state(id).unwrap_or(0)
+}
+
+/// The states of a row of a square of level 1: of the lower one, or of the upper one.
+fn pair_of<S: Squares>(squares: &S, id: Id, low: bool) -> [State; 2]
+    requires known { S.knows squares.now id }
+    requires level { depth (S.content squares.now id) ≡ 1 }
+    ensures { result ≡ pair_of low (S.content squares.now id) }
+{
+    let Quarters { nw, ne, sw, se } = divide(squares, id);
+    if low {
+        [state_of(squares, sw), state_of(squares, se)]
+    } else {
+        [state_of(squares, nw), state_of(squares, ne)]
+    }
+}
+
+/// The states of a row of a square of level 2: in the southern or in the northern half, the lower or the upper one.
+#[inline(always)]
+fn row_of<S: Squares>(squares: &S, id: Id, south: bool, low: bool) -> (State, State, State, State)
+    requires known { S.knows squares.now id }
+    requires level { depth (S.content squares.now id) ≡ 2 }
+    ensures { result.0 ∷ result.1 ∷ result.2 ∷ result.3 ∷ [] ≡ row_of south low (S.content squares.now id) }
+{
+    if let Some(cells) = squares.small_cells(id) {
+        return small_states(cells, south, low);
+    }
+    let Quarters { nw, ne, sw, se } = divide(squares, id);
+    let (west, east) = if south { (sw, se) } else { (nw, ne) };
+    let west = pair_of(squares, west, low);
+    let east = pair_of(squares, east, low);
+    (west[0], west[1], east[0], east[1])
+}
+
+/// A cell at the end of a list, unless its state is 0.
+#[inline(always)]
+fn append_cell(list: &mut Vec<Cell>, x: i64, y: i64, state: State) -> Result<(), Kind>
+    ensures cells { OnOk result (list.new.items ≡ list.old.items ++ live_cells x y (state ∷ [])) }
+    ensures refusals { IfErr result (λ e. e ≡ Memory) }
+{
+    if state == 0 {
+        return Ok(());
+    }
+    list.push(Cell { x, y, state })?;
+    Ok(())
+}
+
+/// The cells of four states side by side at the end of a list, without those of state 0.
+#[inline(always)]
+fn append_states(
+    list: &mut Vec<Cell>,
+    x: i64,
+    y: i64,
+    states: (State, State, State, State),
+) -> Result<(), Kind>
+    requires west { neg_ℤ (pos (2 ^ 61)) ≤ℤ x }
+    requires east { (x +ℤ pos 4) ≤ℤ pos (2 ^ 61) }
+    ensures cells { OnOk result (list.new.items ≡ list.old.items ++ live_cells x y (states.0 ∷ states.1 ∷ states.2 ∷ states.3 ∷ [])) }
+    ensures refusals { IfErr result (λ e. e ≡ Memory) }
+{
+    append_cell(list, x, y, states.0)?;
+    append_cell(list, x + 1, y, states.1)?;
+    append_cell(list, x + 2, y, states.2)?;
+    append_cell(list, x + 3, y, states.3)
+}
+
+/// The cells of a row of a band of level 2 at the end of a list: in the southern or in the northern half, the lower or the upper row.
+fn append_part<S: Squares>(
+    squares: &S,
+    band: &[Placed],
+    south: bool,
+    low: bool,
+    y: i64,
+    list: &mut Vec<Cell>,
+) -> Result<(), Kind>
+    requires each { All (IsPlaced (S.knows squares.now) (S.content squares.now) 2) band.now }
+    ensures cells { OnOk result (list.new.items ≡ list.old.items ++ part_cells south low y (pieces (S.content squares.now) band.now)) }
+    ensures refusals { IfErr result (λ e. e ≡ Memory) }
+{
+    for placed in band {
+        let states = row_of(squares, placed.square, south, low);
+        append_states(list, placed.column, y, states)?;
+    }
+    Ok(())
+}
+
+/// The cells of a band of level 2 at the end of a list.
+fn append_rows<S: Squares>(
+    squares: &S,
+    band: &[Placed],
+    row: i64,
+    list: &mut Vec<Cell>,
+) -> Result<(), Kind>
+    requires each { All (IsPlaced (S.knows squares.now) (S.content squares.now) 2) band.now }
+    requires band { InBand 2 (pieces (S.content squares.now) band.now) }
+    requires north { neg_ℤ (pos (2 ^ 61)) ≤ℤ row }
+    requires south { (row +ℤ pos 4) ≤ℤ pos (2 ^ 61) }
+    ensures cells { OnOk result (list.new.items ≡ list.old.items ++ band_cells 2 row (pieces (S.content squares.now) band.now)) }
+    ensures refusals { IfErr result (λ e. e ≡ Memory) }
+{
+    append_part(squares, band, false, false, row, list)?;
+    append_part(squares, band, false, true, row + 1, list)?;
+    append_part(squares, band, true, false, row + 2, list)?;
+    append_part(squares, band, true, true, row + 3, list)
+}
+
 /// The cells of a band at the end of a list that may have at most `limit`.
 fn append_band<S: Squares>(
     alloc: Global,
@@ -195,7 +338,8 @@ fn append_band<S: Squares>(
     ensures many { IfErr result (λ e. e ≡ TooManyCells → limit < length list.old.items + length (band_cells level row (pieces (S.content squares.now) band.items))) }
     ensures refusals { IfErr result (λ e. (e ≡ TooManyCells) ⊎ (e ≡ Memory)) }
 {
-    if limit - (list.len() as u64) < band.len() as u64 {
+    let room = limit - list.len() as u64;
+    if room < band.len() as u64 {
         return Err(Kind::TooManyCells);
     }
     if band.is_empty() {
@@ -203,6 +347,9 @@ fn append_band<S: Squares>(
     }
     if level == 0 {
         return append_row(squares, &band, row, list);
+    }
+    if level == 2 && band.len() as u64 <= room / 16 {
+        return append_rows(squares, &band, row, list);
     }
     let (north, south) = halves(alloc, squares, &band, level)?;
     drop(band);

@@ -1,13 +1,16 @@
 -- What is put on lines one after another is the text of the lines.
-use Rattle.std.proofs.Common.{◌≡◌, ℕ, ◌+◌, ◌≤◌, true, false, cond, List, [], ◌∷◌, ◌++◌, length, map, sym, ap, ◌∙◌, arith, append_assoc, leb}
-use Rattle.std.specs.Prelude.{flat_map}
+use Rattle.std.proofs.Common.{◌≡◌, ◌==◌, ℕ, ◌+◌, ◌<◌, ◌≤◌, Bool, true, false, cond, decimal, refl, List, [], ◌∷◌, ◌++◌, length, map, sym, ap, ◌∙◌, arith, append_assoc, leb}
+use Rattle.std.specs.Prelude.{Result, Ok, Err, OnOk, flat_map, if◌then◌else◌, nat_le}
+use Rattle.std.proofs.lemmas.Bool.Decides.{nat_tests}
+use Rattle.std.proofs.lemmas.Fmt.{decimal_digit}
 use Rattle.std.proofs.lemmas.List.{append-nil, length-append}
 use Rattle.life_base.specs.declared.rule.Rule.{Rule}
 use Rattle.life_rle.specs.declared.item.Item.{Item}
 use Rattle.life_rle.specs.declared.item.Item.TheVariants.{Cells, RowEnds}
 use Rattle.life_rle.specs.declared.wrapping.ItemLines.{ItemLines}
-use Rattle.life_rle.specs.Written.{item_text, item_lines, wrapped}
-use Rattle.life_rle.specs.Writing.{tag_text, text_from, items_text, text_with, Puts}
+use Rattle.life_rle.specs.Cursor.{item_count}
+use Rattle.life_rle.specs.Written.{count_text, item_text, item_lines, wrapped}
+use Rattle.life_rle.specs.Writing.{tag_text, feed, used_behind, text_from, items_text, text_with, Puts}
 use Rattle.life_rle.proofs.FileLines.{state_text-short}
 
 pub tag-short : (rule : Rule) (item : Item) → length (tag_text rule item) ≤ 2
@@ -54,3 +57,49 @@ four-texts a b c d old first second third new e f g h =
 -- three texts, one behind the other
 pub three-texts : (a b c old first second new : List ℕ) → first ≡ old ++ a → second ≡ first ++ b → new ≡ second ++ c → new ≡ old ++ (a ++ (b ++ c))
 three-texts a b c old first second new e f g = rw (g, f, e) (simp append_assoc)
+
+-- an item whose text fits on the line
+Puts-fitting : (rule : Rule) (item : Item) (old new : ItemLines) (t : List ℕ) → item_text rule item ≡ t → old.used + length t ≤ 70
+    → new.text.items ≡ old.text.items ++ t → new.used ≡ old.used + length t → Puts rule old (item ∷ []) new
+Puts-fitting rule item old new t is fits e u = record {
+  short = omega (arith, fits, u);
+  text = λ more.
+      let rest = λ (used : ℕ). items_text rule used more in
+      let on_line : nat_le (old.used + length t) 70 ≡ true = grind (arith, nat_tests, fits) in
+      let behind : text_with rule old (item ∷ more) ≡ old.text.items ++ (t ++ rest (old.used + length t)) =
+      ap (λ s. old.text.items ++ (feed old.used (length s) ++ (s ++ rest (used_behind old.used (length s))))) is
+      ∙ ap (λ b. old.text.items ++ ((if b then [] else 10 ∷ []) ++ (t ++ rest (if b then old.used + length t else length t)))) on_line in
+      ap (λ l. l ++ rest new.used) e ∙ append_assoc old.text.items t (rest new.used) ∙ ap (λ n. old.text.items ++ (t ++ rest n)) u ∙ sym behind;
+}
+
+count-and-tag : (rule : Rule) (item : Item) → item_text rule item ≡ count_text (item_count item) ++ tag_text rule item
+count-and-tag rule (Cells n s) = refl
+count-and-tag rule (RowEnds n) = refl
+
+-- a count of one digit
+pub short-count : (n : ℕ) → n < 10 → (n ≡ 1 → ⊥) → count_text n ≡ (48 + n) ∷ []
+short-count n small more = let digit = decimal_digit n small in grind (arith, nat_tests, digit)
+
+short-length : (n letter : ℕ) → n < 10 → length (count_text n ++ letter ∷ []) ≤ 2
+short-length n letter small = by (n == 1) refl
+  where
+    digit : decimal n ≡ (48 + n) ∷ []
+    digit = decimal_digit n small
+
+    by : (b : Bool) → (n == 1) ≡ b → length ((if b then [] else decimal n) ++ letter ∷ []) ≤ 2
+    by true e = omega arith
+    by false e = let len = ap (λ ds. length (ds ++ letter ∷ [])) digit in omega (arith, len)
+
+-- such a count and a letter, on a line with room for two bytes
+pub Puts-short : (rule : Rule) (item : Item) (old new : ItemLines) (count letter : ℕ) → count ≡ item_count item → tag_text rule item ≡ letter ∷ [] → count < 10
+    → old.used + 2 ≤ 70 → new.used ≡ old.used + length (count_text count ++ letter ∷ [])
+    → new.text.items ≡ old.text.items ++ (count_text count ++ letter ∷ []) → Puts rule old (item ∷ []) new
+Puts-short rule item old new count letter counted tag small room u e =
+    let len = short-length count letter small in
+    Puts-fitting rule item old new (count_text count ++ letter ∷ []) (count-and-tag rule item ∙ (λ i. count_text (sym counted i) ++ tag i))
+    (omega (arith, len, room)) e u
+
+-- two facts of a success
+pub on-ok-both : {T E A B C : Type 0} (r : Result T E) → (A → B → C) → OnOk r A → OnOk r B → OnOk r C
+on-ok-both (Ok v) f a b = f a b
+on-ok-both (Err e) f a b = tt

@@ -1,6 +1,6 @@
 //! Texts of items, on lines of at most 70 bytes.
 
-ghost use Rattle.std.specs.Prelude.{◌≡◌, ◌+◌, ◌≤◌, ◌∷◌, [], length, drop, OnOk, IfOk, IfErr};
+ghost use Rattle.std.specs.Prelude.{◌≡◌, ◌+◌, ◌<◌, ◌≤◌, ◌++◌, ◌∷◌, [], length, drop, OnOk, IfOk, IfErr, IfSome, MatchOption};
 ghost use Rattle.life_base.specs.declared.rule.Rule.{Rule};
 ghost use Rattle.life_rle.specs.States.{state_text, lettered};
 ghost use Rattle.life_rle.specs.Cursor.{item_count};
@@ -36,17 +36,28 @@ fn write_pair(room: &mut [u8; ITEM_ROOM], prefix: u8, letter: u8) -> usize
     21
 }
 
-/// Writes the text of a state under a name at the end of the room, and answers where it starts.
-fn write_lettered(room: &mut [u8; ITEM_ROOM], state: State) -> usize
-    ensures written { drop result room.new ≡ lettered state }
-    ensures start { result + length (lettered state) ≡ 23 }
+/// The letter of a state under a name, where its text is one byte.
+#[inline(always)]
+fn single_lettered(state: State) -> Option<u8>
+    ensures { MatchOption result (24 < state) (λ letter. lettered state ≡ letter ∷ []) }
 {
     if state == 0 {
-        write_byte(room, b'.')
+        Some(b'.')
     } else if state <= 24 {
-        write_byte(room, b'@' + state)
+        Some(b'@' + state)
     } else {
-        write_pair(room, b'o' + (state - 1) / 24, b'A' + (state - 1) % 24)
+        None
+    }
+}
+
+/// The letter of a state, where its text is one byte.
+#[inline(always)]
+fn single_state(rule: &Rule, state: State) -> Option<u8>
+    ensures { MatchOption result ((24 < state) × (state_text rule.now state ≡ lettered state)) (λ letter. state_text rule.now state ≡ letter ∷ []) }
+{
+    match rule {
+        Rule::Life(_) => Some(if state == 0 { b'b' } else { b'o' }),
+        Rule::Named(_) => single_lettered(state),
     }
 }
 
@@ -55,9 +66,9 @@ fn write_state(room: &mut [u8; ITEM_ROOM], rule: &Rule, state: State) -> usize
     ensures written { drop result room.new ≡ state_text rule.now state }
     ensures start { result + length (state_text rule.now state) ≡ 23 }
 {
-    match rule {
-        Rule::Life(_) => write_byte(room, if state == 0 { b'b' } else { b'o' }),
-        Rule::Named(_) => write_lettered(room, state),
+    match single_state(rule, state) {
+        Some(letter) => write_byte(room, letter),
+        None => write_pair(room, b'o' + (state - 1) / 24, b'A' + (state - 1) % 24),
     }
 }
 
@@ -96,6 +107,17 @@ fn write_item(room: &mut [u8; ITEM_ROOM], rule: &Rule, item: Item) -> usize
     write_digits(count, room, tag)
 }
 
+/// The letter of an item, where its text without the count is one byte.
+#[inline(always)]
+fn single_letter(rule: &Rule, item: Item) -> Option<u8>
+    ensures { IfSome result (λ letter. tag_text rule.now item ≡ letter ∷ []) }
+{
+    match item {
+        Item::Cells { state, .. } => single_state(rule, state),
+        Item::RowEnds { .. } => Some(b'$'),
+    }
+}
+
 /// Lines of items: the text so far, and how many bytes its last line has.
 #[derive(Drop)]
 pub(crate) struct ItemLines {
@@ -111,8 +133,46 @@ impl ItemLines {
         ItemLines { text, used: 0 }
     }
 
-    /// Writes an item.
+    /// Writes a count of one digit, which is left out where it is 1, and a letter on a line with room for both.
+    #[inline(always)]
+    fn put_short(&mut self, count: u64, letter: u8) -> Result<(), Kind>
+        requires digit { count < 10 }
+        requires room { self.old.used + 2 ≤ 70 }
+        ensures text { OnOk result (self.new.text.items ≡ self.old.text.items ++ (count_text count ++ letter ∷ [])) }
+        ensures used { OnOk result (self.new.used ≡ self.old.used + length (count_text count ++ letter ∷ [])) }
+        ensures memory { IfErr result (λ kind. kind ≡ Kind.Memory) }
+    {
+        if count != 1 {
+            self.text.push(b'0' + count as u8)?;
+            self.text.push(letter)?;
+            self.used += 2;
+            return Ok(());
+        }
+        self.text.push(letter)?;
+        self.used += 1;
+        Ok(())
+    }
+
+    /// Writes an item: one of a byte or two at once, where it fits on the line.
+    #[inline(always)]
     pub(crate) fn put_item(&mut self, rule: &Rule, item: Item) -> Result<(), Kind>
+        requires { self.old.used ≤ 70 }
+        ensures item { OnOk result (Puts rule.now self.old (item ∷ []) self.new) }
+        ensures memory { IfErr result (λ kind. kind ≡ Kind.Memory) }
+    {
+        let count = item_count(item);
+        if count >= 10 || self.used + 2 > LINE_WIDTH {
+            return self.put_long(rule, item);
+        }
+        match single_letter(rule, item) {
+            Some(letter) => self.put_short(count, letter),
+            None => self.put_long(rule, item),
+        }
+    }
+
+    /// Writes an item of any length.
+    #[inline(never)]
+    fn put_long(&mut self, rule: &Rule, item: Item) -> Result<(), Kind>
         requires { self.old.used ≤ 70 }
         ensures item { OnOk result (Puts rule.now self.old (item ∷ []) self.new) }
         ensures memory { IfErr result (λ kind. kind ≡ Kind.Memory) }

@@ -1,4 +1,4 @@
-use Rattle.std.proofs.Common.{◌≡◌, ◌-◌, ◌^◌, ◌≤◌, length, arith, sym, ◌∙◌, ap, subst, refl, inr, Err, rules, to_z, of_z, w64}
+use Rattle.std.proofs.Common.{◌≡◌, ◌-◌, ◌/◌, ◌^◌, ◌≤◌, length, arith, sym, ◌∙◌, ap, subst, refl, inr, Err, rules, to_z, of_z, w64}
 use Rattle.std.proofs.lemmas.Result.{on_ok_weaker}
 use Rattle.std.proofs.lemmas.Int.{ints}
 use Rattle.std.proofs.lemmas.List.{length-map}
@@ -7,18 +7,32 @@ use Rattle.life_base.specs.declared.kind.Kind.TheVariants.{Memory, TooManyCells}
 use Rattle.life_quad.specs.Bands.{InBand, pieces, upper, lower}
 use Rattle.life_quad.proofs.BandLemmas.{InBand-upper, InBand-lower}
 use Rattle.life_quad.proofs.CellListLemmas.{band_least, append_none, halves_side, both_halves, more_in_first, more_in_second}
+use Rattle.life_quad.proofs.PartLemmas.{within_limit}
 use Rattle.life_quad.proofs.RefusedLemmas.{error_is}
 use Rattle.life_quad.proofs.listing.+append_band.Goals as goal
 
-pub returns-then-limit-len-clause-many : goal.returns-then-limit-len-clause-many
-returns-then-limit-len-clause-many g t c = λ same.
+pub returns-then-room-len-clause-many : goal.returns-then-room-len-clause-many
+returns-then-room-len-clause-many g t c = λ same.
     let band = pieces (g.S.Squares.content c.args.squares.now) c.args.band.items in
     let least = band_least c.args.level c.args.row band c.requires.band in
     let squares : length band ≡ length c.args.band.items = length-map _ _ in
     let l = c.len.ensures in
     let m = c.len-2.ensures in
-    let n = c.if-limit-len.true in
+    let n = c.if-room-len.true in
     omega (arith, least, squares)
+
+pub returns-then-len-room-clause-few : goal.returns-then-len-room-clause-few
+returns-then-len-room-clause-few g t c =
+    let C = g.S.Squares.content c.args.squares.now in
+    let band = subst (λ n. InBand n (pieces C c.args.band.items)) c.if-level-eq2.true c.requires.band in
+    let counted : c.len-then-level-eq2.result ≡ length c.args.band.items = let n = c.len-then-level-eq2.ensures in grind arith in
+    let room : c.len-then-level-eq2.result ≤ (c.args.limit - length c.args.list.now.items) / 16 =
+    let l = c.len.ensures in
+    let n = c.if-len-room.true in
+    grind arith in
+    on_ok_weaker c.append_rows.result
+    (within_limit _ C c.args.band.items _ _ c.args.limit c.args.list.now.items _ band c.deref-then-len-room.ensures.value counted room c.requires.few)
+    c.append_rows.ensures.cells
 
 pub returns-then-is_empty-clause-cells : goal.returns-then-is_empty-clause-cells
 returns-then-is_empty-clause-cells g t c =
