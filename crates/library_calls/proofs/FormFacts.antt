@@ -1,13 +1,15 @@
 -- Patterns that were read into a store, and their forms.
-use Rattle.std.proofs.Common.{◌≡◌, ◌⊎◌, inl, inr, ℕ, ◌^◌, ◌<◌, ◌≤◌, List, length, sym, subst}
+use Rattle.std.proofs.Common.{◌≡◌, ◌⊎◌, inl, inr, ℕ, ◌^◌, ◌<◌, ◌≤◌, List, length, Result, Ok, Err, OnOk, sym, ap, ◌∙◌, subst, arith}
 use Rattle.std.specs.Prelude.{◌↔◌, IsTrue, Bool}
 use Rattle.life_base.specs.Refusal.{fault_of}
+use Rattle.life_base.specs.Text.{lines_of}
+use Rattle.life_base.specs.Tree.{tree_cell}
 use Rattle.life_base.specs.declared.cell.Cell.{Cell}
 use Rattle.life_base.specs.declared.cell.TheConstants.{MAX_LEVEL}
 use Rattle.life_base.specs.declared.fault.Fault.{Fault}
 use Rattle.life_base.specs.declared.kind.Kind.TheVariants.{Full, Memory, TooManyCells}
 use Rattle.life_quad.proofs.LawLemmas.{known_squares_are_full, cells_are_listed, list_is_population}
-use Rattle.life_quad.specs.Cells.{population}
+use Rattle.life_quad.specs.Cells.{IsCellList, population}
 use Rattle.life_quad.specs.Store.{Nodes}
 use Rattle.life_canon.specs.Files.{Accepted, Reads, Refuses}
 use Rattle.life_canon.specs.Laws.{FilesAreUnique, PatternsFit}
@@ -19,13 +21,13 @@ use Rattle.life_canon.specs.Universe.{Universe, IsSame}
 use Rattle.life_canon.specs.declared.pattern.Pattern.{Pattern}
 use Rattle.life_forms.specs.Forms.{IsMoved}
 use Rattle.life_forms.specs.Images.{IsTurnedText}
-use Rattle.life_forms.specs.Needed.{LacksForMoved}
+use Rattle.life_forms.specs.Needed.{HasFewCells, LacksForMoved}
 use Rattle.life_forms.proofs.PatternFacts.{root-high}
 use Rattle.life_forms.proofs.PlaneFacts.{are-cells}
 use Rattle.library_calls.specs.Answers.{room_of}
 use Rattle.library_calls.specs.Comparing.{LacksForEither}
-use Rattle.library_calls.specs.ComparingInForm.{SayRelated, RefusesEitherInForm, LacksForEitherMoved}
-use Rattle.library_calls.specs.InForm.{HasFewCells, IsTextMoved, IsTextTurned, RefusesInForm}
+use Rattle.library_calls.specs.ComparingInForm.{AreOfOneGeneration, EitherHasMany, HasTooMany, SayRelated, RefusesEitherInForm, LacksForEitherMoved}
+use Rattle.library_calls.specs.InForm.{IsTextMoved, IsTextTurned, RefusesInForm}
 use Rattle.library_calls.specs.declared.pattern_form.PatternForm.{PatternForm}
 use Rattle.library_calls.specs.declared.pattern_form.PatternForm.TheVariants.{Placed, Moved, Turned}
 use Rattle.library_calls.proofs.Answering.{not-full}
@@ -55,7 +57,7 @@ root-cells store pattern trimmed =
     (list.0, are-cells t list.0 list.1, list_is_population t list.0 full high list.1)
 
 pub few-cells : (store : Nodes) (pattern : Pattern) → IsTrimmed store pattern → population (content store pattern.root) ≤ 2 ^ 20
-    → HasFewCells (universe_in store pattern)
+    → HasFewCells (universe_in store pattern).cell
 few-cells store pattern trimmed few =
     let list = root-cells store pattern trimmed in
     (list.0, list.1, subst (λ (n : ℕ). n ≤ 2 ^ 20) (sym list.2) few)
@@ -68,6 +70,22 @@ more-cells fit bytes store pattern read many =
       record { universe = universe_in store pattern; reads = reads-it fit bytes store pattern read; are = list.1 },
       subst (λ (n : ℕ). 2 ^ 20 < n) (sym list.2) many,
     )
+
+-- a file whose square has no more has no more
+not-more : FilesAreUnique MAX_LEVEL → PatternsFit MAX_LEVEL → (bytes : List ℕ) (store : Nodes) (pattern : Pattern) → IsRead MAX_LEVEL bytes store pattern
+    → population (content store pattern.root) ≤ 2 ^ 20 → HasMoreCells MAX_LEVEL bytes (2 ^ 20) → ⊥
+not-more unique fit bytes store pattern read few more =
+    let t = content store pattern.root in
+    let trimmed = (fit bytes store pattern read).0 in
+    let full = (known_squares_are_full store pattern.root trimmed.known.0).0 in
+    let same = unique (lines_of bytes) more.1.universe (universe_in store pattern) more.1.reads (reads-it fit bytes store pattern read) in
+    let are : AreCellsOf (tree_cell t) more.0 = subst (λ (u : Universe). AreCellsOf u.cell more.0) same more.1.are in
+    let list : IsCellList t more.0 = record { in_order = are.in_order; true_cells = are.true_cells; all_cells = are.all_cells } in
+    above-none (population t) (2 ^ 20) few
+    (subst (λ (n : ℕ). 2 ^ 20 < n) (list_is_population t more.0 full (root-high pattern.rule _ trimmed.level) list) more.2)
+  where
+    above-none : (n most : ℕ) → n ≤ most → most < n → ⊥
+    above-none n most h l = omega (arith, h, l)
 
 -- ---- the text in a form
 
@@ -175,10 +193,50 @@ second-unread form limit first second store fault room accepted (inr want) lacks
 
 -- one of two patterns has too many cells
 either-many : PatternsFit MAX_LEVEL → (first second : List ℕ) (store : Nodes) (a b : Pattern) → IsRead MAX_LEVEL first store a → IsRead MAX_LEVEL second store b
-    → (2 ^ 20 < population (content store a.root)) ⊎ (2 ^ 20 < population (content store b.root))
-    → HasMoreCells MAX_LEVEL first (2 ^ 20) ⊎ HasMoreCells MAX_LEVEL second (2 ^ 20)
+    → (2 ^ 20 < population (content store a.root)) ⊎ (2 ^ 20 < population (content store b.root)) → EitherHasMany first second
 either-many fit first second store a b read other (inl many) = inl (more-cells fit first store a read many)
 either-many fit first second store a b read other (inr many) = inr (more-cells fit second store b other many)
+
+-- neither has
+neither-many : FilesAreUnique MAX_LEVEL → PatternsFit MAX_LEVEL → (first second : List ℕ) (store : Nodes) (a b : Pattern)
+    → IsRead MAX_LEVEL first store a → IsRead MAX_LEVEL second store b
+    → (population (content store a.root) ≤ 2 ^ 20) × (population (content store b.root) ≤ 2 ^ 20) → EitherHasMany first second → ⊥
+neither-many unique fit first second store a b read other few (inl many) = not-more unique fit first store a read few.0 many
+neither-many unique fit first second store a b read other few (inr many) = not-more unique fit second store b other few.1 many
+
+-- two files are of one generation exactly if their patterns are
+of-one-generation : PatternsFit MAX_LEVEL → (first second : List ℕ) (store : Nodes) (a b : Pattern) → IsRead MAX_LEVEL first store a
+    → IsRead MAX_LEVEL second store b → a.generation ≡ b.generation → SayRelated AreOfOneGeneration first second
+of-one-generation fit first second store a b read other is = record {
+  first = universe_in store a;
+  second = universe_in store b;
+  reads_first = reads-it fit first store a read;
+  reads_second = reads-it fit second store b other;
+  related = is;
+}
+
+one-generation : FilesAreUnique MAX_LEVEL → PatternsFit MAX_LEVEL → (first second : List ℕ) (store : Nodes) (a b : Pattern)
+    → IsRead MAX_LEVEL first store a → IsRead MAX_LEVEL second store b → SayRelated AreOfOneGeneration first second → a.generation ≡ b.generation
+one-generation unique fit first second store a b read other are =
+    let u = unique _ are.first (universe_in store a) are.reads_first (reads-it fit first store a read) in
+    let v = unique _ are.second (universe_in store b) are.reads_second (reads-it fit second store b other) in
+    sym (ap (λ (w : Universe). w.generation) u) ∙ are.related ∙ ap (λ (w : Universe). w.generation) v
+
+-- so two patterns that are compared have not too many cells
+pub few-moved : FilesAreUnique MAX_LEVEL → PatternsFit MAX_LEVEL → (first second : List ℕ) (store : Nodes) (a b : Pattern)
+    → IsRead MAX_LEVEL first store a → IsRead MAX_LEVEL second store b → {T : Type 0} (r : Result T Fault)
+    → OnOk r ((population (content store a.root) ≤ 2 ^ 20) × (population (content store b.root) ≤ 2 ^ 20)) → OnOk r (¬ HasTooMany Moved first second)
+few-moved unique fit first second store a b read other (Ok answer) few =
+    λ many. neither-many unique fit first second store a b read other few many.2
+few-moved unique fit first second store a b read other (Err fault) few = tt
+
+pub few-turned : FilesAreUnique MAX_LEVEL → PatternsFit MAX_LEVEL → (first second : List ℕ) (store : Nodes) (a b : Pattern)
+    → IsRead MAX_LEVEL first store a → IsRead MAX_LEVEL second store b → {T : Type 0} (r : Result T Fault)
+    → OnOk r (a.generation ≡ b.generation → (population (content store a.root) ≤ 2 ^ 20) × (population (content store b.root) ≤ 2 ^ 20))
+    → OnOk r (¬ HasTooMany Turned first second)
+few-turned unique fit first second store a b read other (Ok answer) few =
+    λ many. neither-many unique fit first second store a b read other (few (one-generation unique fit first second store a b read other many.0)) many.1
+few-turned unique fit first second store a b read other (Err fault) few = tt
 
 -- what two patterns lack to be moved, their files lack
 moved-lacks : PatternsFit MAX_LEVEL → (first second : List ℕ) (old new : Nodes) (a b : Pattern) → IsRead MAX_LEVEL first old a → IsRead MAX_LEVEL second old b
@@ -194,7 +252,7 @@ pub either-unmoved : PatternsFit MAX_LEVEL → (limit : ℕ) (first second : Lis
     → (fault ≡ fault_of Full → LacksForMoved (universe_in old a) new ⊎ LacksForMoved (universe_in old b) new)
     → RefusesEitherInForm Moved limit first second fault
 either-unmoved fit limit first second old new a b fault room read other (inl many) lacks =
-    inr (inr (inr (many.0, either-many fit first second old a b read other many.1)))
+    inr (inr (inr (many.0, (accepted-it first old a read, accepted-it second old b other, either-many fit first second old a b read other many.1))))
 either-unmoved fit limit first second old new a b fault room read other (inr want) lacks =
     inr (inr (inl (new, room, want, λ full. moved-lacks fit first second old new a b read other (lacks full))))
 
@@ -202,9 +260,10 @@ either-unmoved fit limit first second old new a b fault room read other (inr wan
 pub either-unturned : PatternsFit MAX_LEVEL → (limit : ℕ) (first second : List ℕ) (store : Nodes) (a b : Pattern) (fault : Fault)
     → store.limit ≡ room_of limit → IsRead MAX_LEVEL first store a → IsRead MAX_LEVEL second store b
     → (fault ≡ fault_of Memory)
-    ⊎ ((fault ≡ fault_of TooManyCells) × ((2 ^ 20 < population (content store a.root)) ⊎ (2 ^ 20 < population (content store b.root))))
+    ⊎ ((fault ≡ fault_of TooManyCells) × (a.generation ≡ b.generation)
+    × ((2 ^ 20 < population (content store a.root)) ⊎ (2 ^ 20 < population (content store b.root))))
     → RefusesEitherInForm Turned limit first second fault
 either-unturned fit limit first second store a b fault room read other (inl memory) =
     either-unread Turned limit first second store fault room (inr (inr (inl memory))) (not-full fault memory)
 either-unturned fit limit first second store a b fault room read other (inr many) =
-    inr (many.0, either-many fit first second store a b read other many.1)
+    inr (many.0, (of-one-generation fit first second store a b read other many.1, either-many fit first second store a b read other many.2))

@@ -30,9 +30,19 @@ AreOneInForm Placed = Same MAX_LEVEL
 AreOneInForm Moved = SayRelated IsShift
 AreOneInForm Turned = SayRelated IsTurnedShift
 
+-- two patterns are of one generation
+abbrev pub AreOfOneGeneration : Universe → Universe → Type 0
+AreOfOneGeneration u v = u.generation ≡ v.generation
+
 -- the first file has more than 2^20 cells that aren't 0, or the second
-abbrev pub HasTooMany : List ℕ → List ℕ → Fault → Type 0
-HasTooMany first second fault = (fault ≡ fault_of TooManyCells) × (HasMoreCells MAX_LEVEL first (2 ^ 20) ⊎ HasMoreCells MAX_LEVEL second (2 ^ 20))
+abbrev pub EitherHasMany : List ℕ → List ℕ → Type 0
+EitherHasMany first second = HasMoreCells MAX_LEVEL first (2 ^ 20) ⊎ HasMoreCells MAX_LEVEL second (2 ^ 20)
+
+-- both are files, turned of one generation, and one of them has too many cells for this form
+abbrev pub HasTooMany : PatternForm → List ℕ → List ℕ → Type 0
+HasTooMany Placed first second = ⊥
+HasTooMany Moved first second = Accepted MAX_LEVEL first × Accepted MAX_LEVEL second × EitherHasMany first second
+HasTooMany Turned first second = SayRelated AreOfOneGeneration first second × EitherHasMany first second
 
 -- the store lacks a square that the first file needs or its pattern where it is moved, or one of the second, where the first is a file
 abbrev pub LacksForEitherMoved : List ℕ → List ℕ → Nodes → Type 0
@@ -43,12 +53,13 @@ abbrev pub RefusesEitherInForm : PatternForm → ℕ → List ℕ → List ℕ �
 RefusesEitherInForm Placed limit first second fault = RefusesEither limit first second fault
 RefusesEitherInForm Moved limit first second fault =
     Refuses MAX_LEVEL first fault ⊎ (Accepted MAX_LEVEL first × Refuses MAX_LEVEL second fault)
-    ⊎ Wants (LacksForEitherMoved first second) limit fault ⊎ HasTooMany first second fault
-RefusesEitherInForm Turned limit first second fault = RefusesEither limit first second fault ⊎ HasTooMany first second fault
+    ⊎ Wants (LacksForEitherMoved first second) limit fault ⊎ ((fault ≡ fault_of TooManyCells) × HasTooMany Moved first second)
+RefusesEitherInForm Turned limit first second fault =
+    RefusesEither limit first second fault ⊎ ((fault ≡ fault_of TooManyCells) × HasTooMany Turned first second)
 
--- both are files, and the answer is told, 1 or 0; or the fault that keeps it from being found
+-- both are files of not too many cells, and the answer is told, 1 or 0; or the fault that keeps it from being found
 pub data ComparesInForm (form : PatternForm) (limit : ℕ) (first second : List ℕ) (told : Compared) : Type 0 where
-  by_answer : told.status ≡ 0 → told.line ≡ 0 → Accepted MAX_LEVEL first → Accepted MAX_LEVEL second
+  by_answer : told.status ≡ 0 → told.line ≡ 0 → Accepted MAX_LEVEL first → Accepted MAX_LEVEL second → ¬ HasTooMany form first second
       → ((told.is_same ≡ 1) × AreOneInForm form first second) ⊎ ((told.is_same ≡ 0) × (¬ AreOneInForm form first second))
       → ComparesInForm form limit first second told
   by_fault : (fault : Fault) → told.status ≡ kind_number fault.kind → told.line ≡ fault.place.line → told.is_same ≡ 0

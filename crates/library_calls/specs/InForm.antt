@@ -1,8 +1,7 @@
 -- The text of a pattern in a form, its key, and why there is none.
-use Rattle.std.specs.Prelude.{◌≡◌, ◌⊎◌, ◌==◌, ◌≤◌, ◌^◌, ℕ, List, length, Option, Some, None, if◌then◌else◌}
+use Rattle.std.specs.Prelude.{◌≡◌, ◌⊎◌, ◌==◌, ◌^◌, ℕ, List, Option, Some, None, if◌then◌else◌}
 use Rattle.sha2.specs.Sha256.{sha256}
 use Rattle.life_base.specs.Refusal.{fault_of}
-use Rattle.life_base.specs.declared.cell.Cell.{Cell}
 use Rattle.life_base.specs.declared.cell.TheConstants.{MAX_LEVEL}
 use Rattle.life_base.specs.declared.fault.Fault.{Fault}
 use Rattle.life_base.specs.declared.kind.Kind.TheVariants.{TooManyCells}
@@ -10,11 +9,11 @@ use Rattle.life_quad.specs.Store.{Nodes}
 use Rattle.life_canon.specs.Files.{Reads, Refuses}
 use Rattle.life_canon.specs.Listing.{canon_text}
 use Rattle.life_canon.specs.Needs.{LacksFor}
-use Rattle.life_canon.specs.Texts.{AreCellsOf, HasMoreCells}
+use Rattle.life_canon.specs.Texts.{HasMoreCells}
 use Rattle.life_canon.specs.Universe.{Universe}
 use Rattle.life_forms.specs.Forms.{IsMoved}
 use Rattle.life_forms.specs.Images.{IsTurnedText}
-use Rattle.life_forms.specs.Needed.{LacksForMoved}
+use Rattle.life_forms.specs.Needed.{HasFewCells, LacksForMoved}
 use Rattle.library_calls.specs.Told.{Told}
 use Rattle.library_calls.specs.Answers.{IsCanonicalText, RefusesWithin, RefusesRleWithin, Wants}
 use Rattle.library_calls.specs.declared.pattern_form.PatternForm.{PatternForm}
@@ -24,15 +23,11 @@ use Rattle.library_calls.specs.declared.pattern_form.PatternForm.TheVariants.{Pl
 abbrev pub form_numbered : ℕ → Option PatternForm
 form_numbered number = if number == 0 then Some Placed else (if number == 1 then Some Moved else (if number == 2 then Some Turned else None))
 
--- at most 2^20 cells of the pattern aren't 0
-abbrev pub HasFewCells : Universe → Type 0
-HasFewCells u = (cells : List Cell) × AreCellsOf u.cell cells × (length cells ≤ 2 ^ 20)
-
 -- the bytes are a file, and the text is the canonical text of its pattern, moved
 pub record IsTextMoved (bytes text : List ℕ) : Type 0 where
   pub universe : Universe
   pub reads : Reads MAX_LEVEL bytes universe
-  pub few : HasFewCells universe
+  pub few : HasFewCells universe.cell
   pub form : Universe
   pub moved : IsMoved MAX_LEVEL universe form
   pub is : text ≡ canon_text MAX_LEVEL form
@@ -41,7 +36,7 @@ pub record IsTextMoved (bytes text : List ℕ) : Type 0 where
 pub record IsTextTurned (bytes text : List ℕ) : Type 0 where
   pub universe : Universe
   pub reads : Reads MAX_LEVEL bytes universe
-  pub few : HasFewCells universe
+  pub few : HasFewCells universe.cell
   pub turned : IsTurnedText MAX_LEVEL universe text
 
 -- the text is the canonical text of the bytes' pattern in this form

@@ -5,7 +5,7 @@ ghost use Rattle.life_base.specs.declared.cell.TheConstants.{MAX_LEVEL};
 ghost use Rattle.life_canon.specs.Files.{Accepted};
 ghost use Rattle.library_calls.specs.Answers.{room_of};
 ghost use Rattle.library_calls.specs.InForm.{form_numbered};
-ghost use Rattle.library_calls.specs.ComparingInForm.{AreOneInForm, RefusesEitherInForm, ComparesInForm, ComparesInNone};
+ghost use Rattle.library_calls.specs.ComparingInForm.{AreOneInForm, HasTooMany, RefusesEitherInForm, ComparesInForm, ComparesInNone};
 ghost use Rattle.library_calls.specs.declared.pattern_form.PatternForm.{PatternForm as FormValue};
 
 use crate::in_form::{NO_FORM, form_of};
@@ -28,6 +28,7 @@ fn are_shifted(
 ) -> Result<bool, Fault>
     ensures accepted { OnOk result (Accepted MAX_LEVEL first.now × Accepted MAX_LEVEL second.now) }
     ensures answer { IfOk result (λ answer. IsTrue answer ↔ AreOneInForm FormValue.Moved first.now second.now) }
+    ensures few { OnOk result (¬ HasTooMany FormValue.Moved first.now second.now) }
     ensures fault { IfErr result (λ fault. (limit : ℕ) → store.old.limit ≡ room_of limit → RefusesEitherInForm FormValue.Moved limit first.now second.now fault) }
 {
     patterns_fit();
@@ -42,6 +43,7 @@ fn are_shifted(
 fn are_turned(alloc: Global, store: &mut Shared, first: &[u8], second: &[u8]) -> Result<bool, Fault>
     ensures accepted { OnOk result (Accepted MAX_LEVEL first.now × Accepted MAX_LEVEL second.now) }
     ensures answer { IfOk result (λ answer. IsTrue answer ↔ AreOneInForm FormValue.Turned first.now second.now) }
+    ensures few { OnOk result (¬ HasTooMany FormValue.Turned first.now second.now) }
     ensures fault { IfErr result (λ fault. (limit : ℕ) → store.old.limit ≡ room_of limit → RefusesEitherInForm FormValue.Turned limit first.now second.now fault) }
 {
     patterns_fit();
@@ -63,6 +65,7 @@ fn are_one(
 ) -> Result<bool, Fault>
     ensures accepted { OnOk result (Accepted MAX_LEVEL first.now × Accepted MAX_LEVEL second.now) }
     ensures answer { IfOk result (λ answer. IsTrue answer ↔ AreOneInForm form first.now second.now) }
+    ensures few { OnOk result (¬ HasTooMany form first.now second.now) }
     ensures fault { IfErr result (λ fault. (limit : ℕ) → store.old.limit ≡ room_of limit → RefusesEitherInForm form limit first.now second.now fault) }
 {
     match form {

@@ -19,7 +19,7 @@ use Rattle.life_canon.specs.Texts.{AreCellsOf, HasMoreCells, IsCanonical}
 use Rattle.life_canon.specs.Universe.{Universe, IsSame, least_level}
 use Rattle.life_canon.specs.declared.pattern.Pattern.{Pattern}
 use Rattle.life_forms.specs.Needed.{LacksForMoved}
-use Rattle.life_cli.specs.Forms.{SaysText, SayRelated}
+use Rattle.life_cli.specs.Forms.{AreOfOneGeneration, HasTooMany, SaysText, SayRelated}
 use Rattle.life_cli.specs.Jobs.{RefusesIn, RefusesSame, LacksToMove}
 use Rattle.life_cli.specs.declared.plans.Form.TheVariants.{Moved, Turned}
 
@@ -143,6 +143,42 @@ module _ (fit : PatternsFit MAX_LEVEL) (unique : FilesAreUnique MAX_LEVEL) (stor
   many first second a b (inl more) = inl (more_cells fit store p first a more)
   many first second a b (inr more) = inr (more_cells fit store q second b more)
 
+  none_more : (first second : List ℕ) → IsRead MAX_LEVEL first store p → IsRead MAX_LEVEL second store q
+      → (population (content store p.root) ≤ 2 ^ 20) × (population (content store q.root) ≤ 2 ^ 20)
+      → HasMoreCells MAX_LEVEL first (2 ^ 20) ⊎ HasMoreCells MAX_LEVEL second (2 ^ 20) → ⊥
+  none_more first second a b few (inl more) = few_cells fit store p unique first a few.0 more
+  none_more first second a b few (inr more) = few_cells fit store q unique second b few.1 more
+
+  -- two files are of one generation exactly if their patterns are
+  one_generation : (first second : List ℕ) → IsRead MAX_LEVEL first store p → IsRead MAX_LEVEL second store q
+      → SayRelated AreOfOneGeneration MAX_LEVEL first second → p.generation ≡ q.generation
+  one_generation first second a b s =
+      let one = unique (lines_of first) s.first a.universe s.reads_first a.reads ∙ said fit store p first a in
+      let two = unique (lines_of second) s.second b.universe s.reads_second b.reads ∙ said fit store q second b in
+      sym (ap (λ (u : Universe). u.generation) one) ∙ s.related ∙ ap (λ (u : Universe). u.generation) two
+
+  of_one_generation : (first second : List ℕ) → IsRead MAX_LEVEL first store p → IsRead MAX_LEVEL second store q → p.generation ≡ q.generation
+      → SayRelated AreOfOneGeneration MAX_LEVEL first second
+  of_one_generation first second a b is = record {
+    first = a.universe;
+    second = b.universe;
+    reads_first = a.reads;
+    reads_second = b.reads;
+    related = ap (λ (u : Universe). u.generation) (said fit store p first a) ∙ is ∙ sym (ap (λ (u : Universe). u.generation) (said fit store q second b));
+  }
+
+  -- where they were compared, neither file has too many cells
+  pub few_shifted : (r : Result Bool Fault) → OnOk r ((population (content store p.root) ≤ 2 ^ 20) × (population (content store q.root) ≤ 2 ^ 20))
+      → OnOk r ((first second : List ℕ) → IsRead MAX_LEVEL first store p → IsRead MAX_LEVEL second store q → ¬ HasTooMany Moved MAX_LEVEL first second)
+  few_shifted (Ok answer) few = λ first second a b more. none_more first second a b few more
+  few_shifted (Err fault) few = tt
+
+  pub few_turned : (r : Result Bool Fault)
+      → OnOk r (p.generation ≡ q.generation → (population (content store p.root) ≤ 2 ^ 20) × (population (content store q.root) ≤ 2 ^ 20))
+      → OnOk r ((first second : List ℕ) → IsRead MAX_LEVEL first store p → IsRead MAX_LEVEL second store q → ¬ HasTooMany Turned MAX_LEVEL first second)
+  few_turned (Ok answer) few = λ first second a b more. none_more first second a b (few (one_generation first second a b more.0)) more.1
+  few_turned (Err fault) few = tt
+
   pub unshifted : (new : Nodes) (r : Result Bool Fault) → new.limit ≡ 2 ^ 31
       → IfErr r (λ fault. ((fault ≡ fault_of TooManyCells)
       × ((2 ^ 20 < population (content store p.root)) ⊎ (2 ^ 20 < population (content store q.root)))) ⊎ IsWant new fault)
@@ -160,13 +196,14 @@ module _ (fit : PatternsFit MAX_LEVEL) (unique : FilesAreUnique MAX_LEVEL) (stor
       either first second a b (inr l) = inr (lacks fit store q second new b l)
 
   pub unturned_two : (r : Result Bool Fault)
-      → IfErr r (λ fault. (fault ≡ fault_of Memory) ⊎ ((fault ≡ fault_of TooManyCells)
+      → IfErr r (λ fault. (fault ≡ fault_of Memory) ⊎ ((fault ≡ fault_of TooManyCells) × (p.generation ≡ q.generation)
       × ((2 ^ 20 < population (content store p.root)) ⊎ (2 ^ 20 < population (content store q.root)))))
       → IfErr r (λ fault. (fault ≡ fault_of Memory) ⊎ ((first second : List ℕ) → IsRead MAX_LEVEL first store p → IsRead MAX_LEVEL second store q
       → RefusesSame Turned first second fault))
   unturned_two (Ok answer) h = tt
   unturned_two (Err fault) (inl memory) = inl memory
-  unturned_two (Err fault) (inr more) = inr (λ first second a b. (more.0, many first second a b more.1))
+  unturned_two (Err fault) (inr more) =
+      inr (λ first second a b. (more.0, (of_one_generation first second a b more.1, many first second a b more.2)))
 
 -- the rule of a file's pattern is one
 pub rule_of_file : FilesAreOnPlane MAX_LEVEL → (bytes : List ℕ) (store : Nodes) (pattern : Pattern) → IsRead MAX_LEVEL bytes store pattern

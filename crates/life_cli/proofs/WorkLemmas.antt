@@ -31,7 +31,7 @@ use Rattle.life_cli.specs.declared.plans.Target.TheVariants.{Rle, Mc}
 use Rattle.life_cli.specs.declared.telling.Refusal.{Refusal}
 use Rattle.life_cli.specs.declared.working.Made.{Made}
 use Rattle.life_cli.specs.declared.working.Made.TheVariants.{Comparison}
-use Rattle.life_cli.specs.Forms.{AreSameIn, IsTextIn}
+use Rattle.life_cli.specs.Forms.{AreSameIn, HasTooMany, IsTextIn}
 use Rattle.life_cli.specs.Plans.{HasSecond, WritesCanonical}
 use Rattle.life_step.specs.Stepped.{IsStepped, IsSteppedBy}
 use Rattle.life_cli.specs.Jobs.{InputRefuses, by_length, by_source, HasNoText, by_input, by_file, by_want, AreUncompared}
@@ -114,14 +114,14 @@ answers form a b true is = inl (refl, is.0 refl, refl)
 answers form a b false is = inr (refl, (λ same. let bad : false ≡ true = is.1 same in absurd cc), refl)
 
 compared_files : (form : Form) (first second : SourceRun) (a b : List ℕ) (answer : Bool) → ReadAll (2 ^ 30) first.before first.after a
-    → ReadAll (2 ^ 30) second.before second.after b → Accepted MAX_LEVEL a → Accepted MAX_LEVEL b → IsTrue answer ↔ AreSameIn form MAX_LEVEL a b
-    → Makes (Same form) first second (Comparison answer)
-compared_files form first second a b answer one two first_is second_is is = record {
+    → ReadAll (2 ^ 30) second.before second.after b → Accepted MAX_LEVEL a → Accepted MAX_LEVEL b → ¬ HasTooMany form MAX_LEVEL a b
+    → IsTrue answer ↔ AreSameIn form MAX_LEVEL a b → Makes (Same form) first second (Comparison answer)
+compared_files form first second a b answer one two first_is second_is few is = record {
   first_bytes = a;
   second_bytes = b;
   first_read = one;
   second_read = λ _. two;
-  writes = (first_is, second_is, answers form a b answer is);
+  writes = (first_is, second_is, few, answers form a b answer is);
 }
 
 -- two files were read into one store, and their patterns compared in a form, or not
@@ -129,15 +129,18 @@ module _ (form : Form) (first second : SourceRun) (store : Nodes) (a b : List �
     (one : ReadAll (2 ^ 30) first.before first.after a) (two : ReadAll (2 ^ 30) second.before second.after b) (reads : IsRead MAX_LEVEL a store p)
     (others : IsRead MAX_LEVEL b store q) where
   pub compared_in : IfOk r (λ answer. (f s : List ℕ) → IsRead MAX_LEVEL f store p → IsRead MAX_LEVEL s store q → IsTrue answer ↔ AreSameIn form MAX_LEVEL f s)
+      → OnOk r ((f s : List ℕ) → IsRead MAX_LEVEL f store p → IsRead MAX_LEVEL s store q → ¬ HasTooMany form MAX_LEVEL f s)
       → IfOk r (λ answer. Makes (Same form) first second (Comparison answer))
-  compared_in h = go r h
+  compared_in h few = go r h few
     where
       go : (r : Result Bool Fault)
           → IfOk r (λ answer. (f s : List ℕ) → IsRead MAX_LEVEL f store p → IsRead MAX_LEVEL s store q → IsTrue answer ↔ AreSameIn form MAX_LEVEL f s)
+          → OnOk r ((f s : List ℕ) → IsRead MAX_LEVEL f store p → IsRead MAX_LEVEL s store q → ¬ HasTooMany form MAX_LEVEL f s)
           → IfOk r (λ answer. Makes (Same form) first second (Comparison answer))
-      go (Ok answer) h =
-          compared_files form first second a b answer one two (reads.universe, reads.reads) (others.universe, others.reads) (h a b reads others)
-      go (Err fault) h = tt
+      go (Ok answer) h few =
+          compared_files form first second a b answer one two (reads.universe, reads.reads) (others.universe, others.reads) (few a b reads others)
+          (h a b reads others)
+      go (Err fault) h few = tt
 
   pub uncompared_in : IfErr r (λ fault. (fault ≡ fault_of Memory)
       ⊎ ((f s : List ℕ) → IsRead MAX_LEVEL f store p → IsRead MAX_LEVEL s store q → RefusesSame form f s fault))

@@ -1,5 +1,5 @@
 -- What files say in a form of their patterns.
-use Rattle.std.specs.Prelude.{◌≡◌, ℕ, ◌^◌, List}
+use Rattle.std.specs.Prelude.{◌≡◌, ◌⊎◌, ℕ, ◌^◌, List}
 use Rattle.life_canon.specs.Files.{Reads, Same}
 use Rattle.life_canon.specs.Listing.{canon_text}
 use Rattle.life_canon.specs.Texts.{HasMoreCells, IsCanonical}
@@ -41,3 +41,13 @@ abbrev pub AreSameIn : Form → ℕ → List ℕ → List ℕ → Type 0
 AreSameIn Placed top a b = Same top a b
 AreSameIn Moved top a b = SayRelated IsShift top a b
 AreSameIn Turned top a b = SayRelated IsTurnedShift top a b
+
+-- two patterns are of one generation
+abbrev pub AreOfOneGeneration : Universe → Universe → Type 0
+AreOfOneGeneration u v = u.generation ≡ v.generation
+
+-- one of two files has too many cells to be compared in the form: more than 2^20 that aren't 0, turned only where both are of one generation
+abbrev pub HasTooMany : Form → ℕ → List ℕ → List ℕ → Type 0
+HasTooMany Placed top a b = ⊥
+HasTooMany Moved top a b = HasMoreCells top a (2 ^ 20) ⊎ HasMoreCells top b (2 ^ 20)
+HasTooMany Turned top a b = SayRelated AreOfOneGeneration top a b × (HasMoreCells top a (2 ^ 20) ⊎ HasMoreCells top b (2 ^ 20))

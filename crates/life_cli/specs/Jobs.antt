@@ -22,7 +22,7 @@ use Rattle.life_table.specs.declared.table.Table.{Table}
 use Rattle.life_step.specs.Refusals.{LacksForNext, LacksForNextBy, LifeRefusal, TableRefusal}
 use Rattle.life_step.specs.Stepped.{IsStepped, IsSteppedBy}
 use Rattle.life_forms.specs.Needed.{LacksForMoved}
-use Rattle.life_cli.specs.Forms.{AreSameIn, IsTextIn}
+use Rattle.life_cli.specs.Forms.{AreSameIn, HasTooMany, IsTextIn}
 use Rattle.life_cli.specs.Plans.{HasSecond}
 use Rattle.life_cli.specs.declared.plans.Form.{Form}
 use Rattle.life_cli.specs.declared.plans.Form.TheVariants.{Placed, Moved, Turned}
@@ -44,7 +44,8 @@ abbrev pub Writes : Job → List ℕ → List ℕ → ℕ → List ℕ → Type 
 Writes (Canon form) first second status text = (status ≡ 0) × IsTextIn form MAX_LEVEL first text
 Writes (Convert Rle) first second status text = (status ≡ 0) × IsRleOf MAX_LEVEL (2 ^ 20) first text
 Writes (Convert Mc) first second status text = (status ≡ 0) × IsCanonical MAX_LEVEL first text
-Writes (Same form) first second status text = Accepted MAX_LEVEL first × Accepted MAX_LEVEL second × Compares form first second status text
+Writes (Same form) first second status text =
+    Accepted MAX_LEVEL first × Accepted MAX_LEVEL second × (¬ HasTooMany form MAX_LEVEL first second) × Compares form first second status text
 Writes Show first second status text = (status ≡ 0) × IsShown MAX_LEVEL first text
 Writes Step first second status text = (status ≡ 0) × IsStepped first text
 Writes StepTable first second status text = (status ≡ 0) × ((table : Table) × IsFile (lines_of second) table × IsSteppedBy table first text)
@@ -132,9 +133,8 @@ LacksToMove bytes store = (u : Universe) × Reads MAX_LEVEL bytes u × LacksForM
 abbrev pub RefusesSame : Form → List ℕ → List ℕ → Fault → Type 0
 RefusesSame Placed a b fault = ⊥
 RefusesSame Moved a b fault =
-    ((fault ≡ fault_of TooManyCells) × (HasMoreCells MAX_LEVEL a (2 ^ 20) ⊎ HasMoreCells MAX_LEVEL b (2 ^ 20)))
-    ⊎ WantsFor (λ store. LacksToMove a store ⊎ LacksToMove b store) fault
-RefusesSame Turned a b fault = (fault ≡ fault_of TooManyCells) × (HasMoreCells MAX_LEVEL a (2 ^ 20) ⊎ HasMoreCells MAX_LEVEL b (2 ^ 20))
+    ((fault ≡ fault_of TooManyCells) × HasTooMany Moved MAX_LEVEL a b) ⊎ WantsFor (λ store. LacksToMove a store ⊎ LacksToMove b store) fault
+RefusesSame Turned a b fault = (fault ≡ fault_of TooManyCells) × HasTooMany Turned MAX_LEVEL a b
 
 -- Why two files aren't compared: the first isn't read; all of it was read, and the second isn't; all of both was read, and the first is no
 -- file, or it is one and the second isn't, or both are, and aren't compared in the form; or room or memory is wanted for the first, or, once all

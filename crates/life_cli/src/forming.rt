@@ -6,7 +6,7 @@ ghost use Rattle.life_base.specs.Refusal.{fault_of};
 ghost use Rattle.life_quad.specs.Cells.{population};
 ghost use Rattle.life_canon.specs.Store.{IsOfFile, IsRead, IsTrimmed, IsWant, Keeps, content, universe_in};
 ghost use Rattle.life_forms.specs.Needed.{LacksForMoved};
-ghost use Rattle.life_cli.specs.Forms.{AreSameIn, IsMovedText, IsTextIn};
+ghost use Rattle.life_cli.specs.Forms.{AreSameIn, HasTooMany, IsMovedText, IsTextIn};
 ghost use Rattle.life_cli.specs.Jobs.{HasNoText, HasText, RefusesIn, RefusesSame};
 
 use crate::plans::Form;
@@ -82,6 +82,7 @@ pub(crate) fn are_same_in(
     requires b { IsOfFile MAX_LEVEL store.old b.now }
     requires limit { store.old.limit ≡ 2 ^ 31 }
     ensures answer { IfOk result (λ answer. (first second : List ℕ) → IsRead MAX_LEVEL first store.old a.now → IsRead MAX_LEVEL second store.old b.now → IsTrue answer ↔ AreSameIn form MAX_LEVEL first second) }
+    ensures few { OnOk result ((first second : List ℕ) → IsRead MAX_LEVEL first store.old a.now → IsRead MAX_LEVEL second store.old b.now → ¬ HasTooMany form MAX_LEVEL first second) }
     ensures fault { IfErr result (λ fault. (fault ≡ fault_of Kind.Memory) ⊎ ((first second : List ℕ) → IsRead MAX_LEVEL first store.old a.now → IsRead MAX_LEVEL second store.old b.now → RefusesSame form first second fault)) }
 {
     patterns_fit();

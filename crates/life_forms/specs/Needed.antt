@@ -1,5 +1,5 @@
 -- The squares that a refused call had to store while cells were moved.
-use Rattle.std.specs.Prelude.{ℕ, ◌^◌, ◌⊎◌, ℤ, List}
+use Rattle.std.specs.Prelude.{ℕ, ◌^◌, ◌≤◌, ◌⊎◌, ℤ, List, length}
 use Rattle.life_base.specs.Tree.{Tree}
 use Rattle.life_base.specs.declared.cell.Cell.{Cell}
 use Rattle.life_base.specs.declared.cell.Run.{Run}
@@ -27,8 +27,13 @@ pub record SomeOfMoved (P : Tree → Type 0) (cell : ℤ → ℤ → ℕ) : Type
   pub way : IsWay cell columns rows
   pub square : SomeOfPlane P (moved_runs columns rows cells)
 
--- the store lacks a square of the plane of the moved pattern, or the one to which that plane is trimmed
+-- at most 2^20 cells aren't 0
+abbrev pub HasFewCells : (ℤ → ℤ → ℕ) → Type 0
+HasFewCells cell = (cells : List Cell) × AreCellsOf cell cells × (length cells ≤ 2 ^ 20)
+
+-- the pattern has few enough cells, and the store lacks a square of its plane, moved, or the one to which that plane is trimmed
 abbrev pub LacksForMoved : Universe → Nodes → Type 0
 LacksForMoved u store =
-    SomeOfMoved (IsNew store) u.cell
-    ⊎ ((t : Tree) × IsMoved MAX_LEVEL u (square_universe u.rule u.generation t) × TrimmedTo (IsNew store) t (least_level u.rule))
+    HasFewCells u.cell
+    × (SomeOfMoved (IsNew store) u.cell
+    ⊎ ((t : Tree) × IsMoved MAX_LEVEL u (square_universe u.rule u.generation t) × TrimmedTo (IsNew store) t (least_level u.rule)))

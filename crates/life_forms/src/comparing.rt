@@ -1,6 +1,6 @@
 //! Two patterns, compared in a form.
 
-ghost use Rattle.std.specs.Prelude.{◌≡◌, ◌↔◌, ◌⊎◌, ◌^◌, ◌<◌, Err, IfOk, IfErr, IsTrue};
+ghost use Rattle.std.specs.Prelude.{◌≡◌, ◌↔◌, ◌⊎◌, ◌^◌, ◌<◌, ◌≤◌, Err, IfOk, IfErr, OnOk, IsTrue};
 ghost use Rattle.life_base.specs.Refusal.{fault_of};
 ghost use Rattle.life_base.specs.Rules.{IsRule};
 ghost use Rattle.life_base.specs.declared.kind.Kind.TheVariants.{Full, Memory, TooManyCells};
@@ -32,6 +32,7 @@ pub fn are_shifts(
     requires a { IsTrimmed store.old a.now }
     requires b { IsTrimmed store.old b.now }
     ensures answer { IfOk result (λ answer. IsTrue answer ↔ IsShift (universe_in store.old a.now) (universe_in store.old b.now)) }
+    ensures few { OnOk result ((population (content store.old a.now.root) ≤ 2 ^ 20) × (population (content store.old b.now.root) ≤ 2 ^ 20)) }
     ensures fault { IfErr result (λ fault. ((fault ≡ fault_of TooManyCells) × ((2 ^ 20 < population (content store.old a.now.root)) ⊎ (2 ^ 20 < population (content store.old b.now.root)))) ⊎ IsWant store.new fault) }
     ensures needed { result ≡ Err (fault_of Full) → LacksForMoved (universe_in store.old a.now) store.new ⊎ LacksForMoved (universe_in store.old b.now) store.new }
     ensures keeps { Keeps store.old store.new }
@@ -53,15 +54,19 @@ fn are_equal(first: &[u8], second: &[u8]) -> bool
 ///
 /// # Errors
 ///
-/// Those of `turned_text`, for the first pattern and then for the second, if their generations are one.
+/// Those of `turned_text`, for the first pattern and then for the second, if their generations are one. Patterns of two generations are never refused
+/// for their cells.
 pub fn are_turns(alloc: Global, store: &Shared, a: &Pattern, b: &Pattern) -> Result<bool, Fault>
     requires a { IsTrimmed store.now a.now }
     requires b { IsTrimmed store.now b.now }
     requires a_rule { IsRule a.now.rule }
     requires b_rule { IsRule b.now.rule }
     ensures answer { IfOk result (λ answer. IsTrue answer ↔ IsTurnedShift (universe_in store.now a.now) (universe_in store.now b.now)) }
+    ensures few { OnOk result (a.now.generation ≡ b.now.generation
+        → (population (content store.now a.now.root) ≤ 2 ^ 20) × (population (content store.now b.now.root) ≤ 2 ^ 20)) }
     ensures fault { IfErr result (λ fault. (fault ≡ fault_of Memory)
-        ⊎ ((fault ≡ fault_of TooManyCells) × ((2 ^ 20 < population (content store.now a.now.root)) ⊎ (2 ^ 20 < population (content store.now b.now.root))))) }
+        ⊎ ((fault ≡ fault_of TooManyCells) × (a.now.generation ≡ b.now.generation)
+        × ((2 ^ 20 < population (content store.now a.now.root)) ⊎ (2 ^ 20 < population (content store.now b.now.root))))) }
 {
     if a.generation != b.generation {
         return Ok(false);

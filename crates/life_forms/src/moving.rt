@@ -109,8 +109,8 @@ fn moved_square<S: Squares>(
 ///
 /// # Errors
 ///
-/// `TooManyCells` where more than 2^20 cells aren't 0, `Full` where the store holds its limit and lacks a square of the moved plane, and `Memory`.
-/// After each the Ids have their squares.
+/// `TooManyCells` where more than 2^20 cells aren't 0, `Full` where no more are, and the store holds its limit and lacks a square of the moved plane,
+/// and `Memory`. After each the Ids have their squares.
 pub(crate) fn moved_plane<S: SharedSquares>(
     alloc: Global,
     squares: &mut S,
@@ -124,6 +124,7 @@ pub(crate) fn moved_plane<S: SharedSquares>(
     ensures few { OnOk result (population (S.content squares.old root) ≤ 2 ^ 20) }
     ensures many { IfErr result (λ kind. kind ≡ TooManyCells → 2 ^ 20 < population (S.content squares.old root)) }
     ensures refusals { IfErr result (λ kind. (kind ≡ TooManyCells) ⊎ IsWantKind (S.stored squares.new) (S.most squares.new) kind) }
+    ensures room { result ≡ Err Full → population (S.content squares.old root) ≤ 2 ^ 20 }
     ensures needed { result ≡ Err Full → SomeOfMoved (S.needs_node squares.new) (tree_cell (S.content squares.old root)) }
     ensures keeps { KeepsSquares S.knows S.content S.stored S.most squares.old squares.new }
 {

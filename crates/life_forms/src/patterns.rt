@@ -66,8 +66,8 @@ pub(crate) fn moved_pattern(
 ///
 /// # Errors
 ///
-/// `TooManyCells` where more than 2^20 cells aren't 0, and only there; `Full` where the store holds its limit and lacks a square of the moved
-/// pattern, and `Memory`. They name no line. After a fault too each Id of the store names the square that it named, and nothing stored is
+/// `TooManyCells` where more than 2^20 cells aren't 0, and only there; `Full` where no more are, and the store holds its limit and lacks a square of
+/// the moved pattern; and `Memory`. They name no line. After a fault too each Id of the store names the square that it named, and nothing stored is
 /// gone.
 pub fn moved_of(alloc: Global, store: &mut Shared, pattern: &Pattern) -> Result<Pattern, Fault>
     requires { IsTrimmed store.old pattern.now }

@@ -33,7 +33,7 @@ use Rattle.step_theorems.proofs.StepBy.{stepped_text}
 use Rattle.program_theorems.specs.Jobs.{HasSecond, WritesCanonical, Answers, IsShort}
 use Rattle.program_theorems.specs.Forms.{SameIn, IsTextIn}
 use Rattle.program_theorems.specs.Layers.{LayersAgree}
-use Rattle.program_theorems.proofs.FormLaw.{moved_text_is, own_moved, own_text_of, own_turned, same_in_from, same_in_to, texts_tell_in, turned_text_is}
+use Rattle.program_theorems.proofs.FormLaw.{few_to, moved_text_is, own_moved, own_text_of, own_turned, same_in_from, same_in_to, texts_tell_in, turned_text_is}
 
 -- ---- second files
 
@@ -95,7 +95,8 @@ answers laws (jobs.Convert Rle) file second status text h =
     (h.0, same_to file text (laws.rle (2 ^ 20) file text h.1), rle_format file text h.1, few_cells file text h.1)
 answers laws (jobs.Convert Mc) file second status text h = (h.0, canonical laws file text h.1)
 answers laws (jobs.Same form) file second status text h =
-    (accepted_is_ok file h.0, accepted_is_ok second h.1, compares laws form file second status text h.0 h.1 h.2)
+    let few = few_to laws.on_plane form file second h.0.0 h.1.0 h.0.1 h.1.1 h.2 in
+    (accepted_is_ok file h.0, accepted_is_ok second h.1, few, compares laws form file second status text h.0 h.1 h.3)
 answers laws jobs.Show file second status text h =
     let told = canon_text 62 h.1.universe in
     let c : IsCanonical 62 file told = record { universe = h.1.universe; reads = h.1.reads; is = refl } in

@@ -1,5 +1,5 @@
 -- What files say in a form is what they say in the layer below.
-use Rattle.std.proofs.Common.{◌≡◌, ◌↔◌, ℕ, ◌^◌, List, Bool, true, false, refl, ap, ap₂, ◌∙◌, sym, subst, arith}
+use Rattle.std.proofs.Common.{◌≡◌, ◌↔◌, ℕ, ◌^◌, List, Bool, true, false, refl, ap, ap₂, ◌∙◌, sym, subst, arith, ◌⊎◌, inl, inr}
 use Rattle.std.specs.Prelude.{ℤ, pos, negsuc, ◌+ℤ◌, if◌then◌else◌}
 use Rattle.life_base.specs.Rules.{IsRule}
 use Rattle.life_canon.specs.Files.{Reads, as_macrocell}
@@ -13,7 +13,8 @@ use Rattle.life_forms.specs.Images.{IsTurnedText}
 use Rattle.life_forms.specs.Turns.{turn_of}
 use Rattle.life_forms.specs.declared.turn.Turn.{Turn}
 use Rattle.life_forms.specs.Turns as layer
-use Rattle.life_cli.specs.Forms.{AreSameIn, IsMovedText, SayRelated, SaysText}
+use Rattle.life_cli.specs.Forms.{AreOfOneGeneration, AreSameIn, IsMovedText, SayRelated, SaysText}
+use Rattle.life_cli.specs.Forms.{HasTooMany as LayerTooMany}
 use Rattle.life_cli.specs.Forms.{IsTextIn as LayerTextIn}
 use Rattle.life_cli.specs.declared.plans.Form.{Form}
 use Rattle.life_cli.specs.declared.plans.Form.TheVariants.{Placed, Moved, Turned}
@@ -22,8 +23,9 @@ use Rattle.claims.specs.Generation.{SaysMoreCells}
 use Rattle.claims.specs.Pattern.{Pattern}
 use Rattle.claims.proofs.RuleLaw.{rule_in}
 use Rattle.claims.proofs.RuleBack.{rules_are}
+use Rattle.theorems.proofs.CellsLaw.{says_more}
 use Rattle.theorems.proofs.FileLaw.{Agrees, files_agree, ok_of, same_from, same_to, texts_are_exact}
-use Rattle.program_theorems.specs.Forms.{AreRelated, IsShift, IsTurnedShift, SameIn, counted, image}
+use Rattle.program_theorems.specs.Forms.{AreRelated, HasTooMany, IsShift, IsTurnedShift, SameIn, counted, image}
 use Rattle.program_theorems.specs.Layers.{LayersAgree}
 
 -- ---- patterns
@@ -142,6 +144,40 @@ few_in bytes u reads few more =
     let are : AreCellsOf more.0.cell list.0 =
     record { in_order = list.1.in_order; true_cells = list.1.true_cells; all_cells = list.1.all_cells } in
     few (list.0, record { universe = u; reads = reads; are = subst (λ (f : ℤ → ℤ → ℕ). AreCellsOf f list.0) cells are }, list.2)
+
+either_few : (a b : List ℕ) (u v : Universe) → Reads 62 a u → Reads 62 b v → ¬ (LayerMoreCells 62 a (2 ^ 20) ⊎ LayerMoreCells 62 b (2 ^ 20))
+    → SaysMoreCells (2 ^ 20) a ⊎ SaysMoreCells (2 ^ 20) b → ⊥
+either_few a b u v h l few (inl more) = few_in a u h (λ m. few (inl m)) more
+either_few a b u v h l few (inr more) = few_in b v l (λ m. few (inr m)) more
+
+one_generation_from : FilesAreOnPlane 62 → (a b : List ℕ) (u v : Universe) → Reads 62 a u → Reads 62 b v
+    → AreRelated (λ p q. p.generation ≡ q.generation) a b → SayRelated AreOfOneGeneration 62 a b
+one_generation_from on_plane a b u v h l s = record {
+  first = u;
+  second = v;
+  reads_first = h;
+  reads_second = l;
+  related = related_from on_plane (λ p q x y one two says also is. sym says.generation ∙ is ∙ also.generation) a b u v h l s;
+}
+
+-- files of which the layer finds that neither has too many cells for a form have not too many
+pub few_to : FilesAreOnPlane 62 → (form : Form) (a b : List ℕ) (u v : Universe) → Reads 62 a u → Reads 62 b v → ¬ LayerTooMany form 62 a b
+    → HasTooMany form a b → ⊥
+few_to on_plane Placed a b u v h l few more = more
+few_to on_plane Moved a b u v h l few more = either_few a b u v h l few more
+few_to on_plane Turned a b u v h l few more =
+    either_few a b u v h l (λ m. few (one_generation_from on_plane a b u v h l more.0, m)) more.1
+
+-- and one of which it finds too many has too many
+either_more : (a b : List ℕ) → LayerMoreCells 62 a (2 ^ 20) ⊎ LayerMoreCells 62 b (2 ^ 20) → SaysMoreCells (2 ^ 20) a ⊎ SaysMoreCells (2 ^ 20) b
+either_more a b (inl more) = inl (says_more a more)
+either_more a b (inr more) = inr (says_more b more)
+
+pub many_to : (form : Form) (a b : List ℕ) → LayerTooMany form 62 a b → HasTooMany form a b
+many_to Placed a b more = more
+many_to Moved a b more = either_more a b more
+many_to Turned a b more =
+    (related_to (λ p q u v says also is. says.generation ∙ is ∙ sym also.generation) a b more.0, either_more a b more.1)
 
 -- ---- texts
 

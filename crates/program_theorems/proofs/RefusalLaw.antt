@@ -1,5 +1,5 @@
 -- Why a job is refused, in the words of the claims.
-use Rattle.std.proofs.Common.{◌≡◌, ℕ, ◌^◌, List, [], ◌++◌, take, Bool, true, false, refl, ap, ◌∙◌, sym, subst, ◌⊎◌, inl, inr}
+use Rattle.std.proofs.Common.{◌≡◌, ℕ, ◌^◌, List, [], ◌++◌, take, Bool, true, false, refl, ap, ◌∙◌, sym, subst, subst₂, ◌⊎◌, inl, inr}
 use Rattle.std.specs.Prelude.{codes, Option, Some, None, Ok, Err, IsOk, IfSome, IsSomeAnd}
 use Rattle.std.specs.Option.{option_map_or}
 use Rattle.life_base.specs.DeviceRuns.{SourceRun, SinkRun}
@@ -17,14 +17,13 @@ use Rattle.life_canon.specs.Files.{Accepted, Refuses as LayerRefuses, is_file_ki
 use Rattle.life_canon.specs.Running.{RunRefuses, ReadRefuses}
 use Rattle.life_canon.specs.Running as running
 use Rattle.life_canon.specs.Texts.{IsCanonical, IsRleOf}
-use Rattle.life_canon.specs.Texts.{HasMoreCells as LayerMoreCells}
 use Rattle.life_canon.specs.Texts.{IsShown as LayerShown}
 use Rattle.life_step.specs.Stepped.{IsStepped as LayerStepped}
 use Rattle.life_cli.specs.Faults.{is_of_table, place_text, Tells}
 use Rattle.life_cli.specs.Faults.{fault_line as layer_line, status_of as layer_status}
 use Rattle.life_cli.specs.Jobs as layer
 use Rattle.life_cli.specs.Plans.{HasSecond as LayerSecond}
-use Rattle.life_cli.specs.Forms.{IsTextIn as LayerTextIn}
+use Rattle.life_cli.specs.Forms.{HasTooMany as LayerTooMany, IsTextIn as LayerTextIn}
 use Rattle.life_cli.specs.declared.plans.Form.{Form}
 use Rattle.life_cli.specs.declared.plans.Form.TheVariants.{Placed, Moved, Turned}
 use Rattle.life_cli.specs.declared.plans.Job.{Job}
@@ -44,9 +43,11 @@ use Rattle.theorems.proofs.StreamLaw.{all_read, appended, beyond}
 use Rattle.step_theorems.proofs.StepBy as by_table
 use Rattle.table_laws.specs.Tables.{IsTable}
 use Rattle.step_theorems.proofs.StepLaw.{unstepped_is}
-use Rattle.program_theorems.specs.Jobs.{HasSecond, IsShort, Refuses, RefusesMany, RefusesSame, IsReason, of_files, of_want, of_length, of_source, of_sink, Holds}
+use Rattle.program_theorems.specs.Jobs.{HasSecond, IsShort, Refuses, RefusesMany, IsReason, of_files, of_want, of_length, of_source, of_sink, Holds}
+use Rattle.program_theorems.specs.Forms.{HasTooMany}
 use Rattle.program_theorems.specs.Layers.{LayersAgree}
 use Rattle.program_theorems.specs.Telling.{fault_line, status_of}
+use Rattle.program_theorems.proofs.FormLaw.{many_to}
 
 -- ---- kinds
 
@@ -257,36 +258,29 @@ module _ (laws : LayersAgree) (first second : SourceRun) (output : SinkRun) (ref
   -- two files
   module _ (form : Form) (a b : List ℕ) (one : ReadAll (2 ^ 30) first.before first.after a) (two : ReadAll (2 ^ 30) second.before second.after b)
       (p : Accepted 62 a) (q : Accepted 62 b) where
-    both_many : ((file other : List ℕ) → IsOk (pattern_of file) × IsOk (pattern_of other) × (refusal.fault ≡ fault_of kinds.TooManyCells)
-        × (SaysMoreCells (2 ^ 20) file ⊎ SaysMoreCells (2 ^ 20) other) → RefusesSame form file other refusal.fault)
-        → (refusal.fault ≡ fault_of kinds.TooManyCells) × (LayerMoreCells 62 a (2 ^ 20) ⊎ LayerMoreCells 62 b (2 ^ 20))
-        → Origin (jobs.Same form) first second output refusal
-    both_many to m =
+    both_many : (refusal.fault ≡ fault_of kinds.TooManyCells) × LayerTooMany form 62 a b → Origin (jobs.Same form) first second output refusal
+    both_many m =
         of_none laws (jobs.Same form) first second output refusal false (too_many m.0)
         (λ file other f g.
         let e = all_read (2 ^ 30) first.before first.after file a one f in
-        let k = all_read (2 ^ 30) second.before second.after other b two (g tt) in
-        let more : SaysMoreCells (2 ^ 20) file ⊎ SaysMoreCells (2 ^ 20) other = elim m.1 [
-          | inl l ↦ inl (subst (SaysMoreCells (2 ^ 20)) e (says_more a l))
-          | inr l ↦ inr (subst (SaysMoreCells (2 ^ 20)) k (says_more b l))
-        ] in (
+        let k = all_read (2 ^ 30) second.before second.after other b two (g tt) in (
           short _ _ a file one f,
           short _ _ b other two (g tt),
           refl,
-          inr (inr (to file other (
+          inr (inr (
             subst (λ (s : List ℕ). IsOk (pattern_of s)) e (accepted_is_ok a p),
             subst (λ (s : List ℕ). IsOk (pattern_of s)) k (accepted_is_ok b q),
             m.0,
-            more,
-          ))),
+            subst₂ (HasTooMany form) e k (many_to form a b m.1),
+          )),
         ))
 
   of_form : (form : Form) (a b : List ℕ) → ReadAll (2 ^ 30) first.before first.after a → ReadAll (2 ^ 30) second.before second.after b
       → Accepted 62 a → Accepted 62 b → layer.RefusesSame form a b refusal.fault → Origin (jobs.Same form) first second output refusal
   of_form Placed a b one two p q h = absurd h
-  of_form Moved a b one two p q (inl m) = both_many Moved a b one two p q (λ file other h. h) m
+  of_form Moved a b one two p q (inl m) = both_many Moved a b one two p q m
   of_form Moved a b one two p q (inr want) = from_want (want_as want.0 refusal.fault want.2)
-  of_form Turned a b one two p q m = both_many Turned a b one two p q (λ file other h. h) m
+  of_form Turned a b one two p q m = both_many Turned a b one two p q m
 
   of_files_compared : (form : Form) → refusal.in_table ≡ false → layer.AreUncompared form first second refusal.fault
       → Origin (jobs.Same form) first second output refusal

@@ -1,5 +1,5 @@
 -- The forms in which patterns are taken: as they lie, moved, and turned. They are this project's own.
-use Rattle.std.specs.Prelude.{◌≡◌, ◌^◌, ℕ, Bool, true, false, if◌then◌else◌, ℤ, pos, negsuc, ◌+ℤ◌, List, Ok}
+use Rattle.std.specs.Prelude.{◌≡◌, ◌⊎◌, ◌^◌, ℕ, Bool, true, false, if◌then◌else◌, ℤ, pos, negsuc, ◌+ℤ◌, List, Ok}
 use Rattle.life_cli.specs.declared.plans.Form.{Form}
 use Rattle.life_cli.specs.declared.plans.Form.TheVariants.{Placed, Moved, Turned}
 use Rattle.claims.specs.Counting.{IsCanonicalText}
@@ -46,6 +46,12 @@ abbrev pub SameIn : Form → List ℕ → List ℕ → Type 0
 SameIn Placed a b = Same a b
 SameIn Moved a b = AreRelated IsShift a b
 SameIn Turned a b = AreRelated IsTurnedShift a b
+
+-- one of the files has too many cells to be compared in the form: more than 2^20 nonzero ones, turned only where both are of one generation
+abbrev pub HasTooMany : Form → List ℕ → List ℕ → Type 0
+HasTooMany Placed a b = ⊥
+HasTooMany Moved a b = SaysMoreCells (2 ^ 20) a ⊎ SaysMoreCells (2 ^ 20) b
+HasTooMany Turned a b = AreRelated (λ p q. p.generation ≡ q.generation) a b × (SaysMoreCells (2 ^ 20) a ⊎ SaysMoreCells (2 ^ 20) b)
 
 -- the text is the canonical text of a pattern that is the same in the form; the file has no more than 2^20 nonzero cells, if they are moved
 abbrev pub IsTextIn : Form → List ℕ → List ℕ → Type 0

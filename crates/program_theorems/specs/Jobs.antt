@@ -15,7 +15,7 @@ use Rattle.claims.specs.Shown.{IsShown}
 use Rattle.claims.specs.Generation.{SaysMoreCells, IsStepped, IsUnstepped}
 use Rattle.claims.specs.Table.{Table, table_of}
 use Rattle.claims.specs.ByTable.{IsSteppedBy, IsUnsteppedBy}
-use Rattle.program_theorems.specs.Forms.{SameIn, IsTextIn}
+use Rattle.program_theorems.specs.Forms.{SameIn, HasTooMany, IsTextIn}
 use Rattle.program_theorems.specs.Telling.{status_of, fault_line}
 
 -- the job has a second file: the one that the first is compared with, or a rule table
@@ -38,7 +38,7 @@ Answers (jobs.Convert Mc) file second status text = (status ≡ 0) × IsCanonica
 Answers (jobs.Convert Rle) file second status text =
     (status ≡ 0) × Same file text × (begins_with text (codes "[M2]") ≡ false) × (SaysMoreCells (2 ^ 20) file → ⊥)
 Answers (jobs.Same form) file second status text =
-    IsOk (pattern_of file) × IsOk (pattern_of second)
+    IsOk (pattern_of file) × IsOk (pattern_of second) × (HasTooMany form file second → ⊥)
     × (((status ≡ 0) × SameIn form file second × (text ≡ codes "same\n")) ⊎ ((status ≡ 1) × (SameIn form file second → ⊥) × (text ≡ codes "different\n")))
 Answers jobs.Show file second status text =
     (status ≡ 0) × ((pattern : Pattern) × (pattern_of file ≡ Ok pattern)
@@ -55,11 +55,10 @@ abbrev pub RefusesMany : (file : List ℕ) → (of_table : Bool) → Fault → T
 RefusesMany file of_table fault =
     IsShort file × (of_table ≡ false) × ((pattern_of file ≡ Err fault) ⊎ ((fault ≡ fault_of TooManyCells) × SaysMoreCells (2 ^ 20) file))
 
--- one of two files whose cells are moved has too many
+-- one of two files has too many cells
 abbrev pub RefusesSame : Form → (file second : List ℕ) → Fault → Type 0
-RefusesSame Placed file second fault = ⊥
 RefusesSame form file second fault =
-    IsOk (pattern_of file) × IsOk (pattern_of second) × (fault ≡ fault_of TooManyCells) × (SaysMoreCells (2 ^ 20) file ⊎ SaysMoreCells (2 ^ 20) second)
+    IsOk (pattern_of file) × IsOk (pattern_of second) × (fault ≡ fault_of TooManyCells) × HasTooMany form file second
 
 -- the fault for which a job refuses its files, and whether its line is one of a rule table
 abbrev pub Refuses : Job → (file second : List ℕ) → (of_table : Bool) → Fault → Type 0

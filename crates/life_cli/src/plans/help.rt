@@ -125,7 +125,7 @@ turned  of its eight turns and reflections, each moved, the one with the least t
 Two patterns have one moved text exactly if a shift takes the one to the other, and
 one turned text exactly if a turn or a reflection and then a shift does. The rule and
 the generation stay as they are, also of a rule that tells directions apart. A pattern
-with more than 2^20 cells that aren't 0 is neither moved nor turned (TooManyCells).",
+with more than 2^20 cells that aren't 0 has neither of these texts (TooManyCells).",
     notes: notes_over_one_file!(
         "Examples:
   golly_canon canon glider.rle
@@ -189,7 +189,8 @@ Exit status:
 
 A fault on standard error doesn't say which file it is of. First it is told if A
 can't be read or is too long, then if B is so; then A's first fault, then B's; then,
-with --form moved or turned, if one of them has too many cells (TooManyCells).
+with --form moved, and with --form turned where both are of one generation, if one of
+them has more than 2^20 cells that aren't 0 (TooManyCells).
 See `golly_canon --help` for the lines on standard error.",
 };
 

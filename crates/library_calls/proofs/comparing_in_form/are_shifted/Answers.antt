@@ -4,7 +4,7 @@ use Rattle.life_canon.specs.Store.{universe_in}
 use Rattle.life_forms.specs.Forms.{IsShift}
 use Rattle.library_calls.specs.declared.pattern_form.PatternForm.TheVariants.{Moved}
 use Rattle.library_calls.proofs.Answering.{and-lacks, of-any}
-use Rattle.library_calls.proofs.FormFacts.{accepted-it, reads-it, first-unread, second-unread, either-unmoved, files-told}
+use Rattle.library_calls.proofs.FormFacts.{accepted-it, reads-it, first-unread, second-unread, few-moved, either-unmoved, files-told}
 use Rattle.library_calls.proofs.comparing_in_form.are_shifted.Goals as goal
 
 pub are_shifts-requires-clause-a : goal.are_shifts-requires-clause-a
@@ -38,6 +38,12 @@ returns-clause-answer c =
     IfOk-weaker c.are_shifts.result _ _ (λ answer told. files-told c.files_are_unique.ensures IsShift c.args.first.now c.args.second.now
     (universe_in store c.in_ok-a.a) (universe_in store c.in_ok-b.b) answer (reads-it c.patterns_fit.ensures _ _ _ read)
     (reads-it c.patterns_fit.ensures _ _ _ c.in_ok-b.ensures.pattern) told) c.are_shifts.ensures.answer
+
+pub returns-clause-few : goal.returns-clause-few
+returns-clause-few c =
+    let read = c.patterns_stay.ensures _ _ _ _ c.in_ok-b.ensures.keeps c.in_ok-a.ensures.pattern in
+    few-moved c.files_are_unique.ensures c.patterns_fit.ensures c.args.first.now c.args.second.now c.read-2.new.store c.in_ok-a.a c.in_ok-b.b read
+    c.in_ok-b.ensures.pattern c.are_shifts.result c.are_shifts.ensures.few
 
 pub returns-clause-fault : goal.returns-clause-fault
 returns-clause-fault c =

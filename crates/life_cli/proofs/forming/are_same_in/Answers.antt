@@ -1,6 +1,6 @@
 use Rattle.std.proofs.Common.{◌∙◌}
 use Rattle.life_forms.specs.Forms.{IsShift, IsTurnedShift}
-use Rattle.life_cli.proofs.FormLemmas.{related, rule_of_file, unshifted, unturned_two}
+use Rattle.life_cli.proofs.FormLemmas.{few_shifted, few_turned, related, rule_of_file, unshifted, unturned_two}
 use Rattle.life_cli.proofs.forming.are_same_in.Goals as goal
 
 pub returns-in-Placed-clause-answer : goal.returns-in-Placed-clause-answer
@@ -14,6 +14,14 @@ returns-in-Moved-clause-answer c =
     rw c.in-Moved.is (related c.patterns_fit.ensures c.files_are_unique.ensures c.args.store.now c.args.a.now c.args.b.now IsShift c.are_shifts.result
     c.are_shifts.ensures.answer)
 
+pub returns-in-Placed-clause-few : goal.returns-in-Placed-clause-few
+returns-in-Placed-clause-few c = rw c.in-Placed.is (λ first second p q many. many)
+
+pub returns-in-Moved-clause-few : goal.returns-in-Moved-clause-few
+returns-in-Moved-clause-few c =
+    rw c.in-Moved.is (few_shifted c.patterns_fit.ensures c.files_are_unique.ensures c.args.store.now c.args.a.now c.args.b.now c.are_shifts.result
+    c.are_shifts.ensures.few)
+
 pub returns-in-Moved-clause-fault : goal.returns-in-Moved-clause-fault
 returns-in-Moved-clause-fault c =
     rw c.in-Moved.is (unshifted c.patterns_fit.ensures c.files_are_unique.ensures c.args.store.now c.args.a.now c.args.b.now c.are_shifts.new.store
@@ -23,6 +31,11 @@ pub returns-in-Turned-clause-answer : goal.returns-in-Turned-clause-answer
 returns-in-Turned-clause-answer c =
     rw c.in-Turned.is (related c.patterns_fit.ensures c.files_are_unique.ensures c.args.store.now c.args.a.now c.args.b.now IsTurnedShift
     c.are_turns.result c.are_turns.ensures.answer)
+
+pub returns-in-Turned-clause-few : goal.returns-in-Turned-clause-few
+returns-in-Turned-clause-few c =
+    rw c.in-Turned.is (few_turned c.patterns_fit.ensures c.files_are_unique.ensures c.args.store.now c.args.a.now c.args.b.now c.are_turns.result
+    c.are_turns.ensures.few)
 
 pub returns-in-Turned-clause-fault : goal.returns-in-Turned-clause-fault
 returns-in-Turned-clause-fault c =

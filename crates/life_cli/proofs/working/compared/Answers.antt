@@ -53,7 +53,7 @@ returns-clause-ok g c =
     let r = rw c.in_ok-a-2.was at a.pattern in
     let q = rw c.in_ok-b-2.was at b.pattern in
     compared_in c.args.form _ _ c.held-2.new.store a.bytes b.bytes _ _ c.are_same_in.result a.read b.read
-    (c.patterns_stay.ensures a.bytes _ _ _ c.held-2.ensures.keeps r) q c.are_same_in.ensures.answer
+    (c.patterns_stay.ensures a.bytes _ _ _ c.held-2.ensures.keeps r) q c.are_same_in.ensures.answer c.are_same_in.ensures.few
 
 pub returns-clause-err : goal.returns-clause-err
 returns-clause-err g c =
