@@ -1,6 +1,6 @@
 //! Calls of `life_base`.
 
-use crate::answer::Unanswered;
+use crate::answer::{IsCall, Unanswered};
 use crate::row::{halves, number_of};
 use crate::shown::{Show, show_bool, show_bytes, show_each, show_rule};
 use life_base::{
@@ -222,12 +222,7 @@ fn within(alloc: Global, out: &mut String, input: &[u8]) -> Result<(), Unanswere
 }
 
 /// Adds what a call of `life_base` answers to an input. Answers whether it is one.
-pub(crate) fn answer(
-    alloc: Global,
-    out: &mut String,
-    call: &str,
-    input: &[u8],
-) -> Result<bool, Unanswered> {
+pub(crate) fn answer(alloc: Global, out: &mut String, call: &str, input: &[u8]) -> IsCall {
     match call {
         "rule" => rule(alloc, out, input)?,
         "same_rules" => same_rules(alloc, out, input)?,

@@ -1,6 +1,6 @@
 //! Calls of `life_canon`.
 
-use crate::answer::Unanswered;
+use crate::answer::{IsCall, Unanswered};
 use crate::row::halves;
 use crate::shown::{ROOM, show_bool, show_bytes, show_fault, show_text};
 use life_base::Fault;
@@ -77,12 +77,7 @@ fn runs(alloc: Global, out: &mut String, file: &[u8]) -> Result<(), Unanswered> 
 }
 
 /// Adds what a call of `life_canon` answers to an input. Answers whether it is one.
-pub(crate) fn answer(
-    alloc: Global,
-    out: &mut String,
-    call: &str,
-    input: &[u8],
-) -> Result<bool, Unanswered> {
+pub(crate) fn answer(alloc: Global, out: &mut String, call: &str, input: &[u8]) -> IsCall {
     match call {
         "canonical" => canonical(alloc, out, input)?,
         "refused" => refused(alloc, out, input)?,

@@ -1,6 +1,6 @@
 //! Calls of `life_forms`.
 
-use crate::answer::Unanswered;
+use crate::answer::{IsCall, Unanswered};
 use crate::shown::{ROOM, show_text};
 use life_base::Fault;
 use life_canon::{read, text_of};
@@ -34,12 +34,7 @@ fn turned(alloc: Global, out: &mut String, file: &[u8]) -> Result<(), Unanswered
 }
 
 /// Adds what a call of `life_forms` answers to an input. Answers whether it is one.
-pub(crate) fn answer(
-    alloc: Global,
-    out: &mut String,
-    call: &str,
-    input: &[u8],
-) -> Result<bool, Unanswered> {
+pub(crate) fn answer(alloc: Global, out: &mut String, call: &str, input: &[u8]) -> IsCall {
     match call {
         "moved" => moved(alloc, out, input)?,
         "turned" => turned(alloc, out, input)?,

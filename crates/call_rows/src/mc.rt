@@ -1,6 +1,6 @@
 //! Calls of `life_mc`.
 
-use crate::answer::Unanswered;
+use crate::answer::{IsCall, Unanswered};
 use crate::shown::{Show, show_bytes, show_each, show_end, show_fault, show_rule};
 use life_base::lines;
 use life_mc::{Line, McFile, McLines, read_mc, write_mc};
@@ -61,12 +61,7 @@ fn by_lines(alloc: Global, out: &mut String, input: &[u8]) -> Result<(), Unanswe
 }
 
 /// Adds what a call of `life_mc` answers to an input. Answers whether it is one.
-pub(crate) fn answer(
-    alloc: Global,
-    out: &mut String,
-    call: &str,
-    input: &[u8],
-) -> Result<bool, Unanswered> {
+pub(crate) fn answer(alloc: Global, out: &mut String, call: &str, input: &[u8]) -> IsCall {
     match call {
         "read_mc" => file(alloc, out, input)?,
         "mc_squares" => squares(alloc, out, input)?,

@@ -1,6 +1,6 @@
 //! Calls of `life_rle`.
 
-use crate::answer::Unanswered;
+use crate::answer::{IsCall, Unanswered};
 use crate::row::{halves, number_of};
 use crate::shown::{Show, show_bool, show_bytes, show_each, show_end, show_fault, show_rule};
 use life_base::{Cell, Rule, Run, lines};
@@ -159,12 +159,7 @@ fn read_again(alloc: Global, out: &mut String, input: &[u8]) -> Result<(), Unans
 }
 
 /// Adds what a call of `life_rle` answers to an input. Answers whether it is one.
-pub(crate) fn answer(
-    alloc: Global,
-    out: &mut String,
-    call: &str,
-    input: &[u8],
-) -> Result<bool, Unanswered> {
+pub(crate) fn answer(alloc: Global, out: &mut String, call: &str, input: &[u8]) -> IsCall {
     match call {
         "read_rle" => file(alloc, out, input)?,
         "rle_lines" => by_lines(alloc, out, input)?,

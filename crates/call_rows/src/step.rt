@@ -1,6 +1,6 @@
 //! Calls of `life_step`.
 
-use crate::answer::Unanswered;
+use crate::answer::{IsCall, Unanswered};
 use crate::row::{halves, number_of};
 use crate::shown::{ROOM, show_bool, show_text};
 use life_base::Fault;
@@ -82,12 +82,7 @@ fn next_of_pattern_by_table(
 }
 
 /// Adds what a call of `life_step` answers to an input. Answers whether it is one.
-pub(crate) fn answer(
-    alloc: Global,
-    out: &mut String,
-    call: &str,
-    input: &[u8],
-) -> Result<bool, Unanswered> {
+pub(crate) fn answer(alloc: Global, out: &mut String, call: &str, input: &[u8]) -> IsCall {
     match call {
         "step_life" => by_rule(alloc, out, input)?,
         "step_table" => by_table(alloc, out, input)?,

@@ -2,7 +2,7 @@
 
 ghost use Rattle.std.specs.Prelude.{◌<◌, All, IsTrue};
 
-use crate::answer::Unanswered;
+use crate::answer::{IsCall, Unanswered};
 use crate::row::{halves, number_of};
 use crate::shown::{Show, show_bytes, show_each, show_fault};
 use life_base::{Fault, State};
@@ -148,12 +148,7 @@ fn next(alloc: Global, out: &mut String, input: &[u8]) -> Result<(), Unanswered>
 }
 
 /// Adds what a call of `life_table` answers to an input. Answers whether it is one.
-pub(crate) fn answer(
-    alloc: Global,
-    out: &mut String,
-    call: &str,
-    input: &[u8],
-) -> Result<bool, Unanswered> {
+pub(crate) fn answer(alloc: Global, out: &mut String, call: &str, input: &[u8]) -> IsCall {
     match call {
         "read_table" => refusal(alloc, out, input)?,
         "table_counts" => counts(alloc, out, input)?,

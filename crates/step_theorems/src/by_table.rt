@@ -1,6 +1,6 @@
 //! One generation of a file by a rule table.
 
-ghost use Rattle.std.specs.Prelude.{◌≡◌, ◌⊎◌, ◌≤◌, ◌^◌, Ok, Err, IfOk, IfErr, IsTrue};
+ghost use Rattle.std.specs.Prelude.{◌≡◌, ◌⊎◌, Ok, Err, IfOk, IfErr, IsTrue};
 ghost use Rattle.claims.specs.ByTable.{IsSteppedBy, IsUnsteppedBy};
 ghost use Rattle.claims.specs.Files.{pattern_of, IsWant};
 ghost use Rattle.claims.specs.Table.{Table, table_of};
@@ -8,13 +8,13 @@ ghost use Rattle.claims.specs.Table.{Table, table_of};
 use life_base::Fault;
 use life_canon::canon;
 use life_canon::laws::{files_are_on_plane, files_are_unique};
-use life_quad::{Seed, Shared};
+use life_quad::Shared;
 use life_step::step_table;
 use life_table::laws::grammars_agree;
 use life_table::{NameSeed, read_table};
 use std::alloc::Global;
 use table_laws::laws::{tables_decide, tables_read, tables_refuse};
-use theorems::are_equal;
+use theorems::{Room, are_equal};
 
 /// The text of the next generation of a file by a rule table has the table's name for its rule and one generation more, and
 /// each cell has the state that the table decides for it.
@@ -28,11 +28,9 @@ pub fn next_generation_by_table(
     alloc: Global,
     rules: &[u8],
     file: &[u8],
-    limit: u64,
-    seed: Seed,
+    room: Room,
     names: NameSeed,
 ) -> Result<Vec<u8>, Fault>
-    requires { limit ≤ 2 ^ 62 }
     ensures stepped { IfOk result (λ text. (t : Table) × (table_of rules.now ≡ Ok t) × IsSteppedBy t file.now text.items) }
     ensures refused { IfErr result (λ fault. (table_of rules.now ≡ Err fault) ⊎ (IsWant fault
         ⊎ ((t : Table) × (table_of rules.now ≡ Ok t) × ((pattern_of file.now ≡ Err fault) ⊎ IsUnsteppedBy t file.now fault)))) }
@@ -43,7 +41,7 @@ pub fn next_generation_by_table(
     tables_refuse();
     tables_decide();
     let table = read_table(alloc, names, rules)?;
-    let mut store = Shared::new(alloc, seed, limit);
+    let mut store = Shared::new(alloc, room.seed, room.limit);
     step_table(alloc, &mut store, file, &table)
 }
 
@@ -53,20 +51,16 @@ pub fn next_text_by_table_is_fixed(
     rules: &[u8],
     file: &[u8],
     names: NameSeed,
-    first_limit: u64,
-    first_seed: Seed,
-    second_limit: u64,
-    second_seed: Seed,
+    one: Room,
+    other: Room,
 ) -> Result<bool, Fault>
-    requires first_limit { first_limit ≤ 2 ^ 62 }
-    requires second_limit { second_limit ≤ 2 ^ 62 }
     ensures { IfOk result (λ equal. IsTrue equal) }
 {
     files_are_unique();
     let table = read_table(alloc, names, rules)?;
-    let mut first_store = Shared::new(alloc, first_seed, first_limit);
+    let mut first_store = Shared::new(alloc, one.seed, one.limit);
     let text = step_table(alloc, &mut first_store, file, &table)?;
-    let mut second_store = Shared::new(alloc, second_seed, second_limit);
+    let mut second_store = Shared::new(alloc, other.seed, other.limit);
     let again = canon(alloc, &mut second_store, &text)?;
     Ok(are_equal(&text, &again))
 }

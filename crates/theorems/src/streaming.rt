@@ -4,10 +4,11 @@ ghost use Rattle.std.specs.Prelude.{◌≡◌, ◌≢◌, ◌⊎◌, ◌≤◌, 
 ghost use Rattle.claims.specs.Files.{Same};
 ghost use Rattle.theorems.specs.Streams.{IsStreamFault};
 
+use crate::room::Room;
 use life_base::{Fault, Kind, Sink, Source};
 use life_canon::laws::{files_are_unique, texts_keep_patterns};
 use life_canon::{canon, run_canon};
-use life_quad::{Seed, Shared};
+use life_quad::Shared;
 use std::alloc::Global;
 
 /// From a source that tells its bytes to a sink that tells what it holds, a file of the same pattern is written after what
@@ -21,10 +22,8 @@ pub fn stream_to_stream<R: Source, W: Sink>(
     alloc: Global,
     reader: &mut R,
     writer: &mut W,
-    limit: u64,
-    seed: Seed,
+    room: Room,
 ) -> Result<(), Fault>
-    requires limit { limit ≤ 2 ^ 62 }
     requires reads { R.failures reader.old ≡ 0 }
     requires writes { W.failures writer.old ≡ 0 }
     requires takes { W.stalled writer.old ≡ false }
@@ -41,7 +40,7 @@ pub fn stream_to_stream<R: Source, W: Sink>(
         → IsErrAnd result (λ fault. fault.kind ≡ Kind.WriteFault) }
 {
     texts_keep_patterns();
-    let mut store = Shared::new(alloc, seed, limit);
+    let mut store = Shared::new(alloc, room.seed, room.limit);
     run_canon(alloc, &mut store, reader, writer)
 }
 
@@ -51,13 +50,9 @@ pub fn stream_writes_the_text<R: Source, W: Sink>(
     reader: &mut R,
     writer: &mut W,
     file: &[u8],
-    first_limit: u64,
-    first_seed: Seed,
-    second_limit: u64,
-    second_seed: Seed,
+    one: Room,
+    other: Room,
 ) -> Result<Vec<u8>, Fault>
-    requires first_limit { first_limit ≤ 2 ^ 62 }
-    requires second_limit { second_limit ≤ 2 ^ 62 }
     requires reads { R.failures reader.old ≡ 0 }
     requires writes { W.failures writer.old ≡ 0 }
     requires takes { W.stalled writer.old ≡ false }
@@ -65,8 +60,8 @@ pub fn stream_writes_the_text<R: Source, W: Sink>(
         → IfOk result (λ text. W.contents writer.new ≡ Some (held ++ text.items)) }
 {
     files_are_unique();
-    let mut first_store = Shared::new(alloc, first_seed, first_limit);
+    let mut first_store = Shared::new(alloc, one.seed, one.limit);
     run_canon(alloc, &mut first_store, reader, writer)?;
-    let mut second_store = Shared::new(alloc, second_seed, second_limit);
+    let mut second_store = Shared::new(alloc, other.seed, other.limit);
     canon(alloc, &mut second_store, file)
 }
