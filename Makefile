@@ -3,7 +3,7 @@
 #   make           builds the proved program as ./golly_canon and runs it on an example
 #   make library   builds the proved library for C in out/library: static, shared, and a pkg-config file
 #   make page      builds the page and the module for browsers in out/page from the library that make library has proved
-#   make test      the merge gate, and every other check but for the next two
+#   make test      the merge gate, and every other check: the next two also
 #   make test_page the page and the module in a headless Chromium, beside ./golly_canon
 #   make test_collection   a collection on a cluster of this machine, by the library of make library
 #   make quick     builds the same program without proving it, runs it on FILE=.. and keeps nothing
@@ -58,6 +58,7 @@ test:
 	@RT="$(RT)" python3 tests/all
 
 test_page: golly_canon
+	@sh scripts/heap
 	@RT="$(RT)" python3 -B tests/page/page.py ./golly_canon
 
 test_collection: library_is_built

@@ -159,10 +159,22 @@ def in_one_session(client: Any, shares: Sequence[Share]) -> Iterator[Done]:
             running[client.submit(packed_rows_of, share, retries=TRIES - 1, pure=False)] = share[0]
             share = next(left, None)
         for future in wait(list(running), return_when="FIRST_COMPLETED").done:
-            if future.cancelled():
-                future.result()  # raises it
-            why = future.exception()
-            yield running.pop(future), pickle.loads(future.result()) if why is None else f"{type(why).__name__}: {why}"
+            yield running.pop(future), found_of(future)
+
+
+def found_of(future: Any) -> Union[List[Row], str]:
+    """What Dask hands out for a share: its rows, or why it has none. Raises CancelledError or OSError where the scheduler goes away meanwhile."""
+    from distributed import CancelledError
+
+    why = future.exception()
+    if why is not None:
+        return f"{type(why).__name__}: {why}"
+    try:
+        return pickle.loads(future.result())
+    except Exception as what:
+        if future.cancelled():  # in the middle of that, where Dask raises whatever it has at hand
+            raise CancelledError(future.key) from what
+        raise
 
 
 def dask_on(address: Optional[str], workers: int) -> Work:

@@ -559,9 +559,11 @@ function showSteps() {
 /** Makes one step. Returns whether there was one. */
 async function step() {
   const of = shown;
+  const { text } = shown;
   try {
-    const found = await jobs.ask("step", { text: of.text, table: tableOfShown() });
-    if (of !== shown) {
+    const found = await jobs.ask("step", { text, table: tableOfShown() });
+    // Meanwhile another file, or the pattern of the file again, may have come to be shown.
+    if (of !== shown || of.text !== text) {
       return false;
     }
     Object.assign(shown, found, { rle: null });

@@ -2,16 +2,18 @@
 """examples/collection.py: its table, doubles and refusals, of files and of archives; the same table from a cluster of this machine where a worker is
 killed in the middle of a share, and where the scheduler is killed and another one starts; a share that is done twice, and one that kills each worker;
 and a run that is cut off and goes on. A named pipe in the list holds a worker until the test writes the pattern into it, so nothing hangs on how fast
-the machine is. Where no Python here has Dask, what takes it is skipped. The module golly_canon is found by PYTHONPATH. The last line is 'N passed, M
-failed'.
+the machine is. Where no Python here has Dask, what takes it is skipped. The library is linked from ARCHIVE, which tests/library/library.sh leaves;
+without one PYTHONPATH names the module golly_canon, and that finds the library. The last line is 'N passed, M failed'.
 
-usage: tests/library/collection.py"""
+usage: tests/library/collection.py [ARCHIVE]"""
 
 import contextlib
 import gzip
 import hashlib
 import io
 import os
+import pickle
+import random
 import re
 import shutil
 import signal
@@ -22,6 +24,8 @@ import sys
 import tarfile
 import tempfile
 import time
+import traceback
+import types
 import zipfile
 
 sys.path.insert(0, os.path.dirname(os.path.dirname(os.path.abspath(__file__))))
@@ -34,13 +38,15 @@ from shared.fixtures import LIFE  # noqa: E402
 
 PROGRAM = os.path.abspath(os.path.join(EXAMPLES, "collection.py"))
 PAGE = os.path.abspath(os.path.join(EXAMPLES, "../docs/COLLECTIONS.md"))
-PATTERNS, SHARE, PATIENCE = 100, "20", 120
+TOP = os.path.abspath(os.path.join(EXAMPLES, ".."))
+PATTERNS, SHARE = 100, "20"
+PATIENCE = 240  # the most seconds for what is waited for, and for each run
 GLIDER = b"x = 3, y = 3, rule = 23/3\nbo$2bo$3o!\n"
 GLIDER_KEY = hashlib.sha256(LIFE + b"$$$$.....*$......*$....***$$\n").digest()
 CHILD = b"[M2]\n#R B3/S23\n....*$$$$$$$$\n4 0 0 0 9\n"
 HELD = "held.rle"  # the named pipe
 WITHOUT_DASK = ["--workers", "0"]
-runs = []  # which end with the test
+running = []  # what was started, each in a session of its own, which ends with the test
 ROWS = "SELECT path, member, key, kind, line, why FROM file ORDER BY id"
 
 
@@ -94,31 +100,48 @@ def shares_done(table):
         return 0
 
 
+def begun(words, **how):
+    """A process in a session of its own, with all that it starts."""
+    process = subprocess.Popen(words, start_new_session=True, **how)
+    running.append(process)
+    return process
+
+
+def killed(process):
+    """Ends a process, and what it started."""
+    if process in running:
+        running.remove(process)
+        with contextlib.suppress(ProcessLookupError):
+            os.killpg(process.pid, signal.SIGKILL)
+    process.wait()
+
+
 def started(python, table, *words, **how):
     """The program on the list, which goes on while the test does."""
     command = [python, "-B", PROGRAM, "--from", "list", "--share", SHARE, "--table", table, *words]
-    run = subprocess.Popen(command, stdout=subprocess.PIPE, stderr=subprocess.PIPE, text=True, **how)
-    runs.append(run)
-    return run
+    return begun(command, stdout=subprocess.PIPE, stderr=subprocess.PIPE, text=True, **how)
 
 
-def end_of(run, held=None):
+def end_of(run, held=None, given=None):
     """The status, the output and the errors of a run. The pattern goes into the pipe first, when a worker reads it."""
     own = until(lambda: run.poll() is None and opened(held) or run.poll() is not None and -1) if held else -1
     if own != -1:
         os.write(own, GLIDER)
         os.close(own)
     try:
-        said = run.communicate(timeout=PATIENCE)
+        said = run.communicate(given, timeout=PATIENCE)
     except subprocess.TimeoutExpired:
-        run.kill()
+        killed(run)
         said = run.communicate()
+    killed(run)
     return (run.returncode, *said)
 
 
-def ran(*words):
-    """The program in this Python, on these words."""
-    return end_of(subprocess.Popen([sys.executable, "-B", PROGRAM, *words], stdout=subprocess.PIPE, stderr=subprocess.PIPE, text=True))
+def ran(*words, python=sys.executable, program=PROGRAM, given=None, **environment):
+    """A program in a Python, that of the test unless another is named, on these words."""
+    streams = {"stdin": subprocess.PIPE, "stdout": subprocess.PIPE, "stderr": subprocess.PIPE}
+    how = {"encoding": "utf-8", "errors": "surrogateescape", "env": {**os.environ, **environment}}
+    return end_of(begun([python, "-B", program, *words], **streams, **how), given=given)
 
 
 def until(what):
@@ -156,11 +179,6 @@ def holds(pid, pipe):
         return any(os.path.realpath(f"/proc/{pid}/fd/{it}") == os.path.realpath(pipe) for it in os.listdir(f"/proc/{pid}/fd"))
     except OSError:
         return False
-
-
-def killed(process):
-    process.kill()
-    process.wait()
 
 
 # ---- without Dask
@@ -220,10 +238,9 @@ def of_page():
     places = os.pathsep.join([os.path.abspath(EXAMPLES), os.environ.get("PYTHONPATH", "")])
     with open("page.py", "w", encoding="utf-8") as it:
         it.write(program)
-    run = subprocess.run([sys.executable, "-B", "page.py", "page.sqlite", *archives], env={**os.environ, "PYTHONPATH": places}, capture_output=True,
-                         text=True, check=False, timeout=PATIENCE)
+    told = ran("page.sqlite", *archives, program="page.py", PYTHONPATH=places)
     status, _, errors = ran("--archive", "--form", "turned", "--table", "turned.sqlite", *WITHOUT_DASK, *archives)
-    check(status == 0 and run.returncode == 0 and rows("page.sqlite") == rows("turned.sqlite"), f"the page: {run.stderr} {errors}")
+    check(status == 0 and told[0] == 0 and rows("page.sqlite") == rows("turned.sqlite"), f"the page: {told} {errors}")
 
 
 def of_unread():
@@ -238,9 +255,9 @@ def of_unread():
     os.mkdir("names")
     for name in (b"names/a\nb.rle", b"names/\xff.rle"):
         shutil.copy("glider.rle", name)
-    given = subprocess.run([sys.executable, "-B", PROGRAM, "--table", "names.sqlite", "--from", "-", *WITHOUT_DASK], capture_output=True, check=False,
-                           input=b"names/a\nb.rle\0names/\xff.rle\0")
-    check(given.returncode == 0 and [it[0] for it in rows("names.sqlite")] == ["names/a\nb.rle", "names/\\xff.rle"], f"names: {given.stderr}")
+    names = os.fsdecode(b"names/a\nb.rle\0names/\xff.rle\0")
+    status, _, errors = ran("--table", "names.sqlite", "--from", "-", *WITHOUT_DASK, given=names)
+    check(status == 0 and [it[0] for it in rows("names.sqlite")] == ["names/a\nb.rle", "names/\\xff.rle"], f"names: {errors}")
 
 
 def of_words():
@@ -259,10 +276,8 @@ def of_words():
         status, _, errors = ran(*words)
         check(status == 2 and said in errors and "Traceback" not in errors, f"{' '.join(words)}: status {status}, {errors}")
     check(not os.path.exists("x.sqlite"), "words that can't be followed make no table")
-    run = subprocess.run([sys.executable, "-B", PROGRAM, "--table", "x.sqlite", *WITHOUT_DASK, "glider.rle"], capture_output=True, text=True,
-                         check=False, env={**os.environ, "GOLLY_CANON_LIBRARY": "/nowhere"})
-    said = run.stderr
-    check(run.returncode == 1 and "the library of golly_canon isn't found" in said and "Traceback" not in said, f"no library: {said}")
+    status, _, said = ran("--table", "x.sqlite", *WITHOUT_DASK, "glider.rle", GOLLY_CANON_LIBRARY="/nowhere")
+    check(status == 1 and "the library of golly_canon isn't found" in said and "Traceback" not in said, f"no library: {said}")
 
 
 def of_shares(paths):
@@ -289,6 +304,50 @@ def of_shares(paths):
     with contextlib.redirect_stderr(io.StringIO()):
         failed = collection.run(some, shares, lambda given: ((it[0], "no library") for it in given))
     check(len(failed) == collection.MOST_FAILED, f"a run ends behind {len(failed)} shares that fail")
+
+
+class Handed:
+    """What stands for a future of Dask: it raises something where its result is fetched, since the scheduler goes away, or hands it out."""
+
+    key = "share"
+
+    def __init__(self, found, is_cancelled=False, failed=None):
+        self.found, self.is_cancelled, self.failed = found, is_cancelled, failed
+
+    def exception(self):
+        return self.failed
+
+    def result(self):
+        if isinstance(self.found, Exception):
+            raise self.found
+        return self.found
+
+    def cancelled(self):
+        return self.is_cancelled
+
+
+def of_futures():
+    """What is made of a future: rows, or why there are none; and a scheduler that goes away while they are fetched is no fault of the share."""
+
+    class CancelledError(Exception):
+        """Stands for that of Dask."""
+
+    def made_of(future):
+        try:
+            return collection.found_of(future)
+        except (CancelledError, OSError) as why:
+            return type(why)
+
+    own = sys.modules.get("distributed")
+    sys.modules["distributed"] = types.SimpleNamespace(CancelledError=CancelledError)
+    rows_of_share = [("glider.rle", None, GLIDER_KEY, None, None, None)]
+    futures = [Handed(pickle.dumps(rows_of_share)), Handed(None, failed=ValueError("it died")), Handed(TypeError("no exception"), is_cancelled=True),
+               Handed(CancelledError("share"), is_cancelled=True), Handed(OSError("the scheduler is away"))]
+    found = [made_of(it) for it in futures]
+    del sys.modules["distributed"]
+    if own is not None:
+        sys.modules["distributed"] = own
+    check(found == [rows_of_share, "ValueError: it died", CancelledError, CancelledError, OSError], f"futures: {found}")
 
 
 def of_two_runs(wanted):
@@ -333,24 +392,47 @@ def with_dask():
     return None
 
 
+def free_port():
+    """A port that nothing listens on, below those that the system gives to connections, so that none of these takes it while the scheduler is away."""
+    with open("/proc/sys/net/ipv4/ip_local_port_range", encoding="ascii") as it:
+        least = int(it.read().split()[0])
+    while True:
+        port = random.randrange(min(10_000, least // 2), least) if least > 2048 else 0
+        with contextlib.suppress(OSError), socket.socket() as it:
+            it.bind(("127.0.0.1", port))
+            return it.getsockname()[1]
+
+
 class Cluster:
     """A scheduler and workers of this machine, each a process. What it started it ends."""
 
     def __init__(self, python):
-        with socket.socket() as it:
-            it.bind(("127.0.0.1", 0))
-            self.port = it.getsockname()[1]
+        self.port = free_port()
         self.python, self.address, self.processes = python, f"tcp://127.0.0.1:{self.port}", []
 
     def start(self, name, *words):
-        log = open(f"{name}.log", "ab")
-        with log:
-            it = subprocess.Popen([self.python, "-B", "-m", f"distributed.cli.dask_{name}", *words], stdout=log, stderr=log, cwd="/")
+        with open(f"{name}.log", "ab") as log:
+            it = begun([self.python, "-B", "-m", f"distributed.cli.dask_{name}", *words], stdout=log, stderr=log, cwd="/")
         self.processes.append(it)
         return it
 
     def scheduler(self):
-        return self.start("scheduler", "--host", "127.0.0.1", "--port", str(self.port), "--no-dashboard")
+        """A scheduler that answers. One that doesn't come up is started again, up to three times, and a line says so."""
+        for number in (1, 2, 3):
+            it = self.start("scheduler", "--host", "127.0.0.1", "--port", str(self.port), "--no-dashboard")
+            until(lambda: it.poll() is not None or self.answers())
+            if it.poll() is None:
+                return it
+            print(f"the scheduler did not start, {number} of 3: status {it.returncode}", flush=True)
+        raise TimeoutError("no scheduler starts")
+
+    def answers(self):
+        """Whether something listens on the port."""
+        try:
+            socket.create_connection(("127.0.0.1", self.port), timeout=5).close()
+        except OSError:
+            return False
+        return True
 
     def worker(self):
         folder = tempfile.mkdtemp(dir=os.getcwd())
@@ -434,6 +516,7 @@ def all_of(paths):
     of_unread()
     of_words()
     of_shares(paths)
+    of_futures()
     of_two_runs(wanted)
     of_parquet(wanted)
     python = with_dask()
@@ -444,15 +527,32 @@ def all_of(paths):
         print("skipped: a cluster, since no Python here has Dask (apt-get install python3-distributed)")
 
 
+def link(archive):
+    """Links the library from an archive into this folder, and has the module take it from there. Ends the test where it can't."""
+    words = ["sh", os.path.join(TOP, "scripts", "link_library"), archive, "library"]
+    linked = subprocess.run(words, stdout=subprocess.PIPE, stderr=subprocess.STDOUT, text=True, check=False)
+    if linked.returncode:
+        raise OSError(f"the library is not linked from {archive}: {linked.stdout}")
+    os.environ["GOLLY_CANON_LIBRARY"] = os.path.abspath("library/libgolly_canon.so")
+    os.environ["PYTHONPATH"] = os.path.join(TOP, "python")
+    sys.path.append(os.environ["PYTHONPATH"])
+
+
 def main():
-    with tempfile.TemporaryDirectory() as folder:
+    archive = os.path.abspath(sys.argv[1]) if len(sys.argv) > 1 else None
+    signal.signal(signal.SIGTERM, lambda *_: sys.exit(1))  # so that what was started ends with the test
+    with tempfile.TemporaryDirectory(ignore_cleanup_errors=True) as folder:
         os.chdir(folder)
         try:
+            if archive:
+                link(archive)
             all_of(made())
         except TimeoutError as why:
-            check(False, f"{why}, with {len(runs)} runs behind it")
+            check(False, f"{why}, with {len(running)} processes behind it")
+        except Exception:  # so that the last line comes too
+            check(False, traceback.format_exc())
         finally:
-            for it in runs:
+            for it in [*running]:
                 killed(it)
             os.chdir("/")
     return ended()

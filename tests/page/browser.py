@@ -1,23 +1,39 @@
-"""A headless Chromium, driven by chromedriver in the words of the WebDriver protocol, and a headless Firefox, in its own words for the same, Marionette."""
+"""A headless Chromium, driven by chromedriver in the words of the WebDriver protocol, and a headless Firefox, in its own words for the same, Marionette.
+
+Each has a new profile and ports that the system gave it, and with it ends all that it started. A browser that doesn't come up or that dies lies with the
+machine, and not with the page: it is started again, three times in all, and a line says so."""
 
 import base64
+import contextlib
 import functools
+import http.client
 import http.server
 import json
 import os
 import re
 import shutil
+import signal
 import socket
 import subprocess
 import tempfile
 import threading
 import time
+import traceback
 import urllib.error
 import urllib.request
 
+from shared import counting
+
 CHROMIUM, DRIVER, FIREFOX = "chromium", "chromedriver", "firefox-esr"
 ELEMENT = "element-6066-11e4-a52e-4f735466cecf"
-SECONDS = 600
+# The most seconds of a script, of a condition that is waited for, until a browser is up, and until it has ended.
+SECONDS, PATIENCE, STARTING, ENDING = 600, 120, 120, 30
+# How often a browser is started, where it doesn't come up or dies.
+STARTS = 3
+# What the driver answers where the browser is no longer there.
+DEATH = re.compile("session not created|invalid session id|no such window|disconnected|not reachable|cannot connect|crashed|target closed")
+# No proxy of the machine stands between a test and its driver.
+DIRECT = urllib.request.build_opener(urllib.request.ProxyHandler({}))
 
 
 def is_there():
@@ -29,8 +45,112 @@ class Failed(Exception):
     """What the driver or a script answers in place of a value."""
 
 
+class Died(Exception):
+    """The browser or its driver has ended, or does not come up."""
+
+
+def tested(name, start, tests):
+    """Runs tests in a browser that `start` makes. Where it dies, they are run again in another one and counted once; what fails in any other way is
+    counted as a failure."""
+    for number in range(1, STARTS + 1):
+        before = counting.passed, counting.failed
+        try:
+            with start() as browser:
+                tests(browser)
+            return
+        except Died as why:
+            counting.passed, counting.failed = before
+            print(f"{name}: the browser died, start {number} of {STARTS}: {why}", flush=True)
+        except Exception:  # so that the other tests go on, and the last line comes
+            counting.check(False, f"{name}: {traceback.format_exc()}")
+            return
+    counting.check(False, f"{name}: the browser died {STARTS} times")
+
+
+# ---- the processes of a browser
+
+
+def started(words, home):
+    """Starts a process in a session of its own, whose home is a folder, and whose output goes into the file `said` there."""
+    environment = {**os.environ, "HOME": home, "TMPDIR": home}
+    with open(os.path.join(home, "said"), "wb") as said:
+        return subprocess.Popen(words, stdin=subprocess.DEVNULL, stdout=said, stderr=subprocess.STDOUT, env=environment, start_new_session=True)
+
+
+def left_of(session, home):
+    """The processes of a session, and those that have left it, which their home tells."""
+    for pid in map(int, filter(str.isdigit, os.listdir("/proc"))):
+        with contextlib.suppress(OSError):
+            with open(f"/proc/{pid}/stat", encoding="utf-8", errors="replace") as it:
+                state, _, _, own = it.read().rpartition(") ")[2].split()[:4]
+            with open(f"/proc/{pid}/environ", "rb") as it:
+                homes = it.read().split(b"\0")
+            if state != "Z" and (int(own) == session or f"HOME={home}".encode() in homes):
+                yield pid
+
+
+def end(process, home):
+    """Ends a process, and all that it started."""
+    process.terminate()
+    with contextlib.suppress(subprocess.TimeoutExpired):
+        process.wait(ENDING)
+    last = time.monotonic() + ENDING
+    while time.monotonic() < last:
+        left = list(left_of(process.pid, home))
+        for pid in left:
+            with contextlib.suppress(OSError):
+                os.kill(pid, signal.SIGKILL)
+        if not left:
+            break
+        time.sleep(0.05)
+    process.wait()
+
+
+def awaited(what, process, found):
+    """Waits until a browser that comes up has something, which is returned."""
+    last = time.monotonic() + STARTING
+    while time.monotonic() < last and process.poll() is None:
+        value = found()
+        if value:
+            return value
+        time.sleep(0.05)
+    raise Died(f"{what} is not up" if process.poll() is None else f"{what} has ended with status {process.returncode}")
+
+
+def number_in(path, pattern):
+    """The number behind a pattern in a file, which may not be there yet."""
+    with contextlib.suppress(OSError):
+        with open(path, encoding="utf-8", errors="replace") as it:
+            found = re.search(pattern, it.read())
+            return found and int(found[1])
+    return None
+
+
+# ---- browsers
+
+
 class Scripted:
-    """A window in which scripts run: what is above `evaluated`, which hands over the value of a script that calls its last argument."""
+    """A window in which scripts run: what is above `start`, `stop` and `evaluated`, which hands over the value of a script that calls its last
+    argument."""
+
+    process = None
+
+    def __init__(self):
+        """Starts the browser, and again where it doesn't come up."""
+        for number in range(1, STARTS + 1):
+            self.profile = tempfile.TemporaryDirectory(ignore_cleanup_errors=True)
+            try:
+                self.start()
+                return
+            except (Died, Failed) as why:
+                self.close()
+                said = f"{type(self).__name__} did not start, {number} of {STARTS}: {why}"
+                if number == STARTS:
+                    raise Died(said) from None
+                print(said, flush=True)
+            except BaseException:
+                self.close()
+                raise
 
     def run(self, script, *arguments):
         """The value of a script, which may await."""
@@ -41,12 +161,12 @@ class Scripted:
             raise Failed(answer["why"])
         return answer.get("value")
 
-    def until(self, condition, seconds=200):
+    def until(self, condition, seconds=PATIENCE):
         """Waits until an expression of the page is true."""
         script = f"const end = performance.now() + {seconds * 1000}; " \
                  f"while (!({condition})) {{ if (performance.now() > end) return false; await new Promise(it => setTimeout(it, 20)); }} return true;"
         if not self.run(script):
-            raise Failed(f"it never came to {condition}")
+            raise Failed(f"in {seconds} s it never came to {condition}")
 
     def text(self, name):
         """The text of the element with this id."""
@@ -54,6 +174,16 @@ class Scripted:
 
     def click(self, name):
         self.run("document.getElementById(given[0]).click();", name)
+
+    def close(self):
+        """Ends the browser, and removes its profile."""
+        try:
+            with contextlib.suppress(Died, Failed, OSError):
+                self.stop()
+        finally:
+            if self.process is not None:
+                end(self.process, self.profile.name)
+            self.profile.cleanup()
 
     def __enter__(self):
         return self
@@ -63,34 +193,47 @@ class Scripted:
 
 
 class Browser(Scripted):
-    """A window of Chromium with a new profile, of this many pixels."""
+    """A window of Chromium, of this many pixels."""
 
     def __init__(self, width=1200, height=900):
-        self.profile = tempfile.TemporaryDirectory()
-        environment = {**os.environ, "HOME": self.profile.name}
-        self.driver = subprocess.Popen([DRIVER, "--port=0"], stdout=subprocess.PIPE, stderr=subprocess.DEVNULL, text=True, env=environment)
-        try:
-            port = next(found[1] for found in (re.search(r"successfully on port (\d+)", line) for line in self.driver.stdout) if found)
-            self.address = f"http://127.0.0.1:{port}/session"
-            words = ["--headless=new", "--no-sandbox", "--disable-gpu", "--hide-scrollbars", f"--window-size={width},{height}",
-                     f"--user-data-dir={self.profile.name}/profile", "--disable-background-networking", "--disable-dev-shm-usage", "--no-first-run"]
-            options = {"args": words, "binary": shutil.which(CHROMIUM)}
-            wanted = {"goog:chromeOptions": options, "goog:loggingPrefs": {"browser": "ALL", "performance": "ALL"}}
-            self.address += "/" + self.asked("POST", "", {"capabilities": {"alwaysMatch": wanted}})["sessionId"]
-            self.asked("POST", "/timeouts", {"script": SECONDS * 1000})
-        except BaseException:
-            self.driver.kill()
-            raise
+        self.size = f"{width},{height}"
+        super().__init__()
 
-    def asked(self, method, path, body=None):
-        """What the driver answers to a command."""
+    def start(self):
+        self.address = None
+        self.process = started([DRIVER, "--port=0"], self.profile.name)
+        said = os.path.join(self.profile.name, "said")
+        port = awaited(DRIVER, self.process, lambda: number_in(said, r"successfully on port (\d+)"))
+        words = ["--headless=new", "--no-sandbox", "--disable-gpu", "--hide-scrollbars", f"--window-size={self.size}",
+                 f"--user-data-dir={self.profile.name}/profile", "--disable-background-networking", "--disable-dev-shm-usage", "--no-first-run"]
+        options = {"args": words, "binary": shutil.which(CHROMIUM)}
+        wanted = {"goog:chromeOptions": options, "goog:loggingPrefs": {"browser": "ALL", "performance": "ALL"}}
+        sessions = f"http://127.0.0.1:{port}/session"
+        self.address = f"{sessions}/{self.answer(sessions, 'POST', {'capabilities': {'alwaysMatch': wanted}}, STARTING)['sessionId']}"
+        self.asked("POST", "/timeouts", {"script": SECONDS * 1000})
+
+    def stop(self):
+        if self.address is not None:
+            self.answer(self.address, "DELETE", None, ENDING)
+
+    def answer(self, address, method, body, seconds):
+        """What the driver answers to a command at an address."""
         data = None if body is None else json.dumps(body).encode()
-        request = urllib.request.Request(self.address + path, data, {"Content-Type": "application/json"}, method=method)
+        request = urllib.request.Request(address, data, {"Content-Type": "application/json"}, method=method)
         try:
-            with urllib.request.urlopen(request, timeout=SECONDS + 20) as answer:
+            with DIRECT.open(request, timeout=seconds) as answer:
                 return json.load(answer)["value"]
         except urllib.error.HTTPError as error:
-            raise Failed(json.load(error)["value"]["message"].split("\n")[0]) from None
+            with error:
+                value = json.load(error)["value"]
+            said = value["message"].split("\n", maxsplit=1)[0]
+            raise (Died if DEATH.search(f"{value['error']} {said}") else Failed)(said) from None
+        except (OSError, http.client.HTTPException, ValueError) as why:
+            raise Died(f"{DRIVER} does not answer: {why!r}") from None
+
+    def asked(self, method, path, body=None):
+        """What the driver answers to a command to the window."""
+        return self.answer(self.address + path, method, body, SECONDS + 20)
 
     def open(self, address):
         self.asked("POST", "/url", {"url": address})
@@ -127,58 +270,55 @@ class Browser(Scripted):
         with open(path, "wb") as it:
             it.write(base64.b64decode(self.asked("GET", "/screenshot")))
 
-    def close(self):
-        try:
-            self.asked("DELETE", "")
-        finally:
-            self.driver.terminate()
-            self.driver.wait()
-            self.profile.cleanup()
-
 
 class Firefox(Scripted):
-    """A window of Firefox with a new profile."""
+    """A window of Firefox."""
 
-    def __init__(self):
-        self.profile, self.read, self.count = tempfile.TemporaryDirectory(), b"", 0
-        with socket.socket() as free:
-            free.bind(("127.0.0.1", 0))
-            port = free.getsockname()[1]
+    def start(self):
+        self.connection, self.read, self.count = None, b"", 0
         with open(os.path.join(self.profile.name, "user.js"), "w", encoding="ascii") as it:
-            it.write(f'user_pref("marionette.port", {port});\nuser_pref("app.update.enabled", false);\n')
-        words = [FIREFOX, "--headless", "--marionette", "--no-remote", "--profile", self.profile.name]
-        self.process = subprocess.Popen(words, stdout=subprocess.DEVNULL, stderr=subprocess.DEVNULL, env={**os.environ, "HOME": self.profile.name})
+            it.write('user_pref("marionette.port", 0);\nuser_pref("app.update.enabled", false);\n')
+        self.process = started([FIREFOX, "--headless", "--marionette", "--no-remote", "--profile", self.profile.name], self.profile.name)
+        told = os.path.join(self.profile.name, "MarionetteActivePort")  # which it writes where the port is 0
+        port = awaited(FIREFOX, self.process, lambda: number_in(told, r"^(\d+)"))
         try:
-            self.connection = self.connected(port)
-            self.message()
-            self.asked("WebDriver:NewSession", {"capabilities": {"alwaysMatch": {"timeouts": {"script": SECONDS * 1000}}}})
-        except BaseException:
-            self.process.kill()
-            raise
+            self.connection = socket.create_connection(("127.0.0.1", port), timeout=SECONDS + 20)
+        except OSError as why:
+            raise Died(f"{FIREFOX} does not answer: {why!r}") from None
+        self.message()
+        self.asked("WebDriver:NewSession", {"capabilities": {"alwaysMatch": {"timeouts": {"script": SECONDS * 1000}}}})
 
-    def connected(self, port):
-        """The connection to it, which takes some seconds to come up."""
-        for _ in range(300):
-            try:
-                return socket.create_connection(("127.0.0.1", port), timeout=SECONDS + 20)
-            except OSError:
-                time.sleep(0.1)
-        raise Failed("Firefox does not answer")
+    def stop(self):
+        if self.connection is not None:
+            self.connection.close()
+
+    def more(self):
+        """What comes next."""
+        try:
+            data = self.connection.recv(1 << 16)
+        except OSError as why:
+            raise Died(f"{FIREFOX} does not answer: {why!r}") from None
+        if not data:
+            raise Died(f"{FIREFOX} has closed its connection")
+        return data
 
     def message(self):
         """The next message: its length, a colon, and its text."""
         while b":" not in self.read:
-            self.read += self.connection.recv(1 << 16)
+            self.read += self.more()
         length, _, rest = self.read.partition(b":")
         while len(rest) < int(length):
-            rest += self.connection.recv(1 << 16)
+            rest += self.more()
         self.read = rest[int(length):]
         return json.loads(rest[: int(length)])
 
     def asked(self, command, parameters):
         self.count += 1
         text = json.dumps([0, self.count, command, parameters]).encode()
-        self.connection.sendall(b"%d:%s" % (len(text), text))
+        try:
+            self.connection.sendall(b"%d:%s" % (len(text), text))
+        except OSError as why:
+            raise Died(f"{FIREFOX} does not answer: {why!r}") from None
         _, _, error, value = self.message()
         if error:
             raise Failed(error["message"])
@@ -189,12 +329,6 @@ class Firefox(Scripted):
 
     def evaluated(self, body, arguments):
         return self.asked("WebDriver:ExecuteAsyncScript", {"script": body, "args": arguments})["value"]
-
-    def close(self):
-        self.connection.close()
-        self.process.terminate()
-        self.process.wait()
-        self.profile.cleanup()
 
 
 class Server:
@@ -211,6 +345,7 @@ class Server:
 
     def __exit__(self, *_):
         self.server.shutdown()
+        self.server.server_close()
 
 
 class Quiet(http.server.SimpleHTTPRequestHandler):

@@ -1,6 +1,7 @@
 """What the module answers in a browser: the same as the program, byte by byte."""
 
 import base64
+import contextlib
 import hashlib
 import importlib.machinery
 import importlib.util
@@ -107,9 +108,8 @@ def opened(browser, address, where):
 def compares(browser, address, path, seed, count, least=20):
     """The page and a worker answer what the program answers: of half of the files each."""
     cases = list(cases_of(seed, count))
-    before, kinds, answers = os.getcwd(), set(), 0
-    with tempfile.TemporaryDirectory() as folder:
-        os.chdir(folder)
+    kinds, answers = set(), 0
+    with tempfile.TemporaryDirectory() as folder, contextlib.chdir(folder):
         program = Program(path)
         for where, some in (("page", cases[::2]), ("worker", cases[1::2])):
             opened(browser, address, where)
@@ -125,7 +125,6 @@ def compares(browser, address, path, seed, count, least=20):
                                  if found.get(name) != wanted[name]]
             problems += [] if len(texts) > len(some) / 3 else [f"there are only {len(texts)} different answers"]
             counting.row(f"{len(some)} files in a {where} are answered as by the program", problems)
-        os.chdir(before)
     print(f"{answers} answers, {len(kinds)} kinds of refusal: {' '.join(sorted(kinds))}", flush=True)
     counting.check(len(kinds) >= least, f"only {len(kinds)} kinds of refusal came up")
 

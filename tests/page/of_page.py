@@ -5,6 +5,7 @@ import csv
 import gzip
 import hashlib
 import io
+import json
 import os
 import random
 import re
@@ -21,8 +22,10 @@ SPELLED = b"[M2] (golly 4.2)\n#R s23/b3\n.*$..*$***$\n4 0 0 0 1\n"
 TURNED = b"x = 3, y = 3\nbo$o$3o!\n"
 REFUSED = b"x = 3, y = 3\nbo$2bo$\n3oz!\n"
 # The longest time for which the page may not answer while it reads 100 MB: in seconds, or as a share of the whole time, on a machine with other work to
-# do. A page that reads by itself doesn't answer at all meanwhile.
-LONGEST_PAUSE, PAUSING_SHARE = 0.5, 1 / 8
+# do; and how often that is measured, where it takes longer. A page that reads by itself doesn't answer at all meanwhile.
+LONGEST_PAUSE, PAUSING_SHARE, MEASURED = 0.5, 1 / 8, 3
+# The most seconds for reading these 100 MB.
+LONG_WORK = 300
 
 
 class Page:
@@ -34,7 +37,7 @@ class Page:
         browser.open(address)
         self.until("document.getElementById('said').textContent === ''")
 
-    def until(self, condition, seconds=200):
+    def until(self, condition, seconds=browsers.PATIENCE):
         self.browser.until(condition, seconds)
 
     def text(self, name):
@@ -46,14 +49,14 @@ class Page:
     def click(self, name):
         self.browser.click(name)
 
-    def rests(self, seconds=200):
+    def rests(self, seconds=browsers.PATIENCE):
         """Waits until nothing is at work."""
         self.until("document.getElementById('working').hidden", seconds)
 
     def cleared(self):
         self.browser.run("const it = document.getElementById('clear'); if (!it.hidden) it.click();")
 
-    def dropped(self, paths, condition="!document.getElementById('clear').hidden", seconds=200):
+    def dropped(self, paths, condition="!document.getElementById('clear').hidden", seconds=browsers.PATIENCE):
         """Drops files where there are none yet, and waits till they are read."""
         self.cleared()
         self.browser.drop(paths)
@@ -281,6 +284,13 @@ def stepping(page, folder, answers):
     counting.row(f"it runs and stops, at generation {later}", [] if int(later) <= int(generation) + 1 else [f"{generation}, and {later} later"])
     page.click("back")
     counting.row("back to the file", differing({"text": page.saved("save")}, {"text": [answers.of("canon", soup), "rpentomino.mc"]}))
+    page.click("step")
+    page.until("document.getElementById('summary').children[3].textContent === '1'")
+    # The RLE comes behind the answer to the step.
+    page.browser.run("for (const it of ['step', 'back', 'as-rle']) document.getElementById(it).click();")
+    page.until("!document.getElementById('written').value.startsWith('[M2]')")
+    counting.row("back to the file while a step is made", differing({"generation": page.summary()["Generation"], "text": page.saved("save")}, {
+        "generation": "0", "text": [answers.of("convert", soup, "--to", "rle"), "rpentomino.rle"]}))
     named, table = put(folder, spread_rle=fixtures.FILES["spread.rle"], Spread_rule=fixtures.FILES["spread.rule"])
     page.dropped([named])
     holds("a step by a rule that is a name wants its table", page.browser.run("return document.getElementById('step').disabled;"), "it is there")
@@ -314,6 +324,11 @@ def seen(page, cells):
         });""", cells)
 
 
+def moved(page, place):
+    """Waits until the picture has moved from a place."""
+    page.until("document.getElementById('place').textContent !== " + json.dumps(place))
+
+
 def drawing(page, folder):
     source = random.Random(3)
     live = {(x, y) for x in range(-9, 14) for y in range(-6, 11) if source.random() < 0.4}
@@ -339,6 +354,7 @@ def drawing(page, folder):
     page.browser.run("document.getElementById('picture').focus();")
     for key in ("+", "ArrowLeft", "ArrowUp", "+", "+", "-"):
         page.key(key)
+    moved(page, plane)
     after = page.text("place")
     page.browser.run("await new Promise(requestAnimationFrame); await new Promise(requestAnimationFrame);")
     drawn = page.browser.run("return document.getElementById('picture').toDataURL();")
@@ -349,22 +365,41 @@ def drawing(page, folder):
     place = page.text("place")
     for kind, x, y, buttons in (("mousePressed", 300, 600, 1), ("mouseMoved", 340, 620, 1), ("mouseReleased", 340, 620, 0)):
         page.browser.command("Input.dispatchMouseEvent", type=kind, x=x, y=y, button="left", buttons=buttons, clickCount=1)
+    moved(page, place)
     dragged = page.text("place")
     page.browser.command("Input.dispatchMouseEvent", type="mouseWheel", x=340, y=620, deltaX=0, deltaY=-120)
-    page.until("document.getElementById('place').textContent !== " + repr(dragged))
-    counting.row("drag and wheel", [] if dragged != place else [f"{place} and {dragged}"])
+    moved(page, dragged)
+    turned = page.text("place")
+    counting.row("drag and wheel", [] if len({place, dragged, turned}) == 3 else [f"{place}, {dragged} and {turned}"])
     page.click("whole")
     page.browser.run("document.getElementById('picture').scrollIntoView();")
-    scale = page.text("place").split(";")[1]
+    place = page.text("place")
     for kind, apart in (("touchStart", 20), ("touchMove", 40), ("touchMove", 90), ("touchEnd", 0)):
         points = [{"x": 300 + way * apart, "y": 200, "id": way} for way in (0, 1)] if apart else []
         page.browser.command("Input.dispatchTouchEvent", type=kind, touchPoints=points)
-    page.browser.run("await new Promise(requestAnimationFrame);")
-    pinched = page.text("place").split(";")[1]
+    moved(page, place)
+    scale, pinched = (it.split(";")[1] for it in (place, page.text("place")))
     holds("two fingers", scale.startswith(" a pixel is 2\u00b3") and pinched.startswith(" a pixel is 2") and pinched != scale, f"{scale} and {pinched}")
 
 
 # ---- long work
+
+
+# Notes how long the page doesn't answer, and each place of the bar.
+WATCHING = """
+    window.pauses = []; window.bars = []; let last = performance.now();
+    const tick = () => { const now = performance.now(); window.pauses.push(now - last); last = now; };
+    const ticking = setInterval(tick, 10);
+    const watching = new MutationObserver(() => { if (it.hasAttribute("value")) window.bars.push(it.value); });
+    const it = document.getElementById("bar");
+    watching.observe(it, { attributes: true });
+    window.watched = () => { tick(); clearInterval(ticking); watching.disconnect(); return [window.pauses, window.bars]; };"""
+# Stops the work when the bar has come to a tenth, as a user would by the button.
+STOPPING = """
+    const watching = new MutationObserver(() => {
+      if (document.getElementById("bar").value > 0.1) { watching.disconnect(); document.getElementById("stop").click(); }
+    });
+    watching.observe(document.getElementById("bar"), { attributes: true });"""
 
 
 def long_work(page, folder):
@@ -374,35 +409,37 @@ def long_work(page, folder):
     path = os.path.join(folder, "long.rle")
     with open(path, "wb") as it:
         it.write(b"x = 0, y = 0\n" + block * 100 + b"!\n")
-    watch = """window.pauses = []; window.bars = []; let last = performance.now();
-        const tick = () => { const now = performance.now(); window.pauses.push(now - last); last = now;
-          const bar = document.getElementById("bar");
-          if (!document.getElementById("working").hidden && bar.hasAttribute("value")) window.bars.push(bar.value);
-          window.ticking = requestAnimationFrame(tick); };
-        requestAnimationFrame(tick);"""
-    page.cleared()
-    page.browser.run(watch)
-    page.browser.drop([path])
-    page.until("!document.getElementById('shown').hidden", 500)
-    page.rests()
-    pauses, bars = page.browser.run("cancelAnimationFrame(window.ticking); return [window.pauses, window.bars];")
-    page.browser.run("const canvas = document.getElementById('picture'); return canvas.toDataURL().length;")
-    summary = page.summary()
-    longest, whole = max(pauses) / 1000, sum(pauses) / 1000
-    is_read = summary["Cells"] == str(100 * block.count(b"o"))
-    is_awake = longest < max(LONGEST_PAUSE, PAUSING_SHARE * whole)
-    holds(f"100 MB are read in {whole:.1f} s, the longest pause is {longest:.2f} s", is_awake and is_read, [sorted(pauses)[-5:], summary])
+    longest, whole, bars = read_long(page, path)
+    counting.row("100 MB are read", differing(page.summary(), {"Cells": str(100 * block.count(b"o"))}))
     is_rising = bars == sorted(bars) and len(set(bars)) > 20 and bars[-1] > 0.9
     holds(f"its bar goes from {bars[0]:.2f} to {bars[-1]:.2f} by {len(set(bars))} steps", is_rising, bars[:50])
+    measured = [(longest, whole)]
+    while longest >= max(LONGEST_PAUSE, PAUSING_SHARE * whole) and len(measured) < MEASURED:
+        longest, whole, _ = read_long(page, path)
+        measured.append((longest, whole))
+    said = ", and ".join(f"{pause:.2f} s of {took:.1f} s" for pause, took in measured)
+    holds(f"the page answers meanwhile: the longest pause is {said}", longest < max(LONGEST_PAUSE, PAUSING_SHARE * whole), "it is too long")
     page.cleared()
+    page.browser.run(STOPPING)
     page.browser.drop([path])
-    page.until("document.getElementById('bar').value > 0.1 && document.getElementById('bar').value < 0.9", 300)
-    page.click("stop")
-    page.until("document.getElementById('working').hidden", 20)
-    counting.row("it is stopped", differing({"said": page.text("said"), "hidden": page.hides("shown")}, {"said": "Stopped.", "hidden": True}))
+    page.until("document.getElementById('said').textContent === 'Stopped.'", LONG_WORK)
+    page.rests()
+    holds("it is stopped", page.hides("shown"), "something is shown")
     page.dropped(put(folder, one_rle=GLIDER))
     counting.row("a file behind that", differing(page.summary(), {"Cells": "5"}))
     os.remove(path)
+
+
+def read_long(page, path):
+    """Drops a large file. Returns the longest pause of the page and the whole time, in seconds, and the places of the bar."""
+    page.cleared()
+    page.browser.run(WATCHING)
+    page.browser.drop([path])
+    page.until("!document.getElementById('shown').hidden", LONG_WORK)
+    page.rests(LONG_WORK)
+    pauses, bars = page.browser.run("return window.watched();")
+    page.browser.run("return document.getElementById('picture').toDataURL().length;")
+    return max(pauses) / 1000, sum(pauses) / 1000, bars
 
 
 # ---- what goes wrong
@@ -455,28 +492,26 @@ def quiet(browser, page_address, other_address):
     browser.log("browser")
 
 
-def looks(folder, work, pictures):
-    """The page at several sizes and in the dark: nothing is wider than the window, and each control has a name."""
-    for name, width, height, scheme in (("light", 1200, 900, "light"), ("dark", 1200, 900, "dark"), ("narrow", 360, 740, "light")):
-        with browsers.Browser(width, height) as browser:
-            browser.command("Emulation.setEmulatedMedia", features=[{"name": "prefers-color-scheme", "value": scheme}])
-            if width < 600:
-                browser.command("Emulation.setDeviceMetricsOverride", width=width, height=height, deviceScaleFactor=2, mobile=True)
-            page = Page(browser, f"file://{folder}/golly_canon.html")
-            problems = []
-            for index, shown in enumerate(("glider", "golly", "triangle", "refused")):
-                page.example(index)
-                wide = browser.run("return document.documentElement.scrollWidth - innerWidth;")
-                problems += [f"{shown} is {wide} pixels too wide"] if wide > 0 else []
-                if pictures:
-                    tall = browser.run("return document.documentElement.scrollHeight;")
-                    browser.command("Emulation.setDeviceMetricsOverride", width=width, height=tall, deviceScaleFactor=1, mobile=width < 600)
-                    browser.run("await new Promise(it => setTimeout(it, 300));")
-                    browser.picture(os.path.join(pictures, f"{name}-{shown}.png"))
-                    browser.command("Emulation.setDeviceMetricsOverride", width=width, height=height, deviceScaleFactor=1, mobile=width < 600)
-            problems += browser.run("""return [...document.querySelectorAll("button, input, textarea, canvas, progress")].filter(it => !it.hidden &&
-                !(it.innerText.trim() || it.ariaLabel || it.labels?.length)).map(it => it.outerHTML);""")
-            counting.row(f"the page, {name}", problems)
+def looks(browser, folder, pictures, name, width, height, scheme):
+    """The page at a size, and in the light or the dark: nothing is wider than the window, and each control has a name."""
+    browser.command("Emulation.setEmulatedMedia", features=[{"name": "prefers-color-scheme", "value": scheme}])
+    if width < 600:
+        browser.command("Emulation.setDeviceMetricsOverride", width=width, height=height, deviceScaleFactor=2, mobile=True)
+    page = Page(browser, f"file://{folder}/golly_canon.html")
+    problems = []
+    for index, shown in enumerate(("glider", "golly", "triangle", "refused")):
+        page.example(index)
+        wide = browser.run("return document.documentElement.scrollWidth - innerWidth;")
+        problems += [f"{shown} is {wide} pixels too wide"] if wide > 0 else []
+        if pictures:
+            tall = browser.run("return document.documentElement.scrollHeight;")
+            browser.command("Emulation.setDeviceMetricsOverride", width=width, height=tall, deviceScaleFactor=1, mobile=width < 600)
+            browser.run("await new Promise(it => setTimeout(it, 300));")
+            browser.picture(os.path.join(pictures, f"{name}-{shown}.png"))
+            browser.command("Emulation.setDeviceMetricsOverride", width=width, height=height, deviceScaleFactor=1, mobile=width < 600)
+    problems += browser.run("""return [...document.querySelectorAll("button, input, textarea, canvas, progress")].filter(it => !it.hidden &&
+        !(it.innerText.trim() || it.ariaLabel || it.labels?.length)).map(it => it.outerHTML);""")
+    counting.row(f"the page, {name}", problems)
 
 
 def sentence_of(script):
@@ -485,27 +520,33 @@ def sentence_of(script):
     return lambda self, kind: sentences[kind]
 
 
+def working(browser, folder, work, answers, server):
+    """What the page does with files. Nothing else may be tried in this window, since each request is looked at."""
+    address = f"file://{folder}/golly_canon.html"
+    browser.open("about:blank")
+    browser.requests()  # those of the browser's own first page
+    page = Page(browser, address)
+    examples(browser, address, "in Chromium")
+    comparing(page, os.path.join(work, "comparing"))
+    pasting(page)
+    showing(page, os.path.join(work, "showing"), answers)
+    packing(page, os.path.join(work, "packing"))
+    stepping(page, os.path.join(work, "stepping"), answers)
+    drawing(page, os.path.join(work, "drawing"))
+    long_work(page, work)
+    quiet(browser, address, server.address)
+    page = Page(browser, f"{server.address}/golly_canon.html")
+    page.example(0)
+    counting.row("the page from a web server", differing({"answer": page.text("answer")}, {"answer": "All 4 files are one pattern."}))
+
+
 def rows(folder, program, pictures):
     """All of it."""
-    address = f"file://{folder}/golly_canon.html"
     Page.sentence = sentence_of(of_module.page_script())
     with tempfile.TemporaryDirectory() as work, browsers.Server(folder) as server:
         answers = Answers(program, work)
-        with browsers.Browser() as browser:
-            browser.open("about:blank")
-            browser.requests()  # those of the browser's own first page
-            page = Page(browser, address)
-            examples(browser, address, "in Chromium")
-            comparing(page, os.path.join(work, "comparing"))
-            pasting(page)
-            showing(page, os.path.join(work, "showing"), answers)
-            packing(page, os.path.join(work, "packing"))
-            stepping(page, os.path.join(work, "stepping"), answers)
-            drawing(page, os.path.join(work, "drawing"))
-            long_work(page, work)
-            quiet(browser, address, server.address)
-            page = Page(browser, f"{server.address}/golly_canon.html")
-            page.example(0)
-            counting.row("the page from a web server", differing({"answer": page.text("answer")}, {"answer": "All 4 files are one pattern."}))
-            faults(browser, folder, os.path.join(work, "faults"), server.address)
-        looks(folder, work, pictures)
+        browsers.tested("the page", browsers.Browser, lambda it: working(it, folder, work, answers, server))
+        browsers.tested("its faults", browsers.Browser, lambda it: faults(it, folder, os.path.join(work, "faults"), server.address))
+        for name, width, height, scheme in (("light", 1200, 900, "light"), ("dark", 1200, 900, "dark"), ("narrow", 360, 740, "light")):
+            browsers.tested(f"the page, {name}", lambda: browsers.Browser(width, height),
+                            lambda it: looks(it, folder, pictures, name, width, height, scheme))

@@ -1,7 +1,7 @@
 #!/usr/bin/env python3
 """The page and the module for browsers, which scripts/page builds here over what `rt ci` has proved: what they are made of, and in a headless Chromium
 that the module answers as PROGRAM does, and what the page does with files. Where there is no Chromium or no chromedriver, or what scripts/page needs
-beside the toolchain isn't there, a line says that this is skipped.
+beside the toolchain isn't there, a line says that this is skipped. A browser that dies is started again (browser.py).
 
 usage: tests/page/page.py PROGRAM [--cases N] [--seed SEED] [--built FOLDER] [--pictures FOLDER]
 
@@ -12,6 +12,7 @@ import argparse
 import os
 import re
 import shutil
+import signal
 import subprocess
 import sys
 import tempfile
@@ -64,14 +65,35 @@ def made_of(folder):
     counting.row("no address of another place", re.findall(r"https?://[^\s\"'<]*", page))
 
 
+def in_chromium(folder, program, options):
+    """What the module answers, and what the page does."""
+    with open(os.path.join(folder, "blank.html"), "w", encoding="utf-8") as it:
+        it.write('<!doctype html><title>blank</title><link rel="icon" href="data:,">')
+
+    def calls(browser):
+        of_module.calls(browser, server.address)
+        of_module.memory(browser, server.address)
+        of_module.stacks(browser, server.address, folder)
+
+    with browsers.Server(folder) as server:
+        browsers.tested("answers of the module", browsers.Browser,
+                        lambda it: of_module.compares(it, server.address, program, options.seed, options.cases))
+        browsers.tested("calls of the module", browsers.Browser, calls)
+    of_page.rows(folder, program, options.pictures)
+
+
 def in_firefox(folder, program, options):
     """A part of that in Firefox, where it is installed."""
     if not shutil.which(browsers.FIREFOX):
         print(f"skipped: the same in Firefox, since there is no {browsers.FIREFOX}", flush=True)
         return
-    with browsers.Server(folder) as server, browsers.Firefox() as browser:
+
+    def some(browser):
         of_module.compares(browser, server.address, program, f"{options.seed} in Firefox", options.cases // 5, 10)
         of_page.examples(browser, f"file://{folder}/golly_canon.html", "in Firefox")
+
+    with browsers.Server(folder) as server:
+        browsers.tested("Firefox", browsers.Firefox, some)
 
 
 def main():
@@ -82,6 +104,7 @@ def main():
     parser.add_argument("--built")
     parser.add_argument("--pictures")
     options = parser.parse_args()
+    signal.signal(signal.SIGTERM, lambda *_: sys.exit(1))  # so that a browser ends with the test
     program = processes.program_of(options.program)
     types()
     with tempfile.TemporaryDirectory() as work:
@@ -96,14 +119,7 @@ def main():
         if lacks is None and not browsers.is_there():
             lacks = f"there is no {browsers.CHROMIUM} with its {browsers.DRIVER}"
         if lacks is None:
-            with open(os.path.join(folder, "blank.html"), "w", encoding="utf-8") as it:
-                it.write('<!doctype html><title>blank</title><link rel="icon" href="data:,">')
-            with browsers.Server(folder) as server, browsers.Browser() as browser:
-                of_module.compares(browser, server.address, program, options.seed, options.cases)
-                of_module.calls(browser, server.address)
-                of_module.memory(browser, server.address)
-                of_module.stacks(browser, server.address, folder)
-            of_page.rows(folder, program, options.pictures)
+            in_chromium(folder, program, options)
             in_firefox(folder, program, options)
         else:
             print(f"skipped: {lacks}", flush=True)
