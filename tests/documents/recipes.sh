@@ -1,11 +1,11 @@
 #!/bin/sh
 # Runs the recipes of docs/RECIPES.md and docs/QUESTIONS.md as they stand there, in sh and in bash, with the program, $1, on the PATH, in a folder of their
 # own, and compares what they come to with what is known of the patterns in examples/ and of tables; and the examples and programs of both, of which
-# the examples say themselves what is written. It needs git, GNU parallel, rsync and Python 3.
+# the examples say themselves what is written. It needs git, GNU parallel, rsync, sqlite3 and Python 3.
 
 program=${1:?usage: tests/documents/recipes.sh PROGRAM}
 [ -x "$program" ] || { echo "there is no program $program"; exit 1; }
-for tool in git rsync; do
+for tool in git rsync sqlite3; do
     $tool --version > /dev/null 2>&1 || { echo "$tool is missing: apt-get install $tool"; exit 1; }
 done
 parallel --version 2> /dev/null | grep -q '^GNU parallel' || { echo "GNU parallel is missing: apt-get install parallel"; exit 1; }
@@ -98,9 +98,12 @@ $glider_key  patterns/a folder/of two
 lines.rle
 $glider_key  patterns/glider.mc
 $glider_key  patterns/glider.rle"
-    equal "standard error" "$(grep 'has no key' "$folder/err" | sort | tr '\n' ' ')" \
-        "patterns/empty has no key patterns/more has no key patterns/notes has no key "
+    equal "standard error" "$(grep '^patterns/' "$folder/err" | sort)" "$refused"
 }
+
+refused='patterns/empty: line 1: NoHeader: The file begins with no header, neither [M2] nor x = .., or it ends before one.
+patterns/more: line 1: NoHeader: The file begins with no header, neither [M2] nor x = .., or it ends before one.
+patterns/notes: line 1: NoHeader: The file begins with no header, neither [M2] nor x = .., or it ends before one.'
 
 each_recipe() {
     spellings .
@@ -108,18 +111,10 @@ each_recipe() {
     cp "$top/examples/wire.rle" "$top/examples/WireWorld.rule" .
 
     recipe key
-    wrote "$glider_key  -
+    wrote "$glider_key  glider.mc
+$glider_key  glider.rle
 $glider_key  -"
     verdict "the key of a pattern, in $shell" "$problems"
-
-    recipe keys
-    : > empty
-    cp gun.mc ./-gun.mc
-    ./keys glider.mc empty -gun.mc absent other.mc 2> "$folder/err" | tr '\0' '\n' > "$folder/out"
-    equal "names" "$(cut -c 67- "$folder/out" | tr '\n' ' ')" "glider.mc -gun.mc other.mc "
-    equal "keys" "$(awk '{ print ($1 == key ? "glider" : "another") }' key="$glider_key" "$folder/out" | tr '\n' ' ')" "glider another glider "
-    equal "standard error" "$(grep 'has no key' "$folder/err" | tr '\n' ' ')" "empty has no key absent has no key "
-    verdict "keys of files, in $shell" "$problems"
 
     # Four gliders, one more elsewhere and one of another generation, a gun, and files that are no patterns, two of them the same.
     mkdir -p "patterns/a folder"
@@ -136,6 +131,33 @@ lines.rle"
     recipe doubles
     told_doubles
     verdict "doubles, in $shell" "$problems"
+
+    recipe processors
+    told_doubles
+    verdict "doubles by all processors, in $shell" "$problems"
+
+    # The files of the folder alone: two gliders, and one in another place.
+    turned_key=$(golly_canon canon --form turned glider.mc | sha256sum | cut -c 1-64)
+    recipe folder
+    wrote "$turned_key  patterns/glider.mc
+$turned_key  patterns/glider.rle
+$turned_key  patterns/shifted.rle"
+    equal "standard error" "$(cat "$folder/err")" "patterns/a folder: is a folder
+$refused"
+    verdict "doubles of the files of a folder, in $shell" "$problems"
+
+    recipe fill
+    equal "standard error" "$(sort "$folder/err")" "$refused"
+    verdict "a table is filled, in $shell" "$problems"
+    recipe ask
+    wrote "patterns/a folder/\$(other) 'name'.mc
+patterns/a folder/of two
+lines.rle
+patterns/glider.mc
+patterns/glider.rle
+patterns/shifted.rle
+7|3"
+    verdict "a table is asked, in $shell" "$problems"
 
     for machines in : one,two; do
         export machines FAR="$PWD/far"
