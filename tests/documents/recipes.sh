@@ -355,11 +355,9 @@ done
 # Keys that pass over the place and the direction: of a glider in two places, turned by a quarter, and reflected; and of another pattern.
 printf 'x = 3, y = 3\n3o$o$bo!\n' > turned.rle
 printf 'x = 3, y = 3\n3o$o$2o!\n' > other.rle
-for file in glider.rle glider.mc turned.rle other.rle; do
-    golly_canon canon --form turned $file | sha256sum || echo "$file has no key"
-done > out 2>&1
+golly_canon keys --form turned glider.rle glider.mc turned.rle other.rle > out 2>&1
 problems=
-equal "how many keys" "$(sort out | uniq -c | sort -n | awk '{ print $1, length($2) }' | tr '\n' ' ')" "1 64 3 64 "
+equal "how many keys" "$(cut -d ' ' -f 1 out | sort | uniq -c | sort -n | awk '{ print $1, length($2) }' | tr '\n' ' ')" "1 64 3 64 "
 verdict "keys of what is turned" "$problems"
 
 # Without the toolchain, at the top of the repository.
