@@ -146,6 +146,12 @@ $turned_key  patterns/shifted.rle"
 $refused"
     verdict "doubles of the files of a folder, in $shell" "$problems"
 
+    # Golly's script, which no test runs, takes the lines of this table apart.
+    recipe golly
+    problems=
+    equal "the lines of a table" "$(grep -cxE '[0-9a-f]{64}  patterns/[a-z.]+' keys)" 5
+    verdict "a table for Golly, in $shell" "$problems"
+
     recipe fill
     equal "standard error" "$(sort "$folder/err")" "$refused"
     verdict "a table is filled, in $shell" "$problems"
