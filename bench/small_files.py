@@ -1,5 +1,5 @@
-"""Small pattern files as collections have them, for bench/collection.py and bench/keys.py. Of a thousand files 750 are soups of 16 rows and columns in
-RLE, 150 the same as an earlier one in another spelling or place, 80 small macrocells, and 20 no patterns."""
+"""Small pattern files as collections have them, for bench/collection.py and bench/keys.py. Of a thousand files 750 are soups of 16 rows and columns
+in RLE, 150 the same as an earlier one in another spelling or place, 80 small macrocells, and 20 no patterns."""
 import random
 
 SIDE = 16

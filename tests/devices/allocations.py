@@ -82,8 +82,8 @@ BAD_CHILD = b"child.mc: line 4: BadChild: A quarter of a square is no earlier sq
 
 
 def keys_run(name, words, texts):
-    """A run of `keys` over files with these texts, the first of which stand in the words and the last in a list. One for which there is no memory is
-    told by its name, and the next one is taken."""
+    """A run of `keys` over files with these texts, of which a list names the last and words the others. One for which there is no memory is told by
+    its name, and the next one is taken."""
     parts = {}
     for file, text in texts.items():
         key = hashlib.sha256(text).hexdigest().encode() if text else b""

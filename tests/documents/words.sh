@@ -62,8 +62,8 @@ if command -v bash > /dev/null; then
     same_words "bash completes formats in one word" "$(completed golly_canon convert --to=)" "--to=rle --to=mc"
     same_words "bash completes forms" "$(completed golly_canon canon --form ''; completed golly_canon same --form = t)" "placed moved turned turned"
     same_words "bash completes forms of keys" "$(completed golly_canon keys a b --form '')" "placed moved turned"
-    same_words "bash completes a list, and files behind it" "$(completed golly_canon keys --from = examples/Wire; completed golly_canon keys a examples/wi)" \
-        "examples/WireWorld.rule examples/wire.rle"
+    same_words "bash completes a list behind =" "$(completed golly_canon keys --from = examples/Wire)" "examples/WireWorld.rule"
+    same_words "bash completes further files" "$(completed golly_canon keys a examples/wi)" "examples/wire.rle"
     same_words "bash completes tables behind =" "$(completed golly_canon step --table = examples/Wire)" "examples/WireWorld.rule"
 fi
 

@@ -16,10 +16,8 @@ import hashlib
 import itertools
 import multiprocessing
 import os
-import random
 import re
 import shutil
-import subprocess
 import sys
 import tempfile
 
@@ -28,15 +26,14 @@ sys.path.insert(0, os.path.dirname(os.path.dirname(os.path.abspath(__file__))))
 
 import compare  # noqa: E402
 from independent import commands  # noqa: E402
-from independent.fuzz import random_files  # noqa: E402
 from shared import counting, processes  # noqa: E402
 from shared.fixtures import FILES, HEADER, LIFE, LONGEST, PAIR_TEXT, ROWS, canonical  # noqa: E402
 from shared.processes import Answer  # noqa: E402
 
 PAGE = os.path.join(os.path.dirname(os.path.abspath(__file__)), "../../docs/golly_canon.1")
 CLOCK = "/usr/bin/time"
-# Of how many names a run is measured, and what it may take: processor time in seconds, and peak memory as a multiple of the list beside what the start
-# takes. A key of a small file is worth some 20 microseconds.
+# Of how many names a run is measured, and what it may take: processor time in seconds, and peak memory as a multiple of the list, beside what the
+# start takes.
 NAMES, SECONDS, TIMES, LITTLE = 100_000, 20, 6, 6_000_000
 # Why a file has no key though the program was not let read it.
 ABSENT, LOCKED, FOLDER, OTHER = "no such file", "permission denied", "is a folder", "can't be opened"
@@ -130,7 +127,8 @@ class Place:
 
     def shell(self, script, source=b"", **how):
         """What a shell answers, with the program as $program."""
-        return processes.run(["bash", "-c", script], source, cwd=self.here, timeout=300, env={**os.environ, "program": self.program, "LC_ALL": "C"}, **how)
+        settings = {**os.environ, "program": self.program, "LC_ALL": "C"}
+        return processes.run(["bash", "-c", script], source, cwd=self.here, timeout=300, env=settings, **how)
 
     def wanted(self, names, form="placed", is_zero=False):
         """The answer of a run over files of the place, or that are absent."""
@@ -161,7 +159,7 @@ SMALL = {
     b"turned": b"#CXRLE Pos=-70,5\nx = 3, y = 3\n3o$o$bo!\n",
     b"shifted": b"#CXRLE Pos=-7,1000\r\nx = 3, y = 3, rule = 23/3\r\nbo$2bo$3o!\r\n",
 }
-ORDER = [b"pair.rle", b"empty", b"pair.mc", b"absent", b"child.mc", b"glider", b"pair.rle", b"long", b"blank", b"many.rle", b"turned", b"shifted", b"bad.rle"]
+ORDER = b"pair.rle empty pair.mc absent child.mc glider pair.rle long blank many.rle turned shifted bad.rle".split()
 GLIDER = LIFE + b"$$$$.....*$......*$....***$$\n"
 WORKED = [
     ("placed", b"pair.rle", PAIR_TEXT),
@@ -201,8 +199,9 @@ def form_rows(place):
         place.row(f"the files in their order, {form}", [*ORDER, "--form", form], answer)
         place.row(f"the same, with the form behind a =, {form}", [f"--form={form}", *ORDER], answer)
         place.row(f"the same, ended by NULs, {form}", ["--zero", *ORDER, "--form", form], place.wanted(ORDER, form, is_zero=True))
-    found = {form: [line[:64] for line in place.run(["--form", form, "glider", "shifted", "turned"]).output.splitlines()] for form in ("moved", "turned")}
-    counting.row("a glider that was moved, and one that was turned", [repr(found)] * ([len({*found["moved"]}), len({*found["turned"]})] != [2, 1]))
+    for form, count in (("placed", 3), ("moved", 2), ("turned", 1)):
+        keys = {line[:64] for line in place.run(["--form", form, "glider", "shifted", "turned"]).output.splitlines()}
+        counting.row(f"keys of a glider, one that was moved, and one that was turned, {form}", [repr(keys)] if len(keys) != count else [])
 
 
 def refused_rows(place):
@@ -213,9 +212,8 @@ def refused_rows(place):
         place.row(f"{name[:20].decode()!r} is passed over", ["pair.rle", name, "pair.rle"], Answer(status, line + line, error))
     for form in ("moved", "turned"):
         place.row(f"too many cells, {form}", ["many.rle", "--form", form], Answer(2, b"", TOO_MANY))
-    both = REFUSED[0][2], REFUSED[4][2]
-    place.row("the greater status, which comes first", ["absent", "child.mc"], Answer(3, b"", both[1] + both[0]))
-    place.row("the greater status, which comes last", ["child.mc", "absent", "pair.rle"], Answer(3, key_line(key_of(PAIR_TEXT), b"pair.rle"), b"".join(both)))
+    for name, names in (("first", [b"absent", b"child.mc", b"pair.rle"]), ("last", [b"pair.rle", b"child.mc", b"absent"])):
+        place.row(f"the greater status comes {name}", names, place.wanted(names)._replace(status=3))
     os.mkdir(os.path.join(place.here, "locked"), 0)
     place.put(b"unread", PAIR_TEXT)
     os.chmod(os.path.join(place.here, "unread"), 0)
@@ -256,7 +254,8 @@ def list_rows(place):
     place.put(b"-", SMALL[b"glider"])
     place.row("the file - in a list", ["--from", "-"], place.wanted([b"-", b"blank", b"-"]), b"-\nblank\n-\n")
     place.put(b"dash", b"-\n")
-    place.row("the file - in a list, and standard input", ["-", "--from", "dash"], wanted([(b"-", SMALL[b"blank"]), (b"-", SMALL[b"glider"])]), SMALL[b"blank"])
+    answer = wanted([(b"-", SMALL[b"blank"]), (b"-", SMALL[b"glider"])])
+    place.row("the file - in a list, and standard input", ["-", "--from", "dash"], answer, SMALL[b"blank"])
     place.put(b"itself", b"itself\nblank\n")
     place.row("a list that names itself", ["--from", "itself"], place.wanted([b"itself", b"blank"]))
     # A list that is a pattern: its first name is that of the header.
@@ -264,7 +263,8 @@ def list_rows(place):
     place.put(b"#itself", b"[M2]\n#itself\n")
     place.row("a list that is a pattern and names itself", ["--from", "#itself"], place.wanted([b"[M2]", b"#itself"]))
     place.row("a name of an LF list with a CR behind it", ["--from", "-"], wanted([(b"blank\r", ABSENT)]), b"blank\r\n")
-    place.row("a name of an LF list with a NUL in it", ["--from", "-"], wanted([(b"blank\0x", OTHER), (b"blank", SMALL[b"blank"])]), b"blank\0x\nblank\n")
+    answer = wanted([(b"blank\0x", OTHER), (b"blank", SMALL[b"blank"])])
+    place.row("a name of an LF list with a NUL in it", ["--from", "-"], answer, b"blank\0x\nblank\n")
     place.row("an option in a list is a name", ["--from", "-"], wanted([(b"--zero", ABSENT), (b"--", ABSENT)]), b"--zero\n--\n")
     for name, words in (("absent", ["--from", "absent"]), ("a folder", ["--from", "."]), ("absent, behind a file", ["blank", "--from", "absent"])):
         place.row(f"a list that can't be read: {name}", words, Answer(3, b"", b"ReadFault\n"))
@@ -272,8 +272,8 @@ def list_rows(place):
 
 # ---- names
 
-ODD = [b"back\\slash", b"line\nfeed", b"carriage\rreturn", b"tab\tname", "\u00e9t\u00e9 \u4e2d\u6587 \U0001f600".encode(), b" spaces ", b"*star", b"\\", b"\n", b"\\n",
-       b"'quoted'", b'"both"', b"$(no)", b"-dash", b"--form", b"\x1b[31m", b"a" * 255, b"x\n\n\r\\y"]
+ODD = [b"back\\slash", b"line\nfeed", b"carriage\rreturn", b"tab\tname", "\u00e9t\u00e9 \u4e2d\u6587 \U0001f600".encode(), b" spaces ", b"*star",
+       b"\\", b"\n", b"\\n", b"'quoted'", b'"both"', b"$(no)", b"-dash", b"--form", b"\x1b[31m", b"a" * 255, b"x\n\n\r\\y"]
 NO_TEXT = [b"\xff", b"caf\xe9", b"a\xffb\nc\\", b"\xed\xa0\x80"]
 
 
@@ -305,8 +305,9 @@ def name_rows(place, texts):
 # ---- words
 
 MISUSES = [
-    ("no file", []), ("no file, but a form", ["--form", "moved"]), ("no file, but NULs", ["--zero"]), ("a form that isn't there", ["--form", "still", "blank"]),
-    ("a form twice", ["--form", "moved", "--form", "moved", "blank"]), ("a list without its name", ["blank", "--from"]),
+    ("no file", []), ("no file, but a form", ["--form", "moved"]), ("no file, but NULs", ["--zero"]),
+    ("a form that isn't there", ["--form", "still", "blank"]), ("a form twice", ["--form", "moved", "--form", "moved", "blank"]),
+    ("a list without its name", ["blank", "--from"]),
     ("a list twice", ["--from", "blank", "--from", "blank"]), ("an option of another command", ["blank", "--to", "mc"]),
     ("an option that isn't there", ["blank", "--fast"]), ("a value for --zero", ["--zero=yes", "blank"]),
 ]
@@ -348,8 +349,9 @@ DEVICES = [
     ("a list that is a pipe", 'mkfifo pipe; echo blank > pipe & "$program" keys pair.mc --from pipe; status=$?; rm pipe; exit $status',
      Answer(0, PAIR + BLANK)),
     # The program waits in the pipe, and takes what comes behind it as it is then.
-    ("a file that is removed while the run waits", """mkfifo pipe; cp blank gone; cp absent_too put 2> /dev/null
-        "$program" keys pipe gone put blank & exec 3> pipe; rm gone pipe; cp blank put; cat pair.mc >&3; exec 3>&-; wait $!; status=$?; rm put; exit $status""",
+    ("a file that is removed while the run waits", """mkfifo pipe; cp blank gone
+        "$program" keys pipe gone put blank & exec 3> pipe; rm gone pipe; cp blank put
+        cat pair.mc >&3; exec 3>&-; wait $!; status=$?; rm put; exit $status""",
      Answer(3, PAIR.replace(b"pair.mc", b"pipe") + BLANK.replace(b"blank", b"put") + BLANK, b"gone: no such file\n")),
     ("a list is read whole before a file is opened", """cp blank late; { echo late; rm late; echo pair.mc; } | "$program" keys --from -""",
      Answer(3, PAIR, b"late: no such file\n")),
@@ -407,7 +409,8 @@ def random_rows(place, seed, count):
         keys, lines, their = answer.output.splitlines(), run.output.splitlines(), set(run.error.splitlines())
         wrong = [line for line in keys if line not in lines] + [line for line in answer.error.splitlines() if line not in their]
         different = len({line[:64] for line in keys})
-        counting.row(f"{len(named)} random files, {form}: {len(keys)} keys, {different} different", problems_of(run, answer) + [repr(it) for it in wrong[:3]])
+        problems = problems_of(run, answer) + [repr(it) for it in wrong[:3]]
+        counting.row(f"{len(named)} random files, {form}: {len(keys)} keys, {different} different", problems)
         counting.row(f"some of them are refused and some doubles, {form}", [] if different < len(keys) < len(named) else ["they are not"])
         double = [line for line in sorted(keys) if sum(other[:64] == line[:64] for other in keys) > 1]
         found = place.shell(f'"$program" keys --form {form} --from - 2> told | sort | uniq -w 64 -D', listed(named))
