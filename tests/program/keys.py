@@ -25,7 +25,9 @@ sys.dont_write_bytecode = True  # nothing is left in tests/
 sys.path.insert(0, os.path.dirname(os.path.dirname(os.path.abspath(__file__))))
 
 import compare  # noqa: E402
-from independent import commands  # noqa: E402
+from independent import commands, forms  # noqa: E402
+from independent.rle import rle_text  # noqa: E402
+from independent.squares import cells_of  # noqa: E402
 from shared import counting, processes  # noqa: E402
 from shared.fixtures import FILES, HEADER, LIFE, LONGEST, PAIR_TEXT, ROWS, canonical  # noqa: E402
 from shared.processes import Answer  # noqa: E402
@@ -379,10 +381,23 @@ def device_rows(place):
 MOST_TURNED = 2**9  # cells of a pattern that the reader turns without taking long
 
 
+def image_of(data, number):
+    """The file of a turned, reflected and shifted image of a pattern, or the same file where that is refused or large."""
+    file = commands.File(data)
+    if isinstance(file.reading, commands.Fault) or not 0 < file.pattern.plane.population <= MOST_TURNED:
+        return data
+    image = list(forms.images(cells_of(file.pattern.plane)))[number % 8]
+    cells = sorted(forms.moved(image), key=lambda cell: (cell[1], cell[0]))
+    return rle_text(file.pattern.rule, file.pattern.generation, cells)
+
+
 def random_pattern(seed, number):
-    """A random file of either format, about half of them refused, and each fifth the same as the one before in another spelling."""
-    case = compare.random_case(seed, number - number % 5 // 4)
-    return case.pattern if number % 5 < 4 or case.respelling is None else case.respelling
+    """A random file of either format, about a third of them refused. Of five files one is the one before in another spelling, and one is an image."""
+    place = number % 5
+    case = compare.random_case(seed, number - max(0, place - 2))
+    if place == 3 and case.respelling is not None:
+        return case.respelling
+    return image_of(case.pattern, number) if place == 4 else case.pattern
 
 
 def random_outcomes(given):
@@ -398,6 +413,7 @@ def random_rows(place, seed, count):
     files = {b"%d.%s" % (number, b"mc" if data.startswith(b"[M2]") else b"rle"): (data, outcomes) for number, (data, outcomes) in enumerate(found)}
     for name, (data, _) in files.items():
         place.put(name, data)
+    counts = []
     for form in ("placed", "moved", "turned"):
         named = {name: outcomes[form] for name, (_, outcomes) in files.items() if outcomes[form] is not None}
         answer = Answer(
@@ -411,10 +427,12 @@ def random_rows(place, seed, count):
         different = len({line[:64] for line in keys})
         problems = problems_of(run, answer) + [repr(it) for it in wrong[:3]]
         counting.row(f"{len(named)} random files, {form}: {len(keys)} keys, {different} different", problems)
+        counts.append(different)
         counting.row(f"some of them are refused and some doubles, {form}", [] if different < len(keys) < len(named) else ["they are not"])
         double = [line for line in sorted(keys) if sum(other[:64] == line[:64] for other in keys) > 1]
         found = place.shell(f'"$program" keys --form {form} --from - 2> told | sort | uniq -w 64 -D', listed(named))
         counting.row(f"their doubles by uniq, {form}", problems_of(found, Answer(0, b"".join(line + b"\n" for line in double))))
+    counting.row("some of them are moved and some turned", [] if counts[0] > counts[1] > counts[2] else [repr(counts)])
 
 
 # ---- many names
