@@ -3,8 +3,7 @@
 
 usage: bench/collection.py FOLDER [FILES [IN-AN-ARCHIVE]]    (1,000,000 files, 5,000 in an archive, if no numbers are named)
 
-The archives are made in FOLDER where they are not there, the same bytes each time. Of a thousand files 750 are soups of 16 rows and columns in RLE,
-150 the same as an earlier one in another spelling or place, 80 small macrocells, and 20 no patterns. The start of the workers is not counted. Beside
+The archives are made in FOLDER where they are not there, the same bytes each time; bench/small_files.py says what is in them. The start of the workers is not counted. Beside
 the time of the clock stands the processor time of the workers and that of the process that writes the table, which other work changes less.
 It is run by a Python that has Dask, with the module golly_canon on PYTHONPATH.
 """
@@ -20,33 +19,9 @@ sys.path.insert(0, os.path.join(HERE, "..", "examples"))
 
 import collection  # noqa: E402
 import distributed  # noqa: E402
+from small_files import ending_of, file_of  # noqa: E402
 
 WORKERS = (1, 2, 4)
-SIDE = 16
-
-
-def soup(source, number, place):
-    """A random square in RLE, as collections have it, with comments before it. Its number alone says the cells."""
-    cells = random.Random(number)
-    rows = ["".join(cells.choice("bo") for _ in range(SIDE)) for _ in range(SIDE)]
-    head = f"#N Pattern {number}\n#O somebody\n#C found on day {source.randrange(1000)}\n#CXRLE Pos={place},{place}\n"
-    return (f"{head}x = {SIDE}, y = {SIDE}, rule = {source.choice(['B3/S23', '23/3', 'b3s23'])}\n" + "$\n".join(rows) + "!\n").encode()
-
-
-def macrocell(source):
-    """Four random leaves in a square of 16 cells."""
-    leaves = ["".join("".join(source.choice(".*") for _ in range(8)) + "$" for _ in range(8)) for _ in range(4)]
-    return ("[M2] (golly 4.2)\n#R B3/S23\n" + "\n".join(leaves) + "\n4 1 2 3 4\n").encode()
-
-
-def file_of(source, number):
-    """A file of the collection."""
-    kind = number % 1000
-    if kind < 750:
-        return soup(source, number, 0)
-    if kind < 900:
-        return soup(source, source.randrange(number - kind, number - kind + 750), source.choice([0, 0, 100]))
-    return macrocell(source) if kind < 980 else b"x = 16, y = 16, rule = B3/S23\n" + source.choice([b"0o!\n", b"3q\n", b"16o$16A!\n"])
 
 
 def archives(folder, files, size):
@@ -59,7 +34,7 @@ def archives(folder, files, size):
         source = random.Random(f"archive {part}")
         with tarfile.open(f"{path}.new", "w") as archive:
             for number in range(part * size, min(files, (part + 1) * size)):
-                data, entry = file_of(source, number), tarfile.TarInfo(f"patterns/{number:08}.{'mc' if 900 <= number % 1000 < 980 else 'rle'}")
+                data, entry = file_of(source, number), tarfile.TarInfo(f"patterns/{number:08}.{ending_of(number)}")
                 entry.size = len(data)
                 archive.addfile(entry, io.BytesIO(data))
         os.replace(f"{path}.new", path)

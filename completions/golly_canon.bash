@@ -1,7 +1,7 @@
 # Completion of golly_canon's words in bash.
 
 _golly_canon() {
-    local commands="canon convert same show step help"
+    local commands="canon convert same show step keys help"
     local formats="rle mc" forms="placed moved turned"
     local word=${COMP_WORDS[COMP_CWORD]} previous=${COMP_WORDS[COMP_CWORD - 1]} front=
     COMPREPLY=()
@@ -25,7 +25,7 @@ _golly_canon() {
         COMPREPLY=($(compgen -P "$front" -W "$formats" -- "$word"))
         return
     fi
-    if [[ ${COMP_WORDS[1]} =~ ^(canon|same)$ ]] && [ "$previous" = --form ]; then
+    if [[ ${COMP_WORDS[1]} =~ ^(canon|same|keys)$ ]] && [ "$previous" = --form ]; then
         COMPREPLY=($(compgen -P "$front" -W "$forms" -- "$word"))
         return
     fi
@@ -35,6 +35,7 @@ _golly_canon() {
                 convert) COMPREPLY=($(compgen -W "--to --help -h" -- "$word")) ;;
                 step) COMPREPLY=($(compgen -W "--table --help -h" -- "$word")) ;;
                 canon | same) COMPREPLY=($(compgen -W "--form --help -h" -- "$word")) ;;
+                keys) COMPREPLY=($(compgen -W "--form --zero --from --help -h" -- "$word")) ;;
                 show) COMPREPLY=($(compgen -W "--help -h" -- "$word")) ;;
             esac
             ;;

@@ -6,6 +6,8 @@ does without that memory, and all else is as ever. The last line is 'N passed, M
 usage: tests/devices/allocations.py PROGRAM CALLS
 """
 
+import hashlib
+import itertools
 import os
 import subprocess
 import sys
@@ -28,14 +30,15 @@ ANSWERS = os.path.join(HERE, "../../crates/check_allocations/stdout")
 
 
 class Run(NamedTuple):
-    """A run of a program in a folder, and what it does with ample memory."""
+    """A run of a program in a folder, and what it does with ample memory; and what else it may do where memory is refused."""
     name: str
     words: list
     answer: Answer
     source: bytes = b""
+    others: tuple = ()
 
 
-# ---- the program: status 4, the one line `Memory` on standard error, and nothing on standard output
+# ---- the program: status 4, the one line `Memory` on standard error, and nothing on standard output; or what `keys` tells of single files
 
 # A cell under seven squares, of which one is its least square.
 SEVEN = b"....*$$$$$$$$\n4 1 0 0 0\n5 2 0 0 0\n6 3 0 0 0\n7 4 0 0 0\n8 5 0 0 0\n9 0 0 0 6\n"
@@ -75,6 +78,36 @@ PROGRAM_RUNS = [
 ]
 
 
+BAD_CHILD = b"child.mc: line 4: BadChild: A quarter of a square is no earlier square of the level below.\n"
+
+
+def keys_run(name, words, texts):
+    """A run of `keys` over files with these texts, of which a list names the last and words the others. One for which there is no memory is told by
+    its name, and the next one is taken."""
+    parts = {}
+    for file, text in texts.items():
+        key = hashlib.sha256(text).hexdigest().encode() if text else b""
+        parts[file] = (0, b"%s  %s\n" % (key, file), b"") if text else (2, b"", BAD_CHILD)
+    refused = {file: (4, b"", file + b": Memory: Memory was refused.\n") for file in parts}
+
+    def answer(without):
+        found = [refused[file] if file in without else part for file, part in parts.items()]
+        return Answer(max(status for status, _, _ in found), b"".join(it for _, it, _ in found), b"".join(it for _, _, it in found))
+
+    counts = range(1, len(parts) + 1)
+    others = tuple(answer(without) for count in counts for without in itertools.combinations(parts, count))
+    *named, last = (file.decode() for file in parts)
+    return Run(name, [*words, *named, "--from", "-"], answer(()), last.encode() + b"\n", others)
+
+
+KEYS_RUNS = [
+    keys_run("keys FILE.. --from -", ["keys"],
+             {b"pair.rle": PAIR_TEXT, b"child.mc": b"", b"seven.mc": LIFE + b"....*$$$$$$$$\n4 0 0 0 1\n", b"pair.mc": PAIR_TEXT}),
+    keys_run("keys FILE.. --form turned --from -", ["keys", "--form", "turned"],
+             {b"pair.rle": LIFE + b"*$$$$$$$$\n4 1 0 1 0\n5 0 0 0 2\n", b"child.mc": b"", b"pair.mc": LIFE + b"*$$$$$$$$\n4 1 0 1 0\n5 0 0 0 2\n"}),
+]
+
+
 def program_runs(program):
     """The rows, and two whose texts are those of the program with ample memory: what they are, tests/program/hostile.py says."""
     texts = [Run("--help", ["--help"], Answer(0)), Run("no file", ["canon"], Answer(5))]
@@ -82,11 +115,12 @@ def program_runs(program):
         found = processes.run([program, *run.words])
         yield run._replace(answer=found._replace(status=run.answer.status))
     yield from PROGRAM_RUNS
+    yield from KEYS_RUNS
 
 
-def program_problem(found, answer):
+def program_problem(found, run):
     """What is wrong with a run of the program that met a refusal and didn't answer as ever."""
-    return "" if found == Answer(4, b"", b"Memory\n") else f"{found} and not {answer}"
+    return "" if found in (Answer(4, b"", b"Memory\n"), *run.others) else f"{found} and not {run.answer}"
 
 
 # ---- the calls: `Memory` where memory was refused, the right answer from each other one, before and after
@@ -153,7 +187,7 @@ def program_checks(requests, pool, runs):
                 problems.append(f"request {number} was not refused")
             elif found == run.answer:
                 without += 1
-            elif problem := program_problem(found, run.answer):
+            elif problem := program_problem(found, run):
                 problems.append(f"request {number}: {problem}")
         yield f"{run.name}: each of {total} requests refused, {without} done without", problems
 

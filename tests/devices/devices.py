@@ -8,11 +8,13 @@ usage: tests/devices/devices.py PROGRAM
 """
 
 import errno
+import hashlib
 import os
 import sys
 import tempfile
 from concurrent.futures import ThreadPoolExecutor
 from dataclasses import dataclass
+from typing import NamedTuple
 
 sys.dont_write_bytecode = True  # nothing is left in tests/
 sys.path.insert(0, os.path.dirname(os.path.dirname(os.path.abspath(__file__))))
@@ -38,11 +40,27 @@ class Failing:
     piece: int = 0
 
 
-READ_FAULT = Answer(3, b"", b"ReadFault\n")
-REFUSED = Answer(2, b"", b"line 2: StateRange\n")
+class Job(NamedTuple):
+    """The words, what is answered, standard input, and the name of the file where `keys` tells it with a fault."""
+    words: str
+    answer: Answer
+    source: bytes
+    name: bytes = b""
 
-# The words, what is answered, and standard input.
-JOBS = [
+    def refusals(self, reason):
+        """What is answered where a file can't be read, or can't be opened for this reason: in a list of `keys` that may be the list too."""
+        told = Answer(3, b"", self.name + b": " + reason + b"\n")
+        return [READ_FAULT] * (not self.name or "--from" in self.words) + [told] * bool(self.name)
+
+
+READ_FAULT = Answer(3, b"", b"ReadFault\n")
+UNREAD = b"ReadFault: A file can't be opened or read, or the system gives no random bytes."
+UNOPENED = {errno.EACCES: b"permission denied", errno.EMFILE: b"can't be opened"}
+REFUSED = Answer(2, b"", b"line 2: StateRange\n")
+STATE_RANGE = b"bad.rle: line 2: StateRange: A state is above 1 under a B/S rule, or above 255 in a macrocell file.\n"
+PAIR_KEY = hashlib.sha256(PAIR_TEXT).hexdigest().encode()
+
+JOBS = [Job(*job) for job in [
     ("canon pair.mc", Answer(0, PAIR_TEXT), b""),
     ("canon pair.rle", Answer(0, PAIR_TEXT), b""),
     ("canon -", Answer(0, PAIR_TEXT), FILES["pair.rle"]),
@@ -56,7 +74,11 @@ JOBS = [
     ("step spread.rle --table -", Answer(0, SPREAD_STEPPED), FILES["spread.rule"]),
     ("canon bad.rle", REFUSED, b""),
     ("same bad.rle pair.mc", REFUSED, b""),
-]
+    ("keys pair.mc", Answer(0, PAIR_KEY + b"  pair.mc\n"), b"", b"pair.mc"),
+    ("keys -", Answer(0, PAIR_KEY + b"  -\n"), FILES["pair.rle"], b"-"),
+    ("keys --from -", Answer(0, PAIR_KEY + b"  pair.rle\n"), b"pair.rle", b"pair.rle"),
+    ("keys bad.rle", Answer(2, b"", STATE_RANGE), b"", b"bad.rle"),
+]]
 
 
 class Runs:
@@ -76,38 +98,39 @@ class Runs:
 
     def run(self, job, failing):
         """What a job answers, how many of the calls there were, and how many failed."""
-        words, _, source = job
         settings = {"CALL": failing.call, "FIRST": failing.first, "LAST": failing.last, "ERROR": failing.error, "PIECE": failing.piece}
-        found, (calls, failed) = processes.preloaded(self.fail, [self.program, *words.split()], settings, 2, source, cwd=self.here, timeout=60)
+        words = [self.program, *job.words.split()]
+        found, (calls, failed) = processes.preloaded(self.fail, words, settings, 2, job.source, cwd=self.here, timeout=60)
         return found, calls, failed
 
 
-def is_read_fault(found, _failing, _answer):
+def is_read_fault(found, _failing, job):
     """A source that fails is told, whatever the bytes before it say."""
-    return found == READ_FAULT
+    return found in job.refusals(UNREAD)
 
 
-def is_write_fault(found, failing, answer):
+def is_write_fault(found, failing, job):
     """An output that fails is told, behind a front of its text. Where nothing can be told, the status stays."""
+    answer = job.answer
     if not answer.output:
         return found.status == answer.status and not found.output and found.error != answer.error and answer.error.startswith(found.error)
     taken = failing.piece * (failing.first - 1)
     return found == Answer(3, answer.output[:taken], b"" if failing.last > failing.first else b"WriteFault\n")
 
 
-def is_open_fault(found, failing, answer):
+def is_open_fault(found, failing, job):
     """A file that can't be opened is told. An interrupted opening is tried again."""
-    return found == (answer if failing.first <= HELD or failing.error == errno.EINTR else READ_FAULT)
+    return found in ([job.answer] if failing.first <= HELD or failing.error == errno.EINTR else job.refusals(UNOPENED[failing.error]))
 
 
-def is_told_alone(found, _failing, _answer):
+def is_told_alone(found, _failing, _job):
     """Without random bytes nothing is read."""
     return found == READ_FAULT
 
 
-def is_as_ever(found, _failing, answer):
+def is_as_ever(found, _failing, job):
     """The program does without what the call would have told."""
-    return found == answer
+    return found == job.answer
 
 
 # The calls, by what they fail (0: a write takes no byte), in pieces of which sizes, whether all behind fail too, and what a run must be.
@@ -124,10 +147,9 @@ CALLS = [
 
 def problems_of(runs, job, call, errors, piece, more, is_right):
     """How many calls of a name a job makes, and what is wrong where one of them fails."""
-    words, answer, _ = job
     problems = []
     found, total, _ = runs.run(job, Failing(call, piece=piece))
-    if found != answer:
+    if found != job.answer:
         problems.append(f"no failure: {found}")
     for number in range(1, total + 1):
         for error in errors:
@@ -136,7 +158,7 @@ def problems_of(runs, job, call, errors, piece, more, is_right):
                 found, _, failed = runs.run(job, failing)
                 if failed == 0:
                     problems.append(f"{failing}: no call failed")
-                elif not is_right(found, failing, answer):
+                elif not is_right(found, failing, job):
                     problems.append(f"{failing}: {found}")
     return total, problems
 
@@ -146,10 +168,10 @@ def main(program):
         runs = Runs(processes.program_of(program), processes.compiled(SOURCE, os.path.join(folder, "fail.so"), "-shared", "-fPIC"), folder)
         rows = [(job, call, errors, piece, more, is_right) for call, errors, pieces, more, is_right in CALLS for job in JOBS for piece in pieces]
         for row, (total, problems) in zip(rows, pool.map(lambda it: problems_of(runs, *it), rows)):
-            (words, _, _), call, _, piece, _, _ = row
+            job, call, _, piece, _, _ = row
             if total == 0 and call in ("read", "write", "open", "getentropy"):
                 problems = [*problems, "no call was seen"]
-            counting.row(f"{words}: each of {total} calls of {call}" + (f" in pieces of {piece}" if piece else ""), problems[:3])
+            counting.row(f"{job.words}: each of {total} calls of {call}" + (f" in pieces of {piece}" if piece else ""), problems[:3])
         counting.row("no file is touched", [] if runs.state() == runs.before else ["a file was touched"])
     return counting.ended()
 

@@ -61,6 +61,9 @@ if command -v bash > /dev/null; then
     same_words "bash completes formats behind =" "$(completed golly_canon convert --to =; completed golly_canon convert --to = r)" "rle mc"
     same_words "bash completes formats in one word" "$(completed golly_canon convert --to=)" "--to=rle --to=mc"
     same_words "bash completes forms" "$(completed golly_canon canon --form ''; completed golly_canon same --form = t)" "placed moved turned turned"
+    same_words "bash completes forms of keys" "$(completed golly_canon keys a b --form '')" "placed moved turned"
+    same_words "bash completes a list behind =" "$(completed golly_canon keys --from = examples/Wire)" "examples/WireWorld.rule"
+    same_words "bash completes further files" "$(completed golly_canon keys a examples/wi)" "examples/wire.rle"
     same_words "bash completes tables behind =" "$(completed golly_canon step --table = examples/Wire)" "examples/WireWorld.rule"
 fi
 
@@ -89,7 +92,7 @@ for shell in zsh fish; do
     done
 done
 # In zsh a `=` behind the name of an option lets its value stand behind a `=` too; fish always does.
-for option in form to table; do
+for option in form to table from; do
     verdict "zsh takes --$option=" "$(grep -q -e "'--$option=\[" completions/_golly_canon || echo " it doesn't")"
 done
 for file in completions/_golly_canon completions/golly_canon.fish; do
@@ -102,7 +105,9 @@ for format in rle mc; do
     verdict "convert writes $format" "$(printf '[M2]\n' | "$program" convert - --to $format > /dev/null 2>&1 || echo " it doesn't")"
 done
 for form in placed moved turned; do
-    verdict "canon takes $form" "$(printf '[M2]\n' | "$program" canon - --form $form > /dev/null 2>&1 || echo " it doesn't")"
+    for command in canon keys; do
+        verdict "$command takes $form" "$(printf '[M2]\n' | "$program" $command - --form $form > /dev/null 2>&1 || echo " it doesn't")"
+    done
 done
 
 ended

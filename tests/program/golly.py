@@ -13,6 +13,9 @@ accepts, and of N random ones, it compares
 - the macrocell that Golly makes of an RLE: the same cells one row further north;
 - the next generation by the rule or by the rule table, and Golly's: one pattern, but for its place.
 
+Of 200 other random patterns it saves each by Golly in both formats: the two files have one key in the form `moved`, and the program's `keys` tells those
+of all files in one run.
+
 Of a rule table in a zip file it compares the last of these for each pattern beside it. A table that the program refuses as BadVariable is mended by the
 recipe of docs/QUESTIONS.md, and a line that is Ambiguous is split as it stands there.
 
@@ -39,6 +42,8 @@ from shared import counting, processes  # noqa: E402
 QUESTIONS = os.path.join(os.path.dirname(os.path.abspath(__file__)), "../../docs/QUESTIONS.md")
 # The most cells of a pattern that is written as RLE or stepped.
 MOST_CELLS = 2**20
+# How many patterns are saved in both formats.
+SAVED = 200
 LIFE = re.compile(r"B[0-8]*/S[0-8]*V?")
 # What a file of each ending may be refused by.
 REFUSALS = {"rle": {"BoundedGrid", "UnsupportedRule", "BirthOnZero"}, "mc": set(), "mcl": {"NoHeader"}, "lif": {"NoHeader"}}
@@ -298,6 +303,41 @@ def random_patterns(tables, count, seed):
         yield f"random pattern {case} of {rule}", "rle", soup(rng, rule, states)
 
 
+class Saved:
+    """The keys of patterns that Golly saves in both formats."""
+
+    def __init__(self, program, golly, folder):
+        self.program, self.golly, self.folder = program, golly, folder
+
+    def save(self, numbered):
+        """Saves a pattern as NUMBER.rle and NUMBER.mc."""
+        number, (_, _, text) = numbered
+        rule = re.search(rb"rule = (\S+)", text)[1].decode()
+        for ending in ("rle", "mc"):
+            population, made = self.golly.made(text, rule, ending)
+            with open(os.path.join(self.folder, f"{number}.{ending}"), "wb") as it:
+                it.write(made)
+        return population
+
+    def checks(self, pool, patterns):
+        """The names of what was compared, and what is wrong, if anything. A blank pattern has no place, and isn't counted."""
+        populations = list(pool.map(self.save, enumerate(patterns)))
+        names = [f"{number}.{ending}" for number in range(len(patterns)) for ending in ("rle", "mc")]
+        run = processes.run([self.program.path, "keys", "--form", "moved", *names], cwd=self.folder, timeout=300)
+        lines = [line.split("  ") for line in run.output.decode().splitlines()]
+        if run.status or [name for _, name in lines] != names:
+            yield None, f"keys of what Golly saved: status {run.status}, {run.error[:200]!r}, {len(lines)} lines"
+            return
+        for number, ((name, _, _), (one, other)) in enumerate(zip(patterns, zip(lines[::2], lines[1::2]))):
+            if populations[number]:
+                is_one = one[0] == other[0]
+                yield ("one moved key of both formats", None) if is_one else (None, f"{name}: {one} and {other} are what Golly saved")
+        # That the keys tell patterns apart: two of these are the same seldom.
+        keys = {key for key, _ in lines}
+        if 2 * len(keys) < len(patterns):
+            yield None, f"{len(patterns)} patterns have {len(keys)} keys"
+
+
 class Judge:
     """Runs the checks of each pattern."""
 
@@ -360,6 +400,11 @@ def main():
             counting.count(len(done), 0)
             if problem:
                 counting.check(False, problem)
+        with tempfile.TemporaryDirectory() as saved:
+            others = list(random_patterns(tables, SAVED, f"saved {given.seed}"))
+            for what, problem in Saved(judge.program, judge.golly, saved).checks(pool, others):
+                counts.update([what] if what else [])
+                counting.check(not problem, problem)
     for what, count in sorted(counts.items()):
         print(f"ok      {what}: {count}")
     return counting.ended()

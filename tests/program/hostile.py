@@ -643,7 +643,7 @@ STEPS = [
 
 # One for each job.
 EACH_JOB = ["same pair.rle pair.mc", "same pair.rle named.rle", "show pair.rle", "convert pair.mc --to rle", "convert pair.rle --to mc",
-            "step line.rle", "step spread.rle --table spread.rule"]
+            "step line.rle", "step spread.rle --table spread.rule", "keys pair.rle pair.mc", "keys pair.rle --form turned"]
 
 SINKS = [
     *(failing(f"{words} to a full output", words, "WriteFault", by=TO_FULL) for words in EACH_JOB),
@@ -897,7 +897,20 @@ ASKED = [
     asked("an example of show", rb"  golly_canon show glider\.rle", "show", "--help"),
     asked("help convert", rb"^mc   macrocell"),
     *(asked(f"a short help that names {command}", rb"^  %s " % command.encode(), "-h")
-      for command in ("canon", "convert", "same", "show", "step")),
+      for command in ("canon", "convert", "same", "show", "step", "keys")),
+    asked("keys --help", rb"Usage: golly_canon keys \[OPTIONS\] \[FILE\]\.\.\."),
+]
+
+
+# ---- lists of names for `keys` (tests/program/keys.py has the rest)
+
+NAMES = 1_000_000
+LISTS = [
+    Case("a million empty names", "keys --from -", source=[(b"\n", NAMES)]),
+    # Of each name the system is asked, and it is told.
+    Case("a million names of a file that is absent", "keys --from -", 3, (NAMES * "x: no such file\n").removesuffix("\n"), source=[(b"x\n", NAMES)],
+         each=10, seconds=60),
+    Case("a name of a million bytes", "keys --zero --from -", 3, "n" * NAMES + ": can't be opened", source=b"n" * NAMES),
 ]
 
 
@@ -1096,7 +1109,7 @@ TABLES = [
 
 CASES = [
     *FIRST_CASES, *LONG_LINES, *MANY_LINES, *RLE, *DEEP_SQUARES, *DEVICES, *JOBS, *STEPS, *SINKS, *SOURCES, *LONG_TEXTS, *CHANGES, *MISUSED, *DASHES, *ASKED,
-    *LARGE_RLE, *FEW_LINES, *CHOSEN_KEYS, *TABLES, *LONGEST_INPUTS,
+    *LISTS, *LARGE_RLE, *FEW_LINES, *CHOSEN_KEYS, *TABLES, *LONGEST_INPUTS,
 ]
 
 

@@ -1,0 +1,55 @@
+-- For Golly (File, Run Script): tells the key of the open pattern, and which files of a table of keys are that pattern.
+--
+-- It needs the program golly_canon, and a table that it has made, say by
+--     golly_canon keys --form turned ~/patterns/* > ~/keys
+-- These may be set before Golly is started: GOLLY_CANON, the program (if none is named, golly_canon on the PATH); GOLLY_CANON_KEYS, the table (the
+-- file keys in the home folder); and GOLLY_CANON_FORM, the form of its keys (turned: in any place and direction). A key says the generation too, so a
+-- pattern that has run on is another one.
+
+local g = golly()
+
+local program = os.getenv("GOLLY_CANON") or "golly_canon"
+local table_of_keys = os.getenv("GOLLY_CANON_KEYS") or (os.getenv("HOME") or "") .. "/keys"
+local form = os.getenv("GOLLY_CANON_FORM") or "turned"
+
+-- A word as a shell takes it.
+local function quoted(word)
+    return "'" .. word:gsub("'", "'\\''") .. "'"
+end
+
+-- The key of the open pattern, or what the program says of it.
+local function key_of_pattern()
+    local algorithm = g.getalgo()
+    local ending = (algorithm == "QuickLife" or algorithm == "Larger than Life") and "rle" or "mc"
+    local path = g.getdir("temp") .. "golly_canon_key." .. ending
+    g.save(path, ending)
+    local pipe = io.popen(quoted(program) .. " keys --form " .. quoted(form) .. " -- " .. quoted(path) .. " 2>&1")
+    local said = pipe:read("a")
+    pipe:close()
+    os.remove(path)
+    local key = said:match("^(%x+)  ")
+    return key and #key == 64 and key, said
+end
+
+-- The names of the files in the table that have a key.
+local function names_of(key)
+    local names = {}
+    local file, why = io.open(table_of_keys)
+    if not file then g.exit("The table of keys can't be opened: " .. why) end
+    for line in file:lines() do
+        local its, name = line:match("^\\?(%x+)  (.*)$")
+        if its == key then names[#names + 1] = name end
+    end
+    file:close()
+    return names
+end
+
+if g.empty() then g.exit("There is no pattern.") end
+local key, said = key_of_pattern()
+if not key then g.exit("The pattern has no key. " .. said:gsub("%s+$", "")) end
+local names = names_of(key)
+if #names == 0 then
+    g.show("No file of " .. table_of_keys .. " is this pattern (" .. form .. "), whose key is " .. key)
+else
+    g.show("This is the pattern (" .. form .. ") of " .. table.concat(names, ", "))
+end

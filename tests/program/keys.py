@@ -1,0 +1,491 @@
+#!/usr/bin/env python3
+"""Holds the command `keys` of the built program, PROGRAM, to what docs/FORMATS.md says of it. Each key is that which `hashlib.sha256` gives of the
+canonical text of the independent reader in tests/independent, each sentence that of the man page, and each line of a key is also compared with that
+which `sha256sum` writes of a file of that name with that text.
+
+usage: tests/program/keys.py PROGRAM [--cases N] [--seed SEED]
+
+The rows are: forms and the order of files; lists (`--from`), with both ends; odd names; files that are refused, and that can't be opened or read; the
+statuses; outputs that fail; N random files of both formats in one process; and 100,000 names in one process, within bounds of time and memory. It
+needs coreutils from 9.0 on, and GNU time. The last line counts the checks.
+"""
+
+import argparse
+import functools
+import hashlib
+import itertools
+import multiprocessing
+import os
+import re
+import shutil
+import sys
+import tempfile
+
+sys.dont_write_bytecode = True  # nothing is left in tests/
+sys.path.insert(0, os.path.dirname(os.path.dirname(os.path.abspath(__file__))))
+
+import compare  # noqa: E402
+from independent import commands, forms  # noqa: E402
+from independent.rle import rle_text  # noqa: E402
+from independent.squares import cells_of  # noqa: E402
+from shared import counting, processes  # noqa: E402
+from shared.fixtures import FILES, HEADER, LIFE, LONGEST, PAIR_TEXT, ROWS, canonical  # noqa: E402
+from shared.processes import Answer  # noqa: E402
+
+PAGE = os.path.join(os.path.dirname(os.path.abspath(__file__)), "../../docs/golly_canon.1")
+CLOCK = "/usr/bin/time"
+# Of how many names a run is measured, and what it may take: processor time in seconds, and peak memory as a multiple of the list, beside what the
+# start takes.
+NAMES, SECONDS, TIMES, LITTLE = 100_000, 20, 6, 6_000_000
+# Why a file has no key though the program was not let read it.
+ABSENT, LOCKED, FOLDER, OTHER = "no such file", "permission denied", "is a folder", "can't be opened"
+# What a run that is misused answers: a text on standard error.
+MISUSED = Answer(5, b"", None)
+
+
+# ---- what is wanted
+
+
+@functools.cache
+def sentences():
+    """What each kind of fault means, as the man page says it."""
+    with open(PAGE, encoding="utf-8") as it:
+        part = re.search(r'^\.SH "KINDS OF FAULT"$.*?(?=^\.SH FILES)', it.read(), re.MULTILINE | re.DOTALL)[0]
+    found = re.findall(r"^\.TP\n\.B (\w+)\n((?:(?!\.TP|\.SS).*\n)+)", part, re.MULTILINE)
+    return {kind: " ".join(re.sub(r"^\.\w+ +", "", line) for line in text.splitlines()).replace("\\-", "-") for kind, text in found}
+
+
+def told(kind, line=""):
+    """Why a file is refused, as it is told behind its name."""
+    return f"{line}{kind}: {sentences()[kind]}"
+
+
+def escaped(name):
+    """A name without its backslashes and ends of lines."""
+    return name.replace(b"\\", b"\\\\").replace(b"\n", b"\\n").replace(b"\r", b"\\r")
+
+
+def key_line(key, name, is_zero=False):
+    """The line of a key."""
+    if is_zero:
+        return b"%s  %s\0" % (key.encode(), name)
+    return b"%s%s  %s\n" % (b"\\" * (escaped(name) != name), key.encode(), escaped(name))
+
+
+def key_of(text):
+    return hashlib.sha256(text).hexdigest()
+
+
+@functools.cache
+def outcome_of(data, form):
+    """The status of a file alone, and its key, or why it has none. A text in place of the bytes says why it can't be read."""
+    if isinstance(data, str):
+        return 3, data
+    answer = commands.canon(commands.File(data), form)
+    if answer.status == 0:
+        return 0, key_of(answer.output)
+    *line, kind = answer.fault.split()
+    return answer.status, told(kind, " ".join([*line, ""]))
+
+
+def wanted(files, form="placed", is_zero=False):
+    """The answer of a run over files, each a name and its bytes, or why it can't be read."""
+    statuses, output, errors = [0], [], []
+    for name, data in files:
+        status, said = outcome_of(data, form)
+        statuses.append(status)
+        if status == 0:
+            output.append(key_line(said, name, is_zero))
+        else:
+            errors.append(b"%s: %s\n" % (escaped(name), said.encode()))
+    return Answer(max(statuses), b"".join(output), b"".join(errors))
+
+
+def problems_of(found, answer):
+    """What is wrong with an answer."""
+    if answer == MISUSED:
+        return [] if found.status == 5 and not found.output and found.error else [repr(found)]
+    return [f"the {what} is {ours!r:.400} and not {its!r:.400}" for what, ours, its in zip(Answer._fields, found, answer) if ours != its]
+
+
+# ---- a folder with files
+
+
+class Place:
+    """A folder in which the program runs, and the files that were put there."""
+
+    def __init__(self, program, folder):
+        self.program, self.here = program, folder
+        self.files = {}
+
+    def put(self, name, data):
+        """Puts a file there. Its name is bytes."""
+        with open(os.path.join(os.fsencode(self.here), name), "wb") as it:
+            it.write(data)
+        self.files[name] = data
+
+    def run(self, words, source=b"", **how):
+        return processes.run([self.program, "keys", *words], source, cwd=self.here, timeout=300, **how)
+
+    def shell(self, script, source=b"", **how):
+        """What a shell answers, with the program as $program."""
+        settings = {**os.environ, "program": self.program, "LC_ALL": "C"}
+        return processes.run(["bash", "-c", script], source, cwd=self.here, timeout=300, env=settings, **how)
+
+    def wanted(self, names, form="placed", is_zero=False):
+        """The answer of a run over files of the place, or that are absent."""
+        return wanted([(name, self.files.get(name, ABSENT)) for name in names], form, is_zero)
+
+    def row(self, name, words, answer, source=b"", **how):
+        counting.row(name, problems_of(self.run(words, source, **how), answer))
+
+
+def listed(names, end=b"\n"):
+    """A list of names, each with its end."""
+    return b"".join(name + end for name in names)
+
+
+# ---- files, and keys of texts that were worked out by hand
+
+SMALL = {
+    b"pair.rle": FILES["pair.rle"],
+    b"pair.mc": FILES["pair.mc"],
+    b"named.rle": FILES["named.rle"],
+    b"blank": FILES["input"],
+    b"empty": FILES["empty"],
+    b"bad.rle": FILES["bad.rle"],
+    b"child.mc": b"[M2]\n#R B3/S23\n....*$$$$$$$$\n4 0 0 0 9\n",
+    b"many.rle": HEADER + b"%do!\n" % (2**20 + 1),  # more cells than have a moved form
+    b"long": b"[M2]\n#" + b"C" * LONGEST + b"\n",
+    b"glider": b"x = 3, y = 3\nbo$2bo$3o!\n",
+    b"turned": b"#CXRLE Pos=-70,5\nx = 3, y = 3\n3o$o$bo!\n",
+    b"shifted": b"#CXRLE Pos=-7,1000\r\nx = 3, y = 3, rule = 23/3\r\nbo$2bo$3o!\r\n",
+}
+ORDER = b"pair.rle empty pair.mc absent child.mc glider pair.rle long blank many.rle turned shifted bad.rle".split()
+GLIDER = LIFE + b"$$$$.....*$......*$....***$$\n"
+WORKED = [
+    ("placed", b"pair.rle", PAIR_TEXT),
+    ("placed", b"pair.mc", PAIR_TEXT),
+    ("moved", b"pair.rle", LIFE + b"*$$$$$$$$\n4 1 1 0 0\n5 0 0 0 2\n"),
+    ("turned", b"pair.mc", LIFE + b"*$$$$$$$$\n4 1 0 1 0\n5 0 0 0 2\n"),
+    ("placed", b"blank", LIFE),
+    ("turned", b"blank", LIFE),
+    ("placed", b"named.rle", canonical(b"Life") + b"1 0 0 0 1\n"),
+    ("placed", b"glider", GLIDER),
+    ("moved", b"shifted", GLIDER),
+]
+# What a fault is told as, also worked out by hand.
+REFUSED = [
+    (b"child.mc", 2, b"child.mc: line 4: BadChild: A quarter of a square is no earlier square of the level below.\n"),
+    (b"empty", 2, b"empty: line 1: NoHeader: The file begins with no header, neither [M2] nor x = .., or it ends before one.\n"),
+    (b"bad.rle", 2, b"bad.rle: line 2: StateRange: A state is above 1 under a B/S rule, or above 255 in a macrocell file.\n"),
+    (b"long", 2, b"long: line 2: LineTooLong: A line of the file, or of the rule table, has more than 2^20 bytes.\n"),
+    (b"absent", 3, b"absent: no such file\n"),
+    (b".", 3, b".: is a folder\n"),
+    (b"", 3, b": no such file\n"),
+    (b"blank/", 3, b"blank/: can't be opened\n"),
+    (b"blank/x", 3, b"blank/x: can't be opened\n"),
+    (b"none/x", 3, b"none/x: no such file\n"),
+    (b"loop", 3, b"loop: can't be opened\n"),
+    (b"n" * 300, 3, b"n" * 300 + b": can't be opened\n"),
+]
+TOO_MANY = b"many.rle: TooManyCells: More than 2^20 cells aren't 0: too many for convert --to rle, for step, and for the forms moved and turned.\n"
+
+
+def form_rows(place):
+    for form, name, text in WORKED:
+        place.row(f"{name.decode()}, {form}, by hand", ["--form", form, name], Answer(0, key_line(key_of(text), name)))
+    place.row("no form", ORDER, place.wanted(ORDER))
+    for form in ("placed", "moved", "turned"):
+        answer = place.wanted(ORDER, form)
+        place.row(f"the files in their order, {form}", [*ORDER, "--form", form], answer)
+        place.row(f"the same, with the form behind a =, {form}", [f"--form={form}", *ORDER], answer)
+        place.row(f"the same, ended by NULs, {form}", ["--zero", *ORDER, "--form", form], place.wanted(ORDER, form, is_zero=True))
+    for form, count in (("placed", 3), ("moved", 2), ("turned", 1)):
+        keys = {line[:64] for line in place.run(["--form", form, "glider", "shifted", "turned"]).output.splitlines()}
+        counting.row(f"keys of a glider, one that was moved, and one that was turned, {form}", [repr(keys)] if len(keys) != count else [])
+
+
+def refused_rows(place):
+    os.symlink("loop", os.path.join(place.here, "loop"))
+    for name, status, error in REFUSED:
+        place.row(f"{name[:20].decode()!r} is told", [name], Answer(status, b"", error))
+        line = key_line(key_of(PAIR_TEXT), b"pair.rle")
+        place.row(f"{name[:20].decode()!r} is passed over", ["pair.rle", name, "pair.rle"], Answer(status, line + line, error))
+    for form in ("moved", "turned"):
+        place.row(f"too many cells, {form}", ["many.rle", "--form", form], Answer(2, b"", TOO_MANY))
+    for name, names in (("first", [b"absent", b"child.mc", b"pair.rle"]), ("last", [b"pair.rle", b"child.mc", b"absent"])):
+        place.row(f"the greater status comes {name}", names, place.wanted(names)._replace(status=3))
+    os.mkdir(os.path.join(place.here, "locked"), 0)
+    place.put(b"unread", PAIR_TEXT)
+    os.chmod(os.path.join(place.here, "unread"), 0)
+    names = [b"unread", b"locked/x", b"pair.mc"]
+    answer = wanted([(b"unread", LOCKED), (b"locked/x", LOCKED), (b"pair.mc", SMALL[b"pair.mc"])])
+    # Root may read every file, so root tries this one as nobody.
+    place.row("files that may not be read", names, answer, **({"user": 65534, "group": 65534, "extra_groups": []} if os.getuid() == 0 else {}))
+
+
+def standard_input_rows(place):
+    answer = wanted([(b"pair.mc", SMALL[b"pair.mc"]), (b"-", SMALL[b"glider"]), (b"blank", SMALL[b"blank"])])
+    place.row("- is standard input", ["pair.mc", "-", "blank"], answer, SMALL[b"glider"])
+    place.row("- is standard input behind --", ["--", "pair.mc", "-", "blank"], answer, SMALL[b"glider"])
+    place.row("a refused standard input", ["-", "blank"], wanted([(b"-", b"o!\n"), (b"blank", SMALL[b"blank"])]), b"o!\n")
+    answer = wanted([(b"blank", SMALL[b"blank"]), (b"-", FOLDER)])
+    counting.row("a folder as standard input", problems_of(place.shell('"$program" keys blank - < .'), answer))
+    for words in (["-", "-"], ["-", "--from", "-"], ["--from", "-", "blank", "-"], ["-", "blank", "-", "absent"]):
+        place.row(f"standard input twice: {' '.join(words)}", words, Answer(5, b"", b"TwoInputs\n"), SMALL[b"blank"])
+
+
+# ---- lists
+
+
+def list_rows(place):
+    for form, end, more in itertools.product(("placed", "turned"), (b"\n", b"\0"), ([], ["glider", "child.mc"])):
+        is_zero = end == b"\0"
+        words = ["--form", form, *more, *(["--zero"] if is_zero else [])]
+        answer = place.wanted([*map(str.encode, more), *ORDER], form, is_zero)
+        name = f"{form}, ends {end!r}, {len(more)} files before"
+        place.put(b"list", listed(ORDER, end))
+        place.row(f"a list: {name}", ["--from", "list", *words], answer)
+        place.row(f"a list from standard input: {name}", [*words, "--from", "-"], answer, listed(ORDER, end))
+        place.row(f"a list whose last name has no end: {name}", [*words, "--from=-"], answer, listed(ORDER, end)[:-1])
+        place.row(f"empty names in a list: {name}", [*words, "--from", "-"], answer, end * 3 + listed(ORDER, end + end))
+    place.row("an empty list", ["--from", "-"], Answer(0))
+    place.row("a list of ends", ["--from", "-"], Answer(0), b"\n\n\n")
+    place.row("an empty list behind a file", ["blank", "--from", "-"], place.wanted([b"blank"]))
+    place.put(b"-", SMALL[b"glider"])
+    place.row("the file - in a list", ["--from", "-"], place.wanted([b"-", b"blank", b"-"]), b"-\nblank\n-\n")
+    place.put(b"dash", b"-\n")
+    answer = wanted([(b"-", SMALL[b"blank"]), (b"-", SMALL[b"glider"])])
+    place.row("the file - in a list, and standard input", ["-", "--from", "dash"], answer, SMALL[b"blank"])
+    place.put(b"itself", b"itself\nblank\n")
+    place.row("a list that names itself", ["--from", "itself"], place.wanted([b"itself", b"blank"]))
+    # A list that is a pattern: its first name is that of the header.
+    place.put(b"[M2]", SMALL[b"glider"])
+    place.put(b"#itself", b"[M2]\n#itself\n")
+    place.row("a list that is a pattern and names itself", ["--from", "#itself"], place.wanted([b"[M2]", b"#itself"]))
+    place.row("a name of an LF list with a CR behind it", ["--from", "-"], wanted([(b"blank\r", ABSENT)]), b"blank\r\n")
+    answer = wanted([(b"blank\0x", OTHER), (b"blank", SMALL[b"blank"])])
+    place.row("a name of an LF list with a NUL in it", ["--from", "-"], answer, b"blank\0x\nblank\n")
+    place.row("an option in a list is a name", ["--from", "-"], wanted([(b"--zero", ABSENT), (b"--", ABSENT)]), b"--zero\n--\n")
+    for name, words in (("absent", ["--from", "absent"]), ("a folder", ["--from", "."]), ("absent, behind a file", ["blank", "--from", "absent"])):
+        place.row(f"a list that can't be read: {name}", words, Answer(3, b"", b"ReadFault\n"))
+
+
+# ---- names
+
+ODD = [b"back\\slash", b"line\nfeed", b"carriage\rreturn", b"tab\tname", "\u00e9t\u00e9 \u4e2d\u6587 \U0001f600".encode(), b" spaces ", b"*star",
+       b"\\", b"\n", b"\\n", b"'quoted'", b'"both"', b"$(no)", b"-dash", b"--form", b"\x1b[31m", b"a" * 255, b"x\n\n\r\\y"]
+NO_TEXT = [b"\xff", b"caf\xe9", b"a\xffb\nc\\", b"\xed\xa0\x80"]
+
+
+def name_rows(place, texts):
+    """Names that are odd, also beside what `sha256sum` writes of files of these names in another folder, which hold the canonical texts."""
+    contents = itertools.cycle([SMALL[b"pair.rle"], SMALL[b"glider"], SMALL[b"pair.mc"]])
+    for name, data in zip([*ODD, *NO_TEXT], contents):
+        place.put(name, data)
+        with open(os.path.join(os.fsencode(texts), name), "wb") as it:
+            it.write(commands.canon(commands.File(data)).output)
+    for is_zero in (False, True):
+        words = [*(["--zero"] if is_zero else []), "--", *ODD]
+        answer = place.wanted(ODD, is_zero=is_zero)
+        theirs = processes.run(["sha256sum", *words], cwd=texts)
+        how = "ended by NULs" if is_zero else "ended by LFs"
+        place.row(f"odd names, {how}", words, answer)
+        counting.row(f"the lines of sha256sum, {how}", problems_of(theirs, answer))
+        missing = [name + b"?" for name in ODD if len(name) < 255]
+        place.row(f"odd names that are absent, {how}", [*words[:-len(ODD)], *missing], wanted([(name, ABSENT) for name in missing]))
+    place.row("odd names in a list", ["--zero", "--from", "-"], place.wanted(ODD, is_zero=True), listed(ODD, b"\0"))
+    simple = [name for name in ODD if b"\n" not in name]
+    place.row("odd names in a list of lines", ["--from", "-"], place.wanted(simple), listed(simple))
+    names = [NO_TEXT[0], ODD[0], *NO_TEXT[1:], ODD[4]]
+    files = [(name, OTHER if name in NO_TEXT else place.files[name]) for name in names]
+    place.row("names in a list that are no UTF-8", ["--zero", "--from", "-"], wanted(files, is_zero=True), listed(names, b"\0"))
+    place.row("a word that is no UTF-8", ["pair.rle", NO_TEXT[0]], MISUSED)
+
+
+# ---- words
+
+MISUSES = [
+    ("no file", []), ("no file, but a form", ["--form", "moved"]), ("no file, but NULs", ["--zero"]),
+    ("a form that isn't there", ["--form", "still", "blank"]), ("a form twice", ["--form", "moved", "--form", "moved", "blank"]),
+    ("a list without its name", ["blank", "--from"]),
+    ("a list twice", ["--from", "blank", "--from", "blank"]), ("an option of another command", ["blank", "--to", "mc"]),
+    ("an option that isn't there", ["blank", "--fast"]), ("a value for --zero", ["--zero=yes", "blank"]),
+]
+
+
+def word_rows(place):
+    for name, words in MISUSES:
+        place.row(name, words, MISUSED)
+    for words in (["--help"], ["-h"]):
+        found = place.run(words)
+        right = found.status == 0 and not found.error and b"Usage: golly_canon keys [OPTIONS]" in found.output
+        counting.row(f"keys {words[0]}", [] if right else [repr(found)[:300]])
+
+
+# ---- devices and files that change
+
+
+def leaves(count):
+    """A macrocell file with as many different leaves."""
+    lines = (b"".join(ROWS[byte] for byte in number.to_bytes(8, "big")) for number in range(1, count + 1))
+    return b"[M2]\n" + b"\n".join(lines) + b"\n"
+
+
+PAIR, BLANK = key_line(key_of(PAIR_TEXT), b"pair.mc"), key_line(key_of(LIFE), b"blank")
+MEMORY = b"large: Memory: Memory was refused.\n"
+WRITE_FAULT = Answer(3, b"", b"WriteFault\n")
+# Scripts of bash, and what they answer.
+DEVICES = [
+    ("a full output", '"$program" keys pair.mc blank > /dev/full', WRITE_FAULT),
+    ("a full output behind a refused file", '"$program" keys absent pair.mc > /dev/full', Answer(3, b"", REFUSED[4][2] + b"WriteFault\n")),
+    ("a closed output", '"$program" keys pair.mc blank >&-', WRITE_FAULT),
+    ("a closed output that nothing is written to", '"$program" keys absent >&-', Answer(3, b"", REFUSED[4][2])),
+    ("a full standard error", '"$program" keys absent pair.mc 2> /dev/full', Answer(3, PAIR)),
+    ("a closed standard error", '"$program" keys child.mc pair.mc 2>&-', Answer(2, PAIR)),
+    ("a list from a closed standard input", '"$program" keys --from - <&-', Answer(3, b"", b"ReadFault\n")),
+    ("a closed standard input that isn't read", '"$program" keys pair.mc <&-', Answer(0, PAIR)),
+    ("a pipe by its name", 'mkfifo pipe; cat pair.mc > pipe & "$program" keys pipe blank; status=$?; rm pipe; exit $status',
+     Answer(0, PAIR.replace(b"pair.mc", b"pipe") + BLANK)),
+    ("a list that is a pipe", 'mkfifo pipe; echo blank > pipe & "$program" keys pair.mc --from pipe; status=$?; rm pipe; exit $status',
+     Answer(0, PAIR + BLANK)),
+    # The program waits in the pipe, and takes what comes behind it as it is then.
+    ("a file that is removed while the run waits", """mkfifo pipe; cp blank gone
+        "$program" keys pipe gone put blank & exec 3> pipe; rm gone pipe; cp blank put
+        cat pair.mc >&3; exec 3>&-; wait $!; status=$?; rm put; exit $status""",
+     Answer(3, PAIR.replace(b"pair.mc", b"pipe") + BLANK.replace(b"blank", b"put") + BLANK, b"gone: no such file\n")),
+    ("a list is read whole before a file is opened", """cp blank late; { echo late; rm late; echo pair.mc; } | "$program" keys --from -""",
+     Answer(3, PAIR, b"late: no such file\n")),
+    ("a file for which there is no memory", 'ulimit -v 12000; "$program" keys pair.mc large blank', Answer(4, PAIR + BLANK, MEMORY)),
+    ("the greatest status", 'ulimit -v 12000; "$program" keys child.mc large absent blank', Answer(4, BLANK, REFUSED[0][2] + MEMORY + REFUSED[4][2])),
+    ("a file of more than 2^30 bytes", 'truncate -s 1073741825 huge; "$program" keys pair.mc huge blank; status=$?; rm huge; exit $status',
+     Answer(2, PAIR + BLANK, b"huge: InputTooLong: A file has more than 2^30 bytes.\n")),
+]
+
+
+def device_rows(place):
+    place.put(b"large", leaves(400_000))
+    for name, script, answer in DEVICES:
+        counting.row(name, problems_of(place.shell(script), answer))
+    # More lines than a pipe holds.
+    names = [b"pair.mc", b"absent"] * 20_000
+    place.put(b"list", listed(names))
+    found = place.shell('"$program" keys --from list | head -n 1; exit ${PIPESTATUS[0]}')
+    right = (found.status, found.output) == (3, PAIR) and re.fullmatch(rb"(absent: no such file\n)*WriteFault\n", found.error)
+    counting.row("a reader that leaves after a line", [] if right and len(found.error) < 400_000 else [repr(found)[:300]])
+
+
+# ---- random files
+
+MOST_TURNED = 2**9  # cells of a pattern that the reader turns without taking long
+
+
+def image_of(data, number):
+    """The file of a turned, reflected and shifted image of a pattern, or the same file where that is refused or large."""
+    file = commands.File(data)
+    if isinstance(file.reading, commands.Fault) or not 0 < file.pattern.plane.population <= MOST_TURNED:
+        return data
+    image = list(forms.images(cells_of(file.pattern.plane)))[number % 8]
+    cells = sorted(forms.moved(image), key=lambda cell: (cell[1], cell[0]))
+    return rle_text(file.pattern.rule, file.pattern.generation, cells)
+
+
+def random_pattern(seed, number):
+    """A random file of either format, about a third of them refused. Of five files one is the one before in another spelling, and one is an image."""
+    place = number % 5
+    case = compare.random_case(seed, number - max(0, place - 2))
+    if place == 3 and case.respelling is not None:
+        return case.respelling
+    return image_of(case.pattern, number) if place == 4 else case.pattern
+
+
+def random_outcomes(given):
+    """A random file, and its outcome in each form, or None where the reader would take long."""
+    data = random_pattern(*given)
+    is_slow = compare.is_slow(commands.File(data), MOST_TURNED)
+    return data, {form: None if is_slow and form != "placed" else outcome_of(data, form) for form in ("placed", "moved", "turned")}
+
+
+def random_rows(place, seed, count):
+    with multiprocessing.Pool() as pool:
+        found = pool.map(random_outcomes, [(seed, number) for number in range(count)], 8)
+    files = {b"%d.%s" % (number, b"mc" if data.startswith(b"[M2]") else b"rle"): (data, outcomes) for number, (data, outcomes) in enumerate(found)}
+    for name, (data, _) in files.items():
+        place.put(name, data)
+    counts = []
+    for form in ("placed", "moved", "turned"):
+        named = {name: outcomes[form] for name, (_, outcomes) in files.items() if outcomes[form] is not None}
+        answer = Answer(
+            max(status for status, _ in named.values()),
+            b"".join(key_line(said, name) for name, (status, said) in named.items() if status == 0),
+            b"".join(b"%s: %s\n" % (name, said.encode()) for name, (status, said) in named.items() if status),
+        )
+        run = place.run(["--form", form, "--from", "-"], listed(named))
+        keys, lines, their = answer.output.splitlines(), run.output.splitlines(), set(run.error.splitlines())
+        wrong = [line for line in keys if line not in lines] + [line for line in answer.error.splitlines() if line not in their]
+        different = len({line[:64] for line in keys})
+        problems = problems_of(run, answer) + [repr(it) for it in wrong[:3]]
+        counting.row(f"{len(named)} random files, {form}: {len(keys)} keys, {different} different", problems)
+        counts.append(different)
+        counting.row(f"some of them are refused and some doubles, {form}", [] if different < len(keys) < len(named) else ["they are not"])
+        double = [line for line in sorted(keys) if sum(other[:64] == line[:64] for other in keys) > 1]
+        found = place.shell(f'"$program" keys --form {form} --from - 2> told | sort | uniq -w 64 -D', listed(named))
+        counting.row(f"their doubles by uniq, {form}", problems_of(found, Answer(0, b"".join(line + b"\n" for line in double))))
+    counting.row("some of them are moved and some turned", [] if counts[0] > counts[1] > counts[2] else [repr(counts)])
+
+
+# ---- many names
+
+
+def many_rows(place, measured):
+    """A list of many names of few files, and what it takes."""
+    names = [name for name in SMALL if name not in (b"long", b"many.rle")]
+    few = [names[number % len(names)] for number in range(NAMES)]
+    answer = wanted([(name, SMALL[name]) for name in few])
+    place.put(b"list", listed(few))
+    words = [CLOCK, "-q", "-f", "%e %M %U %S", "-o", measured, place.program, "keys", "--from", "list"]
+    found = processes.run(words, cwd=place.here, timeout=300)
+    counting.row(f"{NAMES} names of {len(names)} files", problems_of(found, answer))
+    with open(measured, encoding="utf-8") as it:
+        elapsed, kilobytes, user, system = map(float, it.read().split())
+    bound = LITTLE + TIMES * len(listed(few))
+    took = f": {elapsed} s, {user + system:.2f} s of processor time, {kilobytes / 1024:.1f} MB"
+    counting.row("the time that they take", [] if user + system < SECONDS else [took], took)
+    counting.row("the memory that they take", [] if 1024 * kilobytes < bound else [f"{took}, and {bound} bytes are the bound"], took)
+
+
+def main():
+    parser = argparse.ArgumentParser(description=__doc__, formatter_class=argparse.RawDescriptionHelpFormatter)
+    parser.add_argument("program")
+    parser.add_argument("--cases", type=int, default=500)
+    parser.add_argument("--seed", default="1")
+    options = parser.parse_args()
+    if not os.access(CLOCK, os.X_OK):
+        sys.exit(f"there is no program {CLOCK}: apt-get install time")
+    with tempfile.TemporaryDirectory() as folder:
+        os.chmod(folder, 0o755)
+        program = shutil.copy(processes.program_of(options.program), os.path.join(folder, "golly_canon"))
+        os.chmod(program, 0o755)
+        places = []
+        for name in ("small", "odd", "random", "texts"):
+            os.mkdir(os.path.join(folder, name), 0o755)
+            places.append(Place(program, os.path.join(folder, name)))
+        small, odd, some, texts = places
+        for name, data in SMALL.items():
+            small.put(name, data)
+            odd.put(name, data)
+        form_rows(small)
+        refused_rows(small)
+        standard_input_rows(small)
+        list_rows(small)
+        name_rows(odd, texts.here)
+        word_rows(small)
+        device_rows(small)
+        random_rows(some, options.seed, options.cases)
+        many_rows(small, os.path.join(folder, "measured"))
+    return counting.ended()
+
+
+if __name__ == "__main__":
+    sys.exit(main())
