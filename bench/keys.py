@@ -103,8 +103,9 @@ def main(words):
     row("`sha256sum` of the files' bytes, by `xargs`", ["xargs", "-0", "sha256sum", "--zero"], folder, all_names, files=count)
     few = min(count, FEW)
     row(f"a process for each file ({few:,} of them, scaled)", ["xargs", "-0", "-n", "1", program, "keys"], folder, few_names, count / few, count)
-    if os.path.exists(os.path.join(TOP, "out", "library", "libgolly_canon.so")):
-        where = {**os.environ, "PYTHONPATH": os.path.join(TOP, "python")}
+    library = os.path.join(TOP, "out", "library", "libgolly_canon.so")
+    if os.path.exists(library):
+        where = {**os.environ, "PYTHONPATH": os.path.join(TOP, "python"), "GOLLY_CANON_LIBRARY": library}
         for form in ("placed", "turned"):
             found = row(f"the Python module, {form}", [sys.executable, "-c", MODULE, all_names, form], folder, all_names, files=count, env=where)
             if found != keys[form]:
