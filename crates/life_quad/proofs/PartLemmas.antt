@@ -117,8 +117,8 @@ part_is south low y west (p ∷ band) w =
 
 four_parts : (row west : ℤ) (band : List Piece) → IsBand 2 west band
     → (part_cells false false row band ++ part_cells false true (row +ℤ pos 1) band)
-        ++ (part_cells true false (row +ℤ pos 2) band ++ part_cells true true ((row +ℤ pos 2) +ℤ pos 1) band)
-        ≡ band_cells 2 row band
+    ++ (part_cells true false (row +ℤ pos 2) band ++ part_cells true true ((row +ℤ pos 2) +ℤ pos 1) band)
+    ≡ band_cells 2 row band
 four_parts row west band w =
     let row_at = λ (south low : Bool) (y : ℤ). sym (part_is south low y west band w) in
     λ i.
