@@ -166,12 +166,13 @@ uncompared_so limit first second told (comparing.by_fault fault status line none
 -- a status that is no fault's is that of the canonical text
 pub text_so : FilesAreUnique 62 → (file text : List ℕ) {IsFault : Fault → Type 0} (before after : List ℕ) (told : Told) → IsCanonical 62 file text
     → Answers (LayerText file) IsFault before after told → IsOfText told.status → Gives text before after told
-text_so unique file text before after told c (by_text t is gives none) ok = subst (λ (it : List ℕ). Gives it before after told) (one_text unique file t text is.0 c) gives
+text_so unique file text before after told c (by_text t is gives none) ok =
+    subst (λ (it : List ℕ). Gives it before after told) (one_text unique file t text is.0 c) gives
 text_so unique file text before after told c (by_fault fault why tells) ok = no_text told.status fault.kind tells.status ok
 
 -- the lines count the node lines of the canonical text
-pub counted_so : FilesAreOnPlane 62 → FilesAreUnique 62 → TextsAreFiles 62 → (file text : List ℕ) {IsFault : Fault → Type 0} (before after : List ℕ) (told : Told)
-    → IsCanonical 62 file text → Answers (IsShown 62 file) IsFault before after told → IsOfText told.status
+pub counted_so : FilesAreOnPlane 62 → FilesAreUnique 62 → TextsAreFiles 62 → (file text : List ℕ) {IsFault : Fault → Type 0}
+    (before after : List ℕ) (told : Told) → IsCanonical 62 file text → Answers (IsShown 62 file) IsFault before after told → IsOfText told.status
     → (lines : List ℕ) × Gives lines before after told × ((pattern : Pattern) × (pattern_of file ≡ Ok pattern) × AreLines pattern (node_lines text) lines)
 counted_so on_plane unique files file text before after told c (by_text lines is gives none) ok =
     (lines, gives, shown_is on_plane unique files file lines text is c)
@@ -199,8 +200,8 @@ one_copy s t before after told g h ok = by g.1 h.1
 
 -- a text that is its own canonical text is so where it stands in the memory
 pub fixed_so : {IsText : List ℕ → Type 0} {IsFault : Fault → Type 0} (text again : List ℕ) (before after : List ℕ) (told : Told)
-    → ((it : List ℕ) → IsText it → IsCanonical 62 it again → it ≡ again) → Answers IsText IsFault before after told → told.status ≡ 0 → Gives text before after told
-    → IsCanonical 62 text again → again ≡ text
+    → ((it : List ℕ) → IsText it → IsCanonical 62 it again → it ≡ again) → Answers IsText IsFault before after told → told.status ≡ 0
+    → Gives text before after told → IsCanonical 62 text again → again ≡ text
 fixed_so text again before after told fixed (by_text it is gives none) ok here c =
     let same : it ≡ text = one_copy it text before after told gives here ok in
     sym (fixed it is (subst (λ (bytes : List ℕ). IsCanonical 62 bytes again) (sym same) c)) ∙ same
