@@ -1,7 +1,8 @@
 //! The call that compares two files.
 
-ghost use Rattle.library_calls.specs.Comparing.{ComparesWithin};
+ghost use Rattle.library_calls.specs.Comparing.{ComparesWithin, compared};
 
+use crate::telling::tell_compared;
 use library_calls::same;
 use std::alloc::Global;
 
@@ -16,7 +17,8 @@ pub extern "C" fn golly_canon_same(
     is_same: &mut u32,
     line: &mut u64,
 ) -> u32
-    ensures { ComparesWithin limit first.now second.now (record { status = result; is_same = is_same.new; line = line.new }) }
+    ensures { ComparesWithin limit first.now second.now (compared result is_same.new line.new) }
 {
-    same(alloc, first, second, limit, seed, is_same, line)
+    let answer = same(alloc, first, second, limit, seed);
+    tell_compared(answer, is_same, line)
 }

@@ -1,10 +1,12 @@
 //! The calls on the form of a pattern: where it lies, moved, or turned.
 
 ghost use Rattle.std.specs.Prelude.{MatchOption};
+ghost use Rattle.library_calls.specs.Comparing.{compared};
 ghost use Rattle.library_calls.specs.ComparingInForm.{ComparesInForm, ComparesInNone};
 ghost use Rattle.library_calls.specs.InForm.{form_numbered, IsKeyInForm, IsTextInForm, RefusesInForm, TellsNoForm};
-ghost use Rattle.library_calls.specs.Told.{Answers};
+ghost use Rattle.library_calls.specs.Told.{Answers, told};
 
+use crate::telling::{tell, tell_compared};
 use library_calls::{canon_form, key, same_form};
 use std::alloc::Global;
 
@@ -20,10 +22,14 @@ pub extern "C" fn golly_canon_canon_form(
     needed: &mut usize,
     line: &mut u64,
 ) -> u32
-    ensures { MatchOption (form_numbered form) (TellsNoForm line.new (record { before = out.old; after = out.new; needed = needed.new; status = result }))
-        (λ form. Answers (IsTextInForm form bytes.now) (RefusesInForm form limit bytes.now) line.new (record { before = out.old; after = out.new; needed = needed.new; status = result })) }
+    ensures { MatchOption (form_numbered form) (TellsNoForm out.old out.new (told result needed.new line.new))
+        (λ form. Answers (IsTextInForm form bytes.now) (RefusesInForm form limit bytes.now) out.old out.new (told result needed.new line.new)) }
 {
-    canon_form(alloc, bytes, form, limit, seed, out, needed, line)
+    tell(
+        canon_form(alloc, bytes, form, limit, seed, out),
+        needed,
+        line,
+    )
 }
 
 /// The key of the pattern of a file of either format, in the form with this number: the SHA-256 of the text that `golly_canon_canon_form` gives.
@@ -38,10 +44,10 @@ pub extern "C" fn golly_canon_key(
     needed: &mut usize,
     line: &mut u64,
 ) -> u32
-    ensures { MatchOption (form_numbered form) (TellsNoForm line.new (record { before = out.old; after = out.new; needed = needed.new; status = result }))
-        (λ form. Answers (IsKeyInForm form bytes.now) (RefusesInForm form limit bytes.now) line.new (record { before = out.old; after = out.new; needed = needed.new; status = result })) }
+    ensures { MatchOption (form_numbered form) (TellsNoForm out.old out.new (told result needed.new line.new))
+        (λ form. Answers (IsKeyInForm form bytes.now) (RefusesInForm form limit bytes.now) out.old out.new (told result needed.new line.new)) }
 {
-    key(alloc, bytes, form, limit, seed, out, needed, line)
+    tell(key(alloc, bytes, form, limit, seed, out), needed, line)
 }
 
 /// Whether two files, each of either format, are one pattern in the form with this number: 1 or 0 in `is_same`. A refusal leaves 0 there.
@@ -56,8 +62,9 @@ pub extern "C" fn golly_canon_same_form(
     is_same: &mut u32,
     line: &mut u64,
 ) -> u32
-    ensures { MatchOption (form_numbered form) (ComparesInNone (record { status = result; is_same = is_same.new; line = line.new }))
-        (λ form. ComparesInForm form limit first.now second.now (record { status = result; is_same = is_same.new; line = line.new })) }
+    ensures { MatchOption (form_numbered form) (ComparesInNone (compared result is_same.new line.new))
+        (λ form. ComparesInForm form limit first.now second.now (compared result is_same.new line.new)) }
 {
-    same_form(alloc, first, second, form, limit, seed, is_same, line)
+    let answer = same_form(alloc, first, second, form, limit, seed);
+    tell_compared(answer, is_same, line)
 }

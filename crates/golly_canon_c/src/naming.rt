@@ -3,7 +3,7 @@
 ghost use Rattle.std.specs.Prelude.{◌≡◌, ◌≢◌, ◌==◌, [], codes, find};
 ghost use Rattle.life_base.specs.declared.kind.Kind.{Kind as KindValue};
 ghost use Rattle.life_base.specs.Kinds.{kind_number, kind_name};
-ghost use Rattle.library_calls.specs.Told.{Gives};
+ghost use Rattle.library_calls.specs.Told.{Gives, told};
 ghost use Rattle.golly_canon_c.specs.Naming.{status_name};
 
 use library_calls::{NO_FORM, NO_ROOM, give};
@@ -82,22 +82,31 @@ fn name_of(number: u32) -> &'static [u8]
     }
 }
 
+/// Gives a name, and puts its length into `needed`. The answer is the status.
+fn tell_name(name: &[u8], out: &mut [u8], needed: &mut usize) -> u32
+    ensures { Gives name.now out.old out.new (told result needed.new 0) }
+{
+    let answer = give(name, out);
+    *needed = answer.needed;
+    answer.status
+}
+
 /// The name of a status: `OK`, `NoRoom`, `NoForm`, the name of the kind of fault, and no byte for a number that no call answers.
 #[unsafe(no_mangle)]
 pub extern "C" fn golly_canon_status_name(number: u32, out: &mut [u8], needed: &mut usize) -> u32
-    ensures kind { (kind : KindValue) → number ≡ kind_number kind → Gives (kind_name kind) (record { before = out.old; after = out.new; needed = needed.new; status = result }) }
-    ensures ok { number ≡ 0 → Gives (codes "OK") (record { before = out.old; after = out.new; needed = needed.new; status = result }) }
-    ensures no_room { number ≡ 64 → Gives (codes "NoRoom") (record { before = out.old; after = out.new; needed = needed.new; status = result }) }
-    ensures no_form { number ≡ 65 → Gives (codes "NoForm") (record { before = out.old; after = out.new; needed = needed.new; status = result }) }
-    ensures none { number ≢ 0 → number ≢ 64 → number ≢ 65 → ((kind : KindValue) → number ≢ kind_number kind) → Gives [] (record { before = out.old; after = out.new; needed = needed.new; status = result }) }
+    ensures kind { (kind : KindValue) → number ≡ kind_number kind → Gives (kind_name kind) out.old out.new (told result needed.new 0) }
+    ensures ok { number ≡ 0 → Gives (codes "OK") out.old out.new (told result needed.new 0) }
+    ensures no_room { number ≡ 64 → Gives (codes "NoRoom") out.old out.new (told result needed.new 0) }
+    ensures no_form { number ≡ 65 → Gives (codes "NoForm") out.old out.new (told result needed.new 0) }
+    ensures none { number ≢ 0 → number ≢ 64 → number ≢ 65 → ((kind : KindValue) → number ≢ kind_number kind) → Gives [] out.old out.new (told result needed.new 0) }
 {
-    give(name_of(number), out, needed)
+    tell_name(name_of(number), out, needed)
 }
 
 /// The version of the library, which is that of the program.
 #[unsafe(no_mangle)]
 pub extern "C" fn golly_canon_version(out: &mut [u8], needed: &mut usize) -> u32
-    ensures { Gives (codes "0.2.0") (record { before = out.old; after = out.new; needed = needed.new; status = result }) }
+    ensures { Gives (codes "0.2.0") out.old out.new (told result needed.new 0) }
 {
-    give(VERSION, out, needed)
+    tell_name(VERSION, out, needed)
 }

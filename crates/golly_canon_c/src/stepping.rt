@@ -1,9 +1,10 @@
 //! The calls that step a pattern.
 
 ghost use Rattle.library_calls.specs.Stepping.{RefusesStepWithin, StepsByTable};
-ghost use Rattle.library_calls.specs.Told.{Answers};
+ghost use Rattle.library_calls.specs.Told.{Answers, told};
 ghost use Rattle.life_step.specs.Stepped.{IsStepped};
 
+use crate::telling::tell;
 use library_calls::{step, step_by_table};
 use std::alloc::Global;
 
@@ -18,9 +19,9 @@ pub extern "C" fn golly_canon_step(
     needed: &mut usize,
     line: &mut u64,
 ) -> u32
-    ensures { Answers (IsStepped bytes.now) (RefusesStepWithin limit bytes.now) line.new (record { before = out.old; after = out.new; needed = needed.new; status = result }) }
+    ensures { Answers (IsStepped bytes.now) (RefusesStepWithin limit bytes.now) out.old out.new (told result needed.new line.new) }
 {
-    step(alloc, bytes, limit, seed, out, needed, line)
+    tell(step(alloc, bytes, limit, seed, out), needed, line)
 }
 
 /// The canonical text of the next generation of the pattern of a file, by a rule table, whose file is `table`. A refusal of the table itself
@@ -37,9 +38,9 @@ pub extern "C" fn golly_canon_step_by_table(
     line: &mut u64,
     in_table: &mut u32,
 ) -> u32
-    ensures { StepsByTable limit bytes.now table.now in_table.new line.new (record { before = out.old; after = out.new; needed = needed.new; status = result }) }
+    ensures { StepsByTable limit bytes.now table.now in_table.new out.old out.new (told result needed.new line.new) }
 {
-    step_by_table(
-        alloc, bytes, table, limit, seed, out, needed, line, in_table,
-    )
+    let (answer, of_table) = step_by_table(alloc, bytes, table, limit, seed, out);
+    *in_table = of_table;
+    tell(answer, needed, line)
 }

@@ -5,11 +5,11 @@ ghost use Rattle.life_base.specs.declared.fault.Fault.{Fault as FaultValue};
 ghost use Rattle.library_calls.specs.Forms.{text_in};
 ghost use Rattle.library_calls.specs.InForm.{form_numbered};
 ghost use Rattle.library_calls.specs.Streams.{session_of, IsOpen, IsFed, HasText, HasFault, Opens, Takes, Ends, IsSpent, TellsPiece, TellsNothing, TellsEnd};
-ghost use Rattle.library_calls.specs.declared.form.Form.{Form as FormValue};
+ghost use Rattle.library_calls.specs.Told.{told};
+ghost use Rattle.library_calls.specs.declared.session.Form.{Form as FormValue};
 
-use library_calls::{
-    Stream, close, feed, finish, open_canon, open_canon_form, open_show, open_step, open_to_rle,
-};
+use crate::telling::tell;
+use library_calls::{Form, Stream, close, feed, finish, open, open_canon_form};
 use std::alloc::Global;
 
 /// Opens a stream whose end gives the canonical text, and closes it first where it is open.
@@ -22,7 +22,7 @@ pub extern "C" fn golly_canon_open_canon(
 ) -> u32
     ensures { Opens FormValue.Canonical limit result (session_of stream.new) }
 {
-    open_canon(alloc, stream, limit, seed)
+    open(alloc, stream, Form::Canonical, limit, seed)
 }
 
 /// Opens a stream whose end gives the canonical text in the form with this number, and closes it first where it is open.
@@ -49,7 +49,7 @@ pub extern "C" fn golly_canon_open_to_rle(
 ) -> u32
     ensures { Opens FormValue.Rle limit result (session_of stream.new) }
 {
-    open_to_rle(alloc, stream, limit, seed)
+    open(alloc, stream, Form::Rle, limit, seed)
 }
 
 /// Opens a stream whose end gives five lines on the pattern, and closes it first where it is open.
@@ -62,7 +62,7 @@ pub extern "C" fn golly_canon_open_show(
 ) -> u32
     ensures { Opens FormValue.Lines limit result (session_of stream.new) }
 {
-    open_show(alloc, stream, limit, seed)
+    open(alloc, stream, Form::Lines, limit, seed)
 }
 
 /// Opens a stream whose end gives the canonical text of the next generation under the file's B/S rule, and closes it first where it is open.
@@ -75,7 +75,7 @@ pub extern "C" fn golly_canon_open_step(
 ) -> u32
     ensures { Opens FormValue.Next limit result (session_of stream.new) }
 {
-    open_step(alloc, stream, limit, seed)
+    open(alloc, stream, Form::Next, limit, seed)
 }
 
 /// Takes the next piece of the file. The fault of a line that it tells is that of the whole file, whatever bytes follow (`faults_stay` of
@@ -93,7 +93,9 @@ pub extern "C" fn golly_canon_feed(
     ensures fault { (fault : FaultValue) → IsOpen (HasFault fault) (session_of stream.old) → IsOpen (HasFault fault) (session_of stream.new) }
     ensures tells { IfSome (session_of stream.new) (TellsPiece result line.new) }
 {
-    feed(alloc, stream, piece, line)
+    let answer = feed(alloc, stream, piece);
+    *line = answer.line;
+    answer.status
 }
 
 /// Ends the file, and gives its text or tells its fault, as often as it is called.
@@ -105,13 +107,13 @@ pub extern "C" fn golly_canon_finish(
     needed: &mut usize,
     line: &mut u64,
 ) -> u32
-    ensures closed { session_of stream.old ≡ None → (session_of stream.new ≡ None) × TellsNothing line.new (record { before = out.old; after = out.new; needed = needed.new; status = result }) }
+    ensures closed { session_of stream.old ≡ None → (session_of stream.new ≡ None) × TellsNothing out.old out.new (told result needed.new line.new) }
     ensures ends { (form : FormValue) (limit : ℕ) (bytes : List ℕ) → IsOpen (IsFed form limit bytes) (session_of stream.old) → IsOpen (Ends form limit bytes) (session_of stream.new) }
     ensures text { (text : List ℕ) → IsOpen (HasText text) (session_of stream.old) → IsOpen (HasText text) (session_of stream.new) }
     ensures fault { (fault : FaultValue) → IsOpen (HasFault fault) (session_of stream.old) → IsOpen (HasFault fault) (session_of stream.new) }
-    ensures tells { IfSome (session_of stream.new) (TellsEnd line.new (record { before = out.old; after = out.new; needed = needed.new; status = result })) }
+    ensures tells { IfSome (session_of stream.new) (TellsEnd out.old out.new (told result needed.new line.new)) }
 {
-    finish(alloc, stream, out, needed, line)
+    tell(finish(alloc, stream, out), needed, line)
 }
 
 /// Closes a stream.

@@ -1,9 +1,10 @@
 //! The calls that give a text of one file.
 
 ghost use Rattle.library_calls.specs.Answers.{IsCanonicalText, IsRleText, RefusesWithin, RefusesRleWithin};
-ghost use Rattle.library_calls.specs.Told.{Answers};
+ghost use Rattle.library_calls.specs.Told.{Answers, told};
 ghost use Rattle.life_canon.specs.Texts.{IsShown};
 
+use crate::telling::tell;
 use library_calls::{canon, show, to_rle};
 use life_base::MAX_LEVEL;
 use std::alloc::Global;
@@ -19,9 +20,9 @@ pub extern "C" fn golly_canon_canon(
     needed: &mut usize,
     line: &mut u64,
 ) -> u32
-    ensures { Answers (IsCanonicalText bytes.now) (RefusesWithin limit bytes.now) line.new (record { before = out.old; after = out.new; needed = needed.new; status = result }) }
+    ensures { Answers (IsCanonicalText bytes.now) (RefusesWithin limit bytes.now) out.old out.new (told result needed.new line.new) }
 {
-    canon(alloc, bytes, limit, seed, out, needed, line)
+    tell(canon(alloc, bytes, limit, seed, out), needed, line)
 }
 
 /// The text in extended RLE of the pattern of a file of either format.
@@ -35,9 +36,9 @@ pub extern "C" fn golly_canon_to_rle(
     needed: &mut usize,
     line: &mut u64,
 ) -> u32
-    ensures { Answers (IsRleText bytes.now) (RefusesRleWithin limit bytes.now) line.new (record { before = out.old; after = out.new; needed = needed.new; status = result }) }
+    ensures { Answers (IsRleText bytes.now) (RefusesRleWithin limit bytes.now) out.old out.new (told result needed.new line.new) }
 {
-    to_rle(alloc, bytes, limit, seed, out, needed, line)
+    tell(to_rle(alloc, bytes, limit, seed, out), needed, line)
 }
 
 /// Five lines on the pattern of a file of either format.
@@ -51,7 +52,7 @@ pub extern "C" fn golly_canon_show(
     needed: &mut usize,
     line: &mut u64,
 ) -> u32
-    ensures { Answers (IsShown MAX_LEVEL bytes.now) (RefusesWithin limit bytes.now) line.new (record { before = out.old; after = out.new; needed = needed.new; status = result }) }
+    ensures { Answers (IsShown MAX_LEVEL bytes.now) (RefusesWithin limit bytes.now) out.old out.new (told result needed.new line.new) }
 {
-    show(alloc, bytes, limit, seed, out, needed, line)
+    tell(show(alloc, bytes, limit, seed, out), needed, line)
 }

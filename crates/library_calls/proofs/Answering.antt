@@ -1,5 +1,6 @@
 -- From what a call of the library answers to what its export tells.
-use Rattle.std.proofs.Common.{◌≡◌, ℕ, ◌^◌, ◌⊎◌, inl, inr, List, Option, Some, None, MatchOption, sym, ap, ◌∙◌, subst, Result, Ok, Err, IfOk, IfErr}
+use Rattle.std.proofs.Common.{◌≡◌, ℕ, ◌^◌, ◌⊎◌, inl, inr, List, Option, Some, None, MatchOption, refl, sym, ap, ◌∙◌, subst, Result, Ok, Err, IfOk, IfErr}
+use Rattle.std.specs.Prelude.{◌↔◌, Bool, true, false, IsTrue, if◌then◌else◌}
 use Rattle.life_base.specs.Refusal.{fault_of}
 use Rattle.life_base.specs.declared.cell.TheConstants.{MAX_LEVEL}
 use Rattle.life_base.specs.declared.fault.Fault.{Fault}
@@ -18,11 +19,11 @@ use Rattle.library_calls.specs.Comparing.{LacksForEither, RefusesEither}
 use Rattle.library_calls.specs.Stepping.{RefusesStepWithin, RefusesStepByWithin}
 
 -- a text or a fault, told
-pub answered : {X : Type 0} (items : X → List ℕ) (IsText : List ℕ → Type 0) (IsFault : Fault → Type 0) (line : ℕ) (told : Told) (r : Result X Fault)
-    → IfOk r (λ x. IsText (items x)) → IfErr r IsFault → IfOk r (λ x. Gives (items x) told) → IfOk r (λ _. line ≡ 0)
-    → IfErr r (λ fault. Tells fault line told) → Answers IsText IsFault line told
-answered items IsText IsFault line told (Ok x) is why gives no_line tells = by_text (items x) is gives no_line
-answered items IsText IsFault line told (Err fault) is why gives no_line tells = by_fault fault why tells
+pub answered : {X : Type 0} (items : X → List ℕ) (IsText : List ℕ → Type 0) (IsFault : Fault → Type 0) (before after : List ℕ) (it : Told)
+    (r : Result X Fault) → IfOk r (λ x. IsText (items x)) → IfErr r IsFault → IfOk r (λ x. Gives (items x) before after it) → IfOk r (λ _. it.line ≡ 0)
+    → IfErr r (λ fault. Tells fault before after it) → Answers IsText IsFault before after it
+answered items IsText IsFault before after it (Ok x) is why gives no_line tells = by_text (items x) is gives no_line
+answered items IsText IsFault before after it (Err fault) is why gives no_line tells = by_fault fault why tells
 
 -- two facts of one text
 pub both : {X : Type 0} (P Q : X → Type 0) (r : Result X Fault) → IfOk r P → IfOk r Q → IfOk r (λ x. P x × Q x)
@@ -62,6 +63,14 @@ pub either : (limit : ℕ) (first second : List ℕ) (store : Nodes) (fault : Fa
 either limit first second store fault is (inl refuses) lacks = inl refuses
 either limit first second store fault is (inr (inl refuses)) lacks = inr (inl refuses)
 either limit first second store fault is (inr (inr want)) lacks = inr (inr (store, is, want, lacks))
+
+-- 1 is told where the answer is yes, and 0 where it is no
+abbrev number : Bool → ℕ
+number answer = if answer then 1 else 0
+
+pub is-answer : {P : Type 0} (answer : Bool) → IsTrue answer ↔ P → ((number answer ≡ 1) × P) ⊎ ((number answer ≡ 0) × (¬ P))
+is-answer true agree = inl (refl, agree.0 refl)
+is-answer false agree = inr (refl, λ p. let e : false ≡ true = agree.1 p in absurd cc)
 
 -- why a text in extended RLE is refused, by the limit of the store
 of_rle : (limit : ℕ) (bytes : List ℕ) (store : Nodes) (fault : Fault) → store.limit ≡ room_of limit

@@ -24,10 +24,10 @@ use Rattle.library_calls.proofs.FormFacts.{unread}
 use Rattle.library_calls.specs.Forms.{Piecewise, IsTextOf, RefusesTextOf, RefusesPiece}
 use Rattle.library_calls.specs.Streams.{IsOpen, IsFed, HasText, HasFault, Takes, by_piece, Ends, by_text}
 use Rattle.library_calls.specs.Streams as streams
-use Rattle.library_calls.specs.declared.form.Form.{Form}
+use Rattle.library_calls.specs.declared.session.Form.{Form}
 use Rattle.library_calls.specs.declared.session.Session.{Session}
 use Rattle.library_calls.specs.declared.session.Session.TheVariants.{Reading}
-use Rattle.library_calls.specs.declared.form.Form.TheVariants.{Canonical, Rle, Lines, Next, Moved, Turned}
+use Rattle.library_calls.specs.declared.session.Form.TheVariants.{Canonical, Rle, Lines, Next, Moved, Turned}
 use Rattle.library_calls.specs.declared.pattern_form.PatternForm.TheVariants as forms
 
 -- a pattern that is the same as one on the plane is on it too

@@ -7,12 +7,11 @@ use Rattle.life_quad.specs.Store.{Nodes}
 use Rattle.life_canon.specs.Files.{Accepted, Same, Refuses}
 use Rattle.life_canon.specs.Needs.{LacksFor}
 use Rattle.library_calls.specs.Answers.{Wants}
+pub use Rattle.library_calls.specs.declared.comparing.Compared.{Compared}
 
 -- the status and the numbers that are told
-pub record Compared : Type 0 where
-  pub status : ℕ
-  pub is_same : ℕ
-  pub line : ℕ
+abbrev pub compared : (status is_same line : ℕ) → Compared
+compared status is_same line = record { status = status; is_same = is_same; line = line }
 
 -- 1 where the files are one pattern, and 0 where they aren't
 abbrev pub IsAnswerOf : List ℕ → List ℕ → ℕ → Type 0

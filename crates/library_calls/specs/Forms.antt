@@ -8,9 +8,9 @@ use Rattle.life_canon.specs.Texts.{IsShown}
 use Rattle.library_calls.specs.Answers.{IsCanonicalText, IsRleText, RefusesWithin, RefusesRleWithin, Wants}
 use Rattle.life_step.specs.Stepped.{IsStepped}
 use Rattle.library_calls.specs.Stepping.{RefusesStepWithin}
-use Rattle.library_calls.specs.declared.form.Form.{Form}
+use Rattle.library_calls.specs.declared.session.Form.{Form}
 use Rattle.library_calls.specs.InForm.{IsTextMoved, IsTextTurned, RefusesInForm}
-use Rattle.library_calls.specs.declared.form.Form.TheVariants.{Canonical, Rle, Lines, Next, Moved, Turned}
+use Rattle.library_calls.specs.declared.session.Form.TheVariants.{Canonical, Rle, Lines, Next, Moved, Turned}
 use Rattle.library_calls.specs.declared.pattern_form.PatternForm.{PatternForm}
 use Rattle.library_calls.specs.declared.pattern_form.PatternForm.TheVariants as forms
 

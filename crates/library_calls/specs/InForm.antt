@@ -62,8 +62,8 @@ RefusesInForm Moved limit bytes fault =
 RefusesInForm Turned limit bytes fault = RefusesRleWithin limit bytes fault
 
 -- no form has the number, which is told, and no byte was written
-pub record TellsNoForm (told_line : ℕ) (told : Told) : Type 0 where
-  pub status : told.status ≡ 65
-  pub line : told_line ≡ 0
-  pub needed : told.needed ≡ 0
-  pub after : told.after ≡ told.before
+pub record TellsNoForm (before after : List ℕ) (it : Told) : Type 0 where
+  pub status : it.status ≡ 65
+  pub line : it.line ≡ 0
+  pub needed : it.needed ≡ 0
+  pub kept : after ≡ before

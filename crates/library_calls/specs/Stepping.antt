@@ -27,9 +27,9 @@ RefusesStepByWithin table limit bytes fault =
     ⊎ (Wants (LacksForStepBy table bytes) limit fault ⊎ ((u : Universe) × Reads MAX_LEVEL bytes u × TableRefusal MAX_LEVEL table u (Some fault)))
 
 -- The file of the table is one, and the step by it is told; or the fault of the table's file is told.
-pub data StepsByTable (limit : ℕ) (bytes table_bytes : List ℕ) (in_table told_line : ℕ) (told : Told) : Type 0 where
+pub data StepsByTable (limit : ℕ) (bytes table_bytes : List ℕ) (in_table : ℕ) (before after : List ℕ) (it : Told) : Type 0 where
   by_table : (table : Table) → IsFile (lines_of table_bytes) table → in_table ≡ 0
-      → Answers (IsSteppedBy table bytes) (RefusesStepByWithin table limit bytes) told_line told
-      → StepsByTable limit bytes table_bytes in_table told_line told
-  by_no_table : (fault : Fault) → OrMemory fault (RefusesTable (lines_of table_bytes) fault) → in_table ≡ 1 → Tells fault told_line told
-      → StepsByTable limit bytes table_bytes in_table told_line told
+      → Answers (IsSteppedBy table bytes) (RefusesStepByWithin table limit bytes) before after it
+      → StepsByTable limit bytes table_bytes in_table before after it
+  by_no_table : (fault : Fault) → OrMemory fault (RefusesTable (lines_of table_bytes) fault) → in_table ≡ 1 → Tells fault before after it
+      → StepsByTable limit bytes table_bytes in_table before after it

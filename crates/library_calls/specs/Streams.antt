@@ -8,7 +8,7 @@ use Rattle.life_canon.specs.Feeding.{RefusesFront}
 use Rattle.library_calls.specs.Told.{Told, Gives, Tells}
 use Rattle.library_calls.specs.Answers.{room_of}
 use Rattle.library_calls.specs.Forms.{IsTextOf, RefusesTextOf, RefusesPiece}
-use Rattle.library_calls.specs.declared.form.Form.{Form}
+use Rattle.library_calls.specs.declared.session.Form.{Form}
 use Rattle.library_calls.specs.declared.session.Session.{Session}
 use Rattle.library_calls.specs.declared.session.Session.TheVariants.{Reading, Written, Refused}
 use Rattle.library_calls.specs.declared.stream.Stream.{Stream}
@@ -65,11 +65,11 @@ TellsPiece status line (Written text) = IsSpent status line
 TellsPiece status line (Refused fault) = (status ≡ kind_number fault.kind) × (line ≡ fault.place.line)
 
 -- no text is given, as the call doesn't fit the stream
-abbrev pub TellsNothing : (line : ℕ) → Told → Type 0
-TellsNothing line told = IsSpent told.status line × (told.needed ≡ 0) × (told.after ≡ told.before)
+abbrev pub TellsNothing : (before after : List ℕ) → Told → Type 0
+TellsNothing before after it = IsSpent it.status it.line × (it.needed ≡ 0) × (after ≡ before)
 
 -- what `finish` tells of the session: its text or its fault
-abbrev pub TellsEnd : (line : ℕ) → Told → Session → Type 0
-TellsEnd line told (Reading feeding) = TellsNothing line told
-TellsEnd line told (Written text) = Gives text.items told × (line ≡ 0)
-TellsEnd line told (Refused fault) = Tells fault line told
+abbrev pub TellsEnd : (before after : List ℕ) → Told → Session → Type 0
+TellsEnd before after it (Reading feeding) = TellsNothing before after it
+TellsEnd before after it (Written text) = Gives text.items before after it × (it.line ≡ 0)
+TellsEnd before after it (Refused fault) = Tells fault before after it

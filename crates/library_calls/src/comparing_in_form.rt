@@ -8,10 +8,10 @@ ghost use Rattle.library_calls.specs.InForm.{form_numbered};
 ghost use Rattle.library_calls.specs.ComparingInForm.{AreOneInForm, HasTooMany, RefusesEitherInForm, ComparesInForm, ComparesInNone};
 ghost use Rattle.library_calls.specs.declared.pattern_form.PatternForm.{PatternForm as FormValue};
 
+use crate::comparing::Compared;
 use crate::in_form::{NO_FORM, form_of};
 use crate::pattern_form::PatternForm;
-use crate::rooms::store_of;
-use crate::telling::refuse;
+use crate::session::store_of;
 use life_base::Fault;
 use life_canon::laws::{files_are_on_plane, files_are_unique, patterns_fit, patterns_stay};
 use life_canon::read;
@@ -75,7 +75,7 @@ fn are_one(
     }
 }
 
-/// Whether two files, each of either format, are one pattern in the form with this number: 1 or 0 in `is_same`. A refusal leaves 0 there.
+/// Whether two files, each of either format, are one pattern in the form with this number.
 pub fn same_form(
     alloc: Global,
     first: &[u8],
@@ -83,24 +83,19 @@ pub fn same_form(
     form: u32,
     limit: u64,
     seed: u64,
-    is_same: &mut u32,
-    line: &mut u64,
-) -> u32
-    ensures { MatchOption (form_numbered form) (ComparesInNone (record { status = result; is_same = is_same.new; line = line.new }))
-        (λ form. ComparesInForm form limit first.now second.now (record { status = result; is_same = is_same.new; line = line.new })) }
+) -> Compared
+    ensures { MatchOption (form_numbered form) (ComparesInNone result) (λ form. ComparesInForm form limit first.now second.now result) }
 {
-    *is_same = 0;
     let Some(form) = form_of(form) else {
-        *line = 0;
-        return NO_FORM;
+        return Compared {
+            status: NO_FORM,
+            is_same: 0,
+            line: 0,
+        };
     };
     let mut store = store_of(alloc, limit, seed);
     match are_one(alloc, &mut store, first, second, form) {
-        Ok(answer) => {
-            *is_same = if answer { 1 } else { 0 };
-            *line = 0;
-            0
-        }
-        Err(fault) => refuse(&fault, line),
+        Ok(answer) => Compared::of(answer),
+        Err(fault) => Compared::refused(&fault),
     }
 }

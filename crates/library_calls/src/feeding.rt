@@ -9,9 +9,8 @@ ghost use Rattle.life_canon.specs.Store.{IsOfFile, IsRead};
 ghost use Rattle.library_calls.specs.Answers.{IsCanonicalText, room_of};
 ghost use Rattle.library_calls.specs.Forms.{IsTextOf, RefusesTextOf, RefusesPiece};
 
-use crate::form::Form;
 use crate::in_form::{moved_text, turned_text_of};
-use crate::rooms::store_of;
+use crate::session::{Form, store_of};
 use life_base::{Fault, MAX_LEVEL};
 use life_canon::laws::{
     canonical_is_least, files_are_on_plane, patterns_fit, texts_are_files, texts_tell_universes,

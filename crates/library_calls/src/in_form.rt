@@ -3,15 +3,15 @@
 ghost use Rattle.std.specs.Prelude.{◌≡◌, ℕ, List, IfOk, IfErr, MatchOption};
 ghost use Rattle.life_base.specs.Refusal.{fault_of};
 ghost use Rattle.life_canon.specs.Store.{IsOfFile, IsRead};
-ghost use Rattle.library_calls.specs.Told.{Answers};
+ghost use Rattle.library_calls.specs.Told.{Answers, told};
 ghost use Rattle.library_calls.specs.Answers.{room_of};
 ghost use Rattle.library_calls.specs.InForm.{form_numbered, IsTextInForm, IsTextMoved, IsTextTurned, IsKeyInForm, RefusesInForm, TellsNoForm};
 ghost use Rattle.library_calls.specs.declared.pattern_form.PatternForm.{PatternForm as FormValue};
 
 use crate::feeding::canonical_of;
 use crate::pattern_form::PatternForm;
-use crate::rooms::store_of;
-use crate::telling::{give, refuse, tell};
+use crate::session::store_of;
+use crate::telling::{Told, give, refuse, tell};
 use life_base::{Fault, MAX_LEVEL};
 use life_canon::laws::patterns_fit;
 use life_canon::{Pattern, read, text_of};
@@ -98,6 +98,17 @@ fn text_of_file(
     text_in_form(alloc, &mut store, &pattern, form)
 }
 
+/// What is told where no form has the number.
+fn no_form() -> Told
+    ensures { result ≡ told 65 0 0 }
+{
+    Told {
+        status: NO_FORM,
+        needed: 0,
+        line: 0,
+    }
+}
+
 /// The canonical text of the pattern of a file of either format, in the form with this number.
 pub fn canon_form(
     alloc: Global,
@@ -106,48 +117,27 @@ pub fn canon_form(
     limit: u64,
     seed: u64,
     out: &mut [u8],
-    needed: &mut usize,
-    line: &mut u64,
-) -> u32
-    ensures { MatchOption (form_numbered form) (TellsNoForm line.new (record { before = out.old; after = out.new; needed = needed.new; status = result }))
-        (λ form. Answers (IsTextInForm form bytes.now) (RefusesInForm form limit bytes.now) line.new (record { before = out.old; after = out.new; needed = needed.new; status = result })) }
+) -> Told
+    ensures { MatchOption (form_numbered form) (TellsNoForm out.old out.new result)
+        (λ form. Answers (IsTextInForm form bytes.now) (RefusesInForm form limit bytes.now) out.old out.new result) }
 {
     let Some(form) = form_of(form) else {
-        *needed = 0;
-        *line = 0;
-        return NO_FORM;
+        return no_form();
     };
     let found = text_of_file(alloc, bytes, form, limit, seed);
-    tell(found, out, needed, line)
+    tell(found, out)
 }
 
 /// The key of the pattern of a file of either format, in the form with this number: the SHA-256 of the text that `canon_form` gives, 32 bytes.
-pub fn key(
-    alloc: Global,
-    bytes: &[u8],
-    form: u32,
-    limit: u64,
-    seed: u64,
-    out: &mut [u8],
-    needed: &mut usize,
-    line: &mut u64,
-) -> u32
-    ensures { MatchOption (form_numbered form) (TellsNoForm line.new (record { before = out.old; after = out.new; needed = needed.new; status = result }))
-        (λ form. Answers (IsKeyInForm form bytes.now) (RefusesInForm form limit bytes.now) line.new (record { before = out.old; after = out.new; needed = needed.new; status = result })) }
+pub fn key(alloc: Global, bytes: &[u8], form: u32, limit: u64, seed: u64, out: &mut [u8]) -> Told
+    ensures { MatchOption (form_numbered form) (TellsNoForm out.old out.new result)
+        (λ form. Answers (IsKeyInForm form bytes.now) (RefusesInForm form limit bytes.now) out.old out.new result) }
 {
     let Some(form) = form_of(form) else {
-        *needed = 0;
-        *line = 0;
-        return NO_FORM;
+        return no_form();
     };
     match text_of_file(alloc, bytes, form, limit, seed) {
-        Ok(text) => {
-            *line = 0;
-            give(&Sha256::digest(text.as_slice()), out, needed)
-        }
-        Err(fault) => {
-            *needed = 0;
-            refuse(&fault, line)
-        }
+        Ok(text) => give(&Sha256::digest(text.as_slice()), out),
+        Err(fault) => refuse(&fault),
     }
 }

@@ -7,12 +7,9 @@
 mod comparing;
 mod comparing_in_form;
 mod feeding;
-mod form;
 mod held;
 mod in_form;
 mod pattern_form;
-mod pieces;
-mod rooms;
 mod seeding;
 mod session;
 mod stepping;
@@ -21,13 +18,12 @@ mod streams;
 mod telling;
 mod texts;
 
-pub use comparing::same;
+pub use comparing::{Compared, same};
 pub use comparing_in_form::same_form;
 pub use in_form::{NO_FORM, canon_form, key};
+pub use session::Form;
 pub use stepping::{step, step_by_table};
 pub use stream::Stream;
-pub use streams::{
-    close, feed, finish, open_canon, open_canon_form, open_show, open_step, open_to_rle,
-};
-pub use telling::{NO_ROOM, give};
+pub use streams::{close, feed, finish, open, open_canon_form};
+pub use telling::{NO_ROOM, Told, give};
 pub use texts::{canon, show, to_rle};

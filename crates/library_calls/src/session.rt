@@ -1,7 +1,48 @@
-//! What stands behind a stream.
+//! What stands behind the calls: the store of each, and the session of a stream.
+
+ghost use Rattle.std.specs.Prelude.{◌≡◌, ◌++◌, ℕ, List};
+ghost use Rattle.life_base.specs.declared.fault.Fault.{Fault as FaultValue};
+ghost use Rattle.library_calls.specs.Answers.{room_of};
+ghost use Rattle.library_calls.specs.Streams.{IsFed, HasText, HasFault, Takes, Ends};
+ghost use Rattle.library_calls.specs.declared.session.Form.{Form as FormValue};
 
 use crate::feeding::Feeding;
+use crate::seeding::seed_of_squares;
 use life_base::Fault;
+use life_quad::Shared;
+use std::alloc::Global;
+
+/// How many different squares a store holds at most, whatever limit is asked for.
+const GREATEST_LIMIT: u64 = 1 << 62;
+
+/// An empty store for so many different squares, and for 2^62 where more are asked for. The seed decides time alone.
+pub(crate) fn store_of(alloc: Global, limit: u64, seed: u64) -> Shared
+    ensures { result.limit ≡ room_of limit }
+{
+    let most = if limit < GREATEST_LIMIT {
+        limit
+    } else {
+        GREATEST_LIMIT
+    };
+    Shared::new(alloc, seed_of_squares(seed), most)
+}
+
+/// The text that a stream gives at its end.
+#[derive(Clone, Copy)]
+pub enum Form {
+    /// The canonical text.
+    Canonical,
+    /// The pattern in extended RLE.
+    Rle,
+    /// Five lines on the pattern.
+    Lines,
+    /// The canonical text of the next generation under the file's B/S rule.
+    Next,
+    /// The canonical text of the pattern, moved.
+    Moved,
+    /// That of the pattern, turned.
+    Turned,
+}
 
 /// A file that is read, its text, or its fault.
 #[derive(Drop)]
@@ -12,4 +53,34 @@ pub enum Session {
     Written(Vec<u8>),
     /// A piece or the end was refused with this fault.
     Refused(Fault),
+}
+
+/// The session after the next piece. One that has a text or a fault stays as it is.
+pub(crate) fn fed(session: Session, piece: &[u8]) -> Session
+    ensures takes { (form : FormValue) (limit : ℕ) (bytes : List ℕ) → IsFed form limit bytes session → Takes form limit (bytes ++ piece.now) result }
+    ensures text { (text : List ℕ) → HasText text session → HasText text result }
+    ensures fault { (fault : FaultValue) → HasFault fault session → HasFault fault result }
+{
+    match session {
+        Session::Reading(feeding) => match feeding.fed(piece) {
+            Ok(feeding) => Session::Reading(feeding),
+            Err(fault) => Session::Refused(fault),
+        },
+        ended => ended,
+    }
+}
+
+/// The session after the end of the file. One that has a text or a fault stays as it is.
+pub(crate) fn ended(session: Session, alloc: Global) -> Session
+    ensures ends { (form : FormValue) (limit : ℕ) (bytes : List ℕ) → IsFed form limit bytes session → Ends form limit bytes result }
+    ensures text { (text : List ℕ) → HasText text session → HasText text result }
+    ensures fault { (fault : FaultValue) → HasFault fault session → HasFault fault result }
+{
+    match session {
+        Session::Reading(feeding) => match feeding.text(alloc) {
+            Ok(text) => Session::Written(text),
+            Err(fault) => Session::Refused(fault),
+        },
+        ended => ended,
+    }
 }

@@ -1,4 +1,4 @@
-//! Answers, put into memory of the caller.
+//! What a call tells, with its text in memory of the caller.
 
 ghost use Rattle.std.specs.Prelude.{◌≡◌, IfOk, IfErr};
 ghost use Rattle.life_base.specs.Kinds.{kind_number};
@@ -9,47 +9,56 @@ use life_base::Fault;
 /// The status of a call whose text doesn't fit into the memory that was handed over.
 pub const NO_ROOM: u32 = 64;
 
-/// Puts a text at the front of the caller's memory where it fits, and its length into `needed`. The answer is the status.
-pub fn give(text: &[u8], out: &mut [u8], needed: &mut usize) -> u32
-    ensures { Gives text.now (record { before = out.old; after = out.new; needed = needed.new; status = result }) }
-{
-    let length = text.len();
-    *needed = length;
-    if out.len() < length {
-        return NO_ROOM;
-    }
-    out[..length].copy_from_slice(text);
-    0
+/// What a call tells beside the bytes of its text.
+#[derive(Clone, Copy)]
+pub struct Told {
+    /// 0 where the text was written; else `NO_ROOM`, `NO_FORM`, or the number of a kind of fault.
+    pub status: u32,
+    /// How many bytes the text has, and 0 where there is none.
+    pub needed: usize,
+    /// The line of a fault, counted from 1, and 0 where it is of none.
+    pub line: u64,
 }
 
-/// The status of a fault, whose line goes into `line`.
-pub(crate) fn refuse(fault: &Fault, line: &mut u64) -> u32
-    ensures status { result ≡ kind_number fault.now.kind }
-    ensures line { line.new ≡ fault.now.place.line }
+/// Puts a text at the front of the caller's memory where it fits, and tells its length.
+pub fn give(text: &[u8], out: &mut [u8]) -> Told
+    ensures gives { Gives text.now out.old out.new result }
+    ensures line { result.line ≡ 0 }
 {
-    *line = fault.place.line;
-    fault.kind.number() as u32
+    let needed = text.len();
+    let mut status = NO_ROOM;
+    if needed <= out.len() {
+        out[..needed].copy_from_slice(text);
+        status = 0;
+    }
+    Told {
+        status,
+        needed,
+        line: 0,
+    }
+}
+
+/// Tells a fault, where there is no text.
+pub(crate) fn refuse(fault: &Fault) -> Told
+    ensures status { result.status ≡ kind_number fault.now.kind }
+    ensures needed { result.needed ≡ 0 }
+    ensures line { result.line ≡ fault.now.place.line }
+{
+    Told {
+        status: fault.kind.number() as u32,
+        needed: 0,
+        line: fault.place.line,
+    }
 }
 
 /// Gives the text, or tells why there is none.
-pub(crate) fn tell(
-    found: Result<Vec<u8>, Fault>,
-    out: &mut [u8],
-    needed: &mut usize,
-    line: &mut u64,
-) -> u32
-    ensures gives { IfOk found (λ text. Gives text.items (record { before = out.old; after = out.new; needed = needed.new; status = result })) }
-    ensures no_line { IfOk found (λ _. line.new ≡ 0) }
-    ensures tells { IfErr found (λ fault. Tells fault line.new (record { before = out.old; after = out.new; needed = needed.new; status = result })) }
+pub(crate) fn tell(found: Result<Vec<u8>, Fault>, out: &mut [u8]) -> Told
+    ensures gives { IfOk found (λ text. Gives text.items out.old out.new result) }
+    ensures no_line { IfOk found (λ _. result.line ≡ 0) }
+    ensures tells { IfErr found (λ fault. Tells fault out.old out.new result) }
 {
     match found {
-        Ok(text) => {
-            *line = 0;
-            give(&text, out, needed)
-        }
-        Err(fault) => {
-            *needed = 0;
-            refuse(&fault, line)
-        }
+        Ok(text) => give(&text, out),
+        Err(fault) => refuse(&fault),
     }
 }

@@ -13,10 +13,11 @@ use Rattle.library_calls.specs.Forms.{IsTextOf, RefusesTextOf, RefusesPiece}
 use Rattle.library_calls.specs.Streams.{IsOpen, IsFed, HasFault, Opens, Takes, by_piece, Ends, TellsEnd}
 use Rattle.library_calls.specs.Streams as streams
 use Rattle.library_calls.specs.Told.{Told, Answers, by_text, by_fault}
-use Rattle.library_calls.specs.declared.form.Form.{Form}
+use Rattle.library_calls.specs.declared.session.Form.{Form}
 use Rattle.library_calls.specs.declared.session.Session.{Session}
 use Rattle.library_calls.specs.declared.session.Session.TheVariants.{Reading, Written, Refused}
 use Rattle.library_theorems.specs.Answered.{IsUnread}
+use Rattle.library_theorems.specs.Ending.{IsEndFault}
 
 -- the pieces so far were fed, or one of them was refused
 pub data Took (form : Form) (limit : ℕ) (pieces : List (Vec ℕ)) (n : ℕ) (session : Option Session) : Type 0 where
@@ -47,13 +48,9 @@ of_all stay limit pieces k fault (inl front) =
     subst (λ (bytes : List ℕ). IsUnread bytes fault) (sym (joined_split pieces k)) (inl whole)
 of_all stay limit pieces k fault (inr w) = inr (want_as w.0 fault w.2)
 
--- why the end of a stream gives no text
-abbrev pub IsEndFault : Form → ℕ → List ℕ → Fault → Type 0
-IsEndFault form limit bytes fault = IsUnread bytes fault ⊎ RefusesTextOf form limit bytes fault
-
-module _ (form : Form) (limit : ℕ) (bytes : List ℕ) (line : ℕ) (told : Told) where
-  end_told : (session : Session) → Ends form limit bytes session → TellsEnd line told session
-      → Answers (IsTextOf form bytes) (IsEndFault form limit bytes) line told
+module _ (form : Form) (limit : ℕ) (bytes : List ℕ) (before after : List ℕ) (told : Told) where
+  end_told : (session : Session) → Ends form limit bytes session → TellsEnd before after told session
+      → Answers (IsTextOf form bytes) (IsEndFault form limit bytes) before after told
   end_told (Reading feeding) (streams.by_text text has good) tells = absurd has
   end_told (Reading feeding) (streams.by_fault fault has why) tells = absurd has
   end_told (Written written) (streams.by_text text has good) tells =
@@ -62,31 +59,31 @@ module _ (form : Form) (limit : ℕ) (bytes : List ℕ) (line : ℕ) (told : Tol
   end_told (Refused it) (streams.by_text text has good) tells = absurd has
   end_told (Refused it) (streams.by_fault fault has why) tells = by_fault it (inr (subst (RefusesTextOf form limit bytes) (sym has) why)) tells
 
-  fault_told : (session : Session) (fault : Fault) → HasFault fault session → IsUnread bytes fault → TellsEnd line told session
-      → Answers (IsTextOf form bytes) (IsEndFault form limit bytes) line told
+  fault_told : (session : Session) (fault : Fault) → HasFault fault session → IsUnread bytes fault → TellsEnd before after told session
+      → Answers (IsTextOf form bytes) (IsEndFault form limit bytes) before after told
   fault_told (Reading feeding) fault has why tells = absurd has
   fault_told (Written written) fault has why tells = absurd has
   fault_told (Refused it) fault has why tells = by_fault it (inl (subst (IsUnread bytes) (sym has) why)) tells
 
 -- what the end tells
-pub told_at_end : FaultsStay 62 → (form : Form) (limit : ℕ) (pieces : List (Vec ℕ)) (n : ℕ) (old new : Option Session) (line : ℕ) (told : Told)
+pub told_at_end : FaultsStay 62 → (form : Form) (limit : ℕ) (pieces : List (Vec ℕ)) (n : ℕ) (old new : Option Session) (before after : List ℕ) (told : Told)
     → length pieces ≤ n
     → (IsOpen (IsFed form limit (joined pieces)) old → IsOpen (Ends form limit (joined pieces)) new)
-    → ((fault : Fault) → IsOpen (HasFault fault) old → IsOpen (HasFault fault) new) → IfSome new (TellsEnd line told) → Took form limit pieces n old
-    → Answers (IsTextOf form (joined pieces)) (IsEndFault form limit (joined pieces)) line told
-told_at_end stay form limit pieces n old new line told all ends stays tells (fed whole) =
+    → ((fault : Fault) → IsOpen (HasFault fault) old → IsOpen (HasFault fault) new) → IfSome new (TellsEnd before after told) → Took form limit pieces n old
+    → Answers (IsTextOf form (joined pieces)) (IsEndFault form limit (joined pieces)) before after told
+told_at_end stay form limit pieces n old new before after told all ends stays tells (fed whole) =
     by new (ends (subst (λ (bytes : List ℕ). IsOpen (IsFed form limit bytes) old) (joined_all pieces n all) whole)) tells
   where
-    by : (it : Option Session) → IsOpen (Ends form limit (joined pieces)) it → IfSome it (TellsEnd line told)
-        → Answers (IsTextOf form (joined pieces)) (IsEndFault form limit (joined pieces)) line told
+    by : (it : Option Session) → IsOpen (Ends form limit (joined pieces)) it → IfSome it (TellsEnd before after told)
+        → Answers (IsTextOf form (joined pieces)) (IsEndFault form limit (joined pieces)) before after told
     by None h t = absurd h
-    by (Some session) h t = end_told form limit (joined pieces) line told session h t
-told_at_end stay form limit pieces n old new line told all ends stays tells (refused k fault has why) = by new (stays fault has) tells
+    by (Some session) h t = end_told form limit (joined pieces) before after told session h t
+told_at_end stay form limit pieces n old new before after told all ends stays tells (refused k fault has why) = by new (stays fault has) tells
   where
-    by : (it : Option Session) → IsOpen (HasFault fault) it → IfSome it (TellsEnd line told)
-        → Answers (IsTextOf form (joined pieces)) (IsEndFault form limit (joined pieces)) line told
+    by : (it : Option Session) → IsOpen (HasFault fault) it → IfSome it (TellsEnd before after told)
+        → Answers (IsTextOf form (joined pieces)) (IsEndFault form limit (joined pieces)) before after told
     by None h t = absurd h
-    by (Some session) h t = fault_told form limit (joined pieces) line told session fault h (of_all stay limit pieces k fault why) t
+    by (Some session) h t = fault_told form limit (joined pieces) before after told session fault h (of_all stay limit pieces k fault why) t
 
 -- ---- the call that opens
 

@@ -43,9 +43,9 @@ use Rattle.library_theorems.specs.Answered.{IsRleText, AreFiveLines, IsUnread, I
 use Rattle.library_theorems.proofs.Numbered.{IsOfText, no_text}
 
 -- the same is told by what texts and faults imply
-pub reworded : {IsText IsOther : List ℕ → Type 0} {IsFault IsOtherFault : Fault → Type 0} {line : ℕ} {told : Told}
-    → Answers IsText IsFault line told → ((text : List ℕ) → IsText text → IsOther text) → ((fault : Fault) → IsFault fault → IsOtherFault fault)
-    → Answers IsOther IsOtherFault line told
+pub reworded : {IsText IsOther : List ℕ → Type 0} {IsFault IsOtherFault : Fault → Type 0} {before after : List ℕ} {told : Told}
+    → Answers IsText IsFault before after told → ((text : List ℕ) → IsText text → IsOther text) → ((fault : Fault) → IsFault fault → IsOtherFault fault)
+    → Answers IsOther IsOtherFault before after told
 reworded (by_text t is gives none) text fault = by_text t (text t is) gives none
 reworded (by_fault f why tells) text fault = by_fault f (fault f why) tells
 
@@ -106,11 +106,11 @@ unstepped_by decide layer table is limit file fault (inr (inl w)) = inl (inr (wa
 unstepped_by decide layer table is limit file fault (inr (inr h)) = inr (unstepped_by_is decide layer table is file h.0 h.1 fault h.2)
 
 -- what is told of a step by a table
-abbrev pub ToldByTable : (file rules : List ℕ) (in_table line : ℕ) → Told → Type 0
-ToldByTable file rules in_table line told =
+abbrev pub ToldByTable : (file rules : List ℕ) (in_table : ℕ) (before after : List ℕ) → Told → Type 0
+ToldByTable file rules in_table before after told =
     ((in_table ≡ 0) × ((table : Table) × (table_of rules ≡ Ok table)
-    × Answers (IsSteppedBy table file) (λ fault. IsUnread file fault ⊎ IsUnsteppedBy table file fault) line told))
-    ⊎ ((in_table ≡ 1) × ((fault : Fault) × ((table_of rules ≡ Err fault) ⊎ (fault ≡ fault_of Memory)) × Tells fault line told))
+    × Answers (IsSteppedBy table file) (λ fault. IsUnread file fault ⊎ IsUnsteppedBy table file fault) before after told))
+    ⊎ ((in_table ≡ 1) × ((fault : Fault) × ((table_of rules ≡ Err fault) ⊎ (fault ≡ fault_of Memory)) × Tells fault before after told))
 
 untabled : TablesRefuse → (rules : List ℕ) (fault : Fault) → OrMemory fault (RefusesTable (lines_of rules) fault)
     → (table_of rules ≡ Err fault) ⊎ (fault ≡ fault_of Memory)
@@ -119,9 +119,9 @@ untabled refuse rules fault (inr refuses) = inl ((refuse rules fault).0 refuses)
 
 pub by_table_so : TablesRead → TablesRefuse → TablesDecide
     → ((lines : List (List ℕ)) (layer : LayerTable) → IsFile lines layer → AreTable lines layer)
-    → (limit : ℕ) (file rules : List ℕ) (in_table line : ℕ) (told : Told) → StepsByTable limit file rules in_table line told
-    → ToldByTable file rules in_table line told
-by_table_so read refuse decide agree limit file rules in_table line told (by_table layer is zero answers) =
+    → (limit : ℕ) (file rules : List ℕ) (in_table : ℕ) (before after : List ℕ) (told : Told) → StepsByTable limit file rules in_table before after told
+    → ToldByTable file rules in_table before after told
+by_table_so read refuse decide agree limit file rules in_table before after told (by_table layer is zero answers) =
     let t = (read rules).0 layer (agree (lines_of rules) layer is) in
     inl (
       zero,
@@ -131,7 +131,7 @@ by_table_so read refuse decide agree limit file rules in_table line told (by_tab
         reworded answers (stepped_is decide layer t.0 t.2 file) (unstepped_by decide layer t.0 t.2 limit file),
       ),
     )
-by_table_so read refuse decide agree limit file rules in_table line told (by_no_table fault why one tells) =
+by_table_so read refuse decide agree limit file rules in_table before after told (by_no_table fault why one tells) =
     inr (one, (fault, untabled refuse rules fault why, tells))
 
 -- ---- two files
@@ -164,18 +164,19 @@ uncompared_so limit first second told (comparing.by_fault fault status line none
 -- ---- which text
 
 -- a status that is no fault's is that of the canonical text
-pub text_so : FilesAreUnique 62 → (file text : List ℕ) {IsFault : Fault → Type 0} (line : ℕ) (told : Told) → IsCanonical 62 file text
-    → Answers (LayerText file) IsFault line told → IsOfText told.status → Gives text told
-text_so unique file text line told c (by_text t is gives none) ok = subst (λ (it : List ℕ). Gives it told) (one_text unique file t text is.0 c) gives
-text_so unique file text line told c (by_fault fault why tells) ok = no_text told.status fault.kind tells.status ok
+pub text_so : FilesAreUnique 62 → (file text : List ℕ) {IsFault : Fault → Type 0} (before after : List ℕ) (told : Told) → IsCanonical 62 file text
+    → Answers (LayerText file) IsFault before after told → IsOfText told.status → Gives text before after told
+text_so unique file text before after told c (by_text t is gives none) ok =
+    subst (λ (it : List ℕ). Gives it before after told) (one_text unique file t text is.0 c) gives
+text_so unique file text before after told c (by_fault fault why tells) ok = no_text told.status fault.kind tells.status ok
 
 -- the lines count the node lines of the canonical text
-pub counted_so : FilesAreOnPlane 62 → FilesAreUnique 62 → TextsAreFiles 62 → (file text : List ℕ) {IsFault : Fault → Type 0} (line : ℕ) (told : Told)
-    → IsCanonical 62 file text → Answers (IsShown 62 file) IsFault line told → IsOfText told.status
-    → (lines : List ℕ) × Gives lines told × ((pattern : Pattern) × (pattern_of file ≡ Ok pattern) × AreLines pattern (node_lines text) lines)
-counted_so on_plane unique files file text line told c (by_text lines is gives none) ok =
+pub counted_so : FilesAreOnPlane 62 → FilesAreUnique 62 → TextsAreFiles 62 → (file text : List ℕ) {IsFault : Fault → Type 0}
+    (before after : List ℕ) (told : Told) → IsCanonical 62 file text → Answers (IsShown 62 file) IsFault before after told → IsOfText told.status
+    → (lines : List ℕ) × Gives lines before after told × ((pattern : Pattern) × (pattern_of file ≡ Ok pattern) × AreLines pattern (node_lines text) lines)
+counted_so on_plane unique files file text before after told c (by_text lines is gives none) ok =
     (lines, gives, shown_is on_plane unique files file lines text is c)
-counted_so on_plane unique files file text line told c (by_fault fault why tells) ok = no_text told.status fault.kind tells.status ok
+counted_so on_plane unique files file text before after told c (by_fault fault why tells) ok = no_text told.status fault.kind tells.status ok
 
 -- ---- a text in the memory
 
@@ -184,31 +185,31 @@ take_front [] ys = refl
 take_front (x ∷ xs) ys = ap (λ (t : List ℕ). x ∷ t) (take_front xs ys)
 
 -- the memory has one text of the length that is told
-one_copy : (s t : List ℕ) (told : Told) → Gives s told → Gives t told → told.status ≡ 0 → s ≡ t
-one_copy s t told g h ok = by g.1 h.1
+one_copy : (s t before after : List ℕ) (told : Told) → Gives s before after told → Gives t before after told → told.status ≡ 0 → s ≡ t
+one_copy s t before after told g h ok = by g.1 h.1
   where
     lengths : length s ≡ length t
     lengths = sym g.0 ∙ h.0
 
-    by : Copies s told ⊎ LacksRoom s told → Copies t told ⊎ LacksRoom t told → s ≡ t
+    by : Copies s before after told ⊎ LacksRoom s before after told → Copies t before after told ⊎ LacksRoom t before after told → s ≡ t
     by (inl c) (inl d) =
-        sym (take_front s (drop (length s) told.before)) ∙ ap (λ (b : List ℕ). take (length s) b) (sym c.after ∙ d.after)
-        ∙ ap (λ n. take n (t ++ drop (length t) told.before)) lengths ∙ take_front t (drop (length t) told.before)
+        sym (take_front s (drop (length s) before)) ∙ ap (λ (b : List ℕ). take (length s) b) (sym c.copied ∙ d.copied)
+        ∙ ap (λ n. take n (t ++ drop (length t) before)) lengths ∙ take_front t (drop (length t) before)
     by (inl c) (inr l) = let e : 0 ≡ 64 = sym ok ∙ l.status in absurd (omega (arith, e))
     by (inr l) d = let e : 0 ≡ 64 = sym ok ∙ l.status in absurd (omega (arith, e))
 
 -- a text that is its own canonical text is so where it stands in the memory
-pub fixed_so : {IsText : List ℕ → Type 0} {IsFault : Fault → Type 0} (text again : List ℕ) (line : ℕ) (told : Told)
-    → ((it : List ℕ) → IsText it → IsCanonical 62 it again → it ≡ again) → Answers IsText IsFault line told → told.status ≡ 0 → Gives text told
-    → IsCanonical 62 text again → again ≡ text
-fixed_so text again line told fixed (by_text it is gives none) ok here c =
-    let same : it ≡ text = one_copy it text told gives here ok in
+pub fixed_so : {IsText : List ℕ → Type 0} {IsFault : Fault → Type 0} (text again : List ℕ) (before after : List ℕ) (told : Told)
+    → ((it : List ℕ) → IsText it → IsCanonical 62 it again → it ≡ again) → Answers IsText IsFault before after told → told.status ≡ 0
+    → Gives text before after told → IsCanonical 62 text again → again ≡ text
+fixed_so text again before after told fixed (by_text it is gives none) ok here c =
+    let same : it ≡ text = one_copy it text before after told gives here ok in
     sym (fixed it is (subst (λ (bytes : List ℕ). IsCanonical 62 bytes again) (sym same) c)) ∙ same
-fixed_so text again line told fixed (by_fault fault why tells) ok here c = no_text told.status fault.kind tells.status (inl ok)
+fixed_so text again before after told fixed (by_fault fault why tells) ok here c = no_text told.status fault.kind tells.status (inl ok)
 
-pub fixed_by_so : FilesAreUnique 62 → (limit : ℕ) (file rules text again : List ℕ) (in_table line : ℕ) (told : Told)
-    → StepsByTable limit file rules in_table line told → told.status ≡ 0 → Gives text told → IsCanonical 62 text again → again ≡ text
-fixed_by_so unique limit file rules text again in_table line told (by_table layer is zero answers) ok here c =
-    fixed_so text again line told (λ it stepped. next_by_is_fixed unique layer file it again stepped) answers ok here c
-fixed_by_so unique limit file rules text again in_table line told (by_no_table fault why one tells) ok here c =
+pub fixed_by_so : FilesAreUnique 62 → (limit : ℕ) (file rules text again : List ℕ) (in_table : ℕ) (before after : List ℕ) (told : Told)
+    → StepsByTable limit file rules in_table before after told → told.status ≡ 0 → Gives text before after told → IsCanonical 62 text again → again ≡ text
+fixed_by_so unique limit file rules text again in_table before after told (by_table layer is zero answers) ok here c =
+    fixed_so text again before after told (λ it stepped. next_by_is_fixed unique layer file it again stepped) answers ok here c
+fixed_by_so unique limit file rules text again in_table before after told (by_no_table fault why one tells) ok here c =
     no_text told.status fault.kind tells.status (inl ok)

@@ -5,7 +5,7 @@ ghost use Rattle.life_base.specs.Kinds.{kind_number};
 ghost use Rattle.life_base.specs.declared.fault.Fault.{Fault};
 ghost use Rattle.claims.specs.Files.{Same, IsWant, pattern_of};
 
-use library_calls::same;
+use library_calls::{Compared, same};
 use life_canon::laws::files_are_on_plane;
 use std::alloc::Global;
 
@@ -17,14 +17,13 @@ pub fn files_are_compared(
     second: &[u8],
     limit: u64,
     seed: u64,
-    is_same: &mut u32,
-    line: &mut u64,
-) -> u32
-    ensures answer { result ≡ 0 → (line.new ≡ 0) × IsOk (pattern_of first.now) × IsOk (pattern_of second.now)
-        × (((is_same.new ≡ 1) × Same first.now second.now) ⊎ ((is_same.new ≡ 0) × (Same first.now second.now → ⊥))) }
-    ensures refused { result ≢ 0 → (is_same.new ≡ 0) × ((fault : Fault) × (result ≡ kind_number fault.kind) × (line.new ≡ fault.place.line)
+) -> Compared
+    ensures answer { result.status ≡ 0 → (result.line ≡ 0) × IsOk (pattern_of first.now) × IsOk (pattern_of second.now)
+        × (((result.is_same ≡ 1) × Same first.now second.now) ⊎ ((result.is_same ≡ 0) × (Same first.now second.now → ⊥))) }
+    ensures refused { result.status ≢ 0 → (result.is_same ≡ 0) × ((fault : Fault) × (result.status ≡ kind_number fault.kind)
+        × (result.line ≡ fault.place.line)
         × ((pattern_of first.now ≡ Err fault) ⊎ ((IsOk (pattern_of first.now) × (pattern_of second.now ≡ Err fault)) ⊎ IsWant fault))) }
 {
     files_are_on_plane();
-    same(alloc, first, second, limit, seed, is_same, line)
+    same(alloc, first, second, limit, seed)
 }

@@ -9,7 +9,7 @@ ghost use Rattle.claims.specs.Table.{Table, table_of};
 ghost use Rattle.library_calls.specs.Told.{Answers, Gives, Tells};
 ghost use Rattle.library_theorems.specs.Answered.{IsUnread};
 
-use library_calls::{step, step_by_table};
+use library_calls::{Told, step, step_by_table};
 use life_base::{Fault, Kind};
 use life_canon::laws::{files_are_on_plane, files_are_unique};
 use life_quad::{Seed, Shared};
@@ -25,17 +25,14 @@ pub fn next_generation_is_told(
     limit: u64,
     seed: u64,
     out: &mut [u8],
-    needed: &mut usize,
-    line: &mut u64,
-) -> u32
-    ensures { Answers (IsStepped file.now) (λ fault. IsUnread file.now fault ⊎ IsUnstepped file.now fault) line.new
-        (record { before = out.old; after = out.new; needed = needed.new; status = result }) }
+) -> Told
+    ensures { Answers (IsStepped file.now) (λ fault. IsUnread file.now fault ⊎ IsUnstepped file.now fault) out.old out.new result }
 {
     files_are_on_plane();
-    step(alloc, file, limit, seed, out, needed, line)
+    step(alloc, file, limit, seed, out)
 }
 
-/// The same by a rule table. Where 0 is told in `in_table`, the line of `Ambiguous` is one of the table's file. Where 1 is told,
+/// The same by a rule table. Where 0 is told beside it, the line of `Ambiguous` is one of the table's file. Where 1 is told,
 /// the number and the line are those of the fault of the table's file, or memory was wanted to read it.
 pub fn next_generation_by_table_is_told(
     alloc: Global,
@@ -44,22 +41,18 @@ pub fn next_generation_by_table_is_told(
     limit: u64,
     seed: u64,
     out: &mut [u8],
-    needed: &mut usize,
-    line: &mut u64,
-    in_table: &mut u32,
-) -> u32
-    ensures { ((in_table.new ≡ 0) × ((table : Table) × (table_of rules.now ≡ Ok table)
-        × Answers (IsSteppedBy table file.now) (λ fault. IsUnread file.now fault ⊎ IsUnsteppedBy table file.now fault) line.new
-        (record { before = out.old; after = out.new; needed = needed.new; status = result })))
-        ⊎ ((in_table.new ≡ 1) × ((fault : Fault) × ((table_of rules.now ≡ Err fault) ⊎ (fault ≡ fault_of Kind.Memory))
-        × Tells fault line.new (record { before = out.old; after = out.new; needed = needed.new; status = result }))) }
+) -> (Told, u32)
+    ensures { ((result.1 ≡ 0) × ((table : Table) × (table_of rules.now ≡ Ok table)
+        × Answers (IsSteppedBy table file.now) (λ fault. IsUnread file.now fault ⊎ IsUnsteppedBy table file.now fault) out.old out.new result.0))
+        ⊎ ((result.1 ≡ 1) × ((fault : Fault) × ((table_of rules.now ≡ Err fault) ⊎ (fault ≡ fault_of Kind.Memory))
+        × Tells fault out.old out.new result.0)) }
 {
     files_are_on_plane();
     grammars_agree();
     tables_read();
     tables_refuse();
     tables_decide();
-    step_by_table(alloc, file, rules, limit, seed, out, needed, line, in_table)
+    step_by_table(alloc, file, rules, limit, seed, out)
 }
 
 /// The text of the next generation that was put into the caller's memory is its own canonical text.
@@ -69,20 +62,18 @@ pub fn told_next_text_is_fixed(
     limit: u64,
     seed: u64,
     out: &mut [u8],
-    needed: &mut usize,
-    line: &mut u64,
     text: &[u8],
     other_limit: u64,
     other_seed: Seed,
-) -> (u32, Result<Vec<u8>, Fault>)
+) -> (Told, Result<Vec<u8>, Fault>)
     requires { other_limit ≤ 2 ^ 62 }
-    ensures { result.0 ≡ 0 → Gives text.now (record { before = out.old; after = out.new; needed = needed.new; status = result.0 })
+    ensures { result.0.status ≡ 0 → Gives text.now out.old out.new result.0
         → IfOk result.1 (λ again. again.items ≡ text.now) }
 {
     files_are_unique();
-    let status = step(alloc, file, limit, seed, out, needed, line);
+    let told = step(alloc, file, limit, seed, out);
     let mut store = Shared::new(alloc, other_seed, other_limit);
-    (status, life_canon::canon(alloc, &mut store, text))
+    (told, life_canon::canon(alloc, &mut store, text))
 }
 
 /// So is the text of the next generation by a rule table.
@@ -93,19 +84,16 @@ pub fn told_next_text_by_table_is_fixed(
     limit: u64,
     seed: u64,
     out: &mut [u8],
-    needed: &mut usize,
-    line: &mut u64,
-    in_table: &mut u32,
     text: &[u8],
     other_limit: u64,
     other_seed: Seed,
-) -> (u32, Result<Vec<u8>, Fault>)
+) -> (Told, Result<Vec<u8>, Fault>)
     requires { other_limit ≤ 2 ^ 62 }
-    ensures { result.0 ≡ 0 → Gives text.now (record { before = out.old; after = out.new; needed = needed.new; status = result.0 })
+    ensures { result.0.status ≡ 0 → Gives text.now out.old out.new result.0
         → IfOk result.1 (λ again. again.items ≡ text.now) }
 {
     files_are_unique();
-    let status = step_by_table(alloc, file, rules, limit, seed, out, needed, line, in_table);
+    let (told, _) = step_by_table(alloc, file, rules, limit, seed, out);
     let mut store = Shared::new(alloc, other_seed, other_limit);
-    (status, life_canon::canon(alloc, &mut store, text))
+    (told, life_canon::canon(alloc, &mut store, text))
 }

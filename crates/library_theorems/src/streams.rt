@@ -7,14 +7,15 @@ ghost use Rattle.claims.specs.Files.{pattern_of};
 ghost use Rattle.claims.specs.Generation.{IsStepped, IsUnstepped};
 ghost use Rattle.claims.specs.Pattern.{Pattern};
 ghost use Rattle.claims.specs.Shown.{IsShown};
-ghost use Rattle.library_calls.specs.Forms.{IsTextOf, RefusesTextOf};
+ghost use Rattle.library_calls.specs.Forms.{IsTextOf};
 ghost use Rattle.library_calls.specs.Streams.{session_of, IsOpen, IsFed};
 ghost use Rattle.library_calls.specs.Told.{Answers, Gives};
-ghost use Rattle.library_calls.specs.declared.form.Form.{Form};
+ghost use Rattle.library_calls.specs.declared.session.Form.{Form as FormValue};
 ghost use Rattle.library_theorems.specs.Answered.{IsRleText, AreFiveLines, IsUnread, IsUnwritten};
+ghost use Rattle.library_theorems.specs.Ending.{IsEndFault};
 ghost use Rattle.theorems.specs.Joined.{joined};
 
-use library_calls::{Stream, close, feed, finish, open_canon, open_show, open_step, open_to_rle};
+use library_calls::{Form, Stream, Told, close, feed, finish, open};
 use life_base::{Fault, Kind};
 use life_canon::laws::{
     canonical_is_least, faults_stay, files_are_on_plane, files_are_unique, texts_are_files,
@@ -24,25 +25,36 @@ use life_quad::{Seed, Shared};
 use std::alloc::Global;
 
 /// What the end of the file tells whose pieces these are: each is fed to an open stream, which is finished and closed.
-fn told_of_pieces(
-    alloc: Global,
-    stream: &mut Stream,
-    pieces: &[Vec<u8>],
-    out: &mut [u8],
-    needed: &mut usize,
-    line: &mut u64,
-) -> u32
-    ensures { (form : Form) (limit : ℕ) → IsOpen (IsFed form limit []) (session_of stream.old)
-        → Answers (IsTextOf form (joined pieces.now)) (λ fault. IsUnread (joined pieces.now) fault ⊎ RefusesTextOf form limit (joined pieces.now) fault) line.new
-        (record { before = out.old; after = out.new; needed = needed.new; status = result }) }
+fn told_of_pieces(alloc: Global, stream: &mut Stream, pieces: &[Vec<u8>], out: &mut [u8]) -> Told
+    ensures { (form : FormValue) (limit : ℕ) → IsOpen (IsFed form limit []) (session_of stream.old)
+        → Answers (IsTextOf form (joined pieces.now)) (IsEndFault form limit (joined pieces.now)) out.old out.new result }
 {
     faults_stay();
     for piece in pieces {
-        feed(alloc, stream, piece, line);
+        feed(alloc, stream, piece);
     }
-    let status = finish(alloc, stream, out, needed, line);
+    let told = finish(alloc, stream, out);
     close(alloc, stream);
-    status
+    told
+}
+
+/// The same of a stream that is opened for a text of this form, and the status of the call that opens it.
+fn told_of_stream(
+    alloc: Global,
+    stream: &mut Stream,
+    pieces: &[Vec<u8>],
+    form: Form,
+    limit: u64,
+    seed: u64,
+    out: &mut [u8],
+) -> (u32, Told)
+    ensures opened { (result.0 ≡ 0) ⊎ (result.0 ≡ kind_number Kind.Memory) }
+    ensures told { result.0 ≡ 0
+        → Answers (IsTextOf form (joined pieces.now)) (IsEndFault form limit (joined pieces.now)) out.old out.new result.1 }
+{
+    let opened = open(alloc, stream, form, limit, seed);
+    let told = told_of_pieces(alloc, stream, pieces, out);
+    (opened, told)
 }
 
 /// A stream that was opened for the canonical text, which only want of memory refuses, and fed the pieces of a file, cut
@@ -54,19 +66,14 @@ pub fn canonical_text_of_stream(
     limit: u64,
     seed: u64,
     out: &mut [u8],
-    needed: &mut usize,
-    line: &mut u64,
-) -> (u32, u32)
+) -> (u32, Told)
     ensures opened { (result.0 ≡ 0) ⊎ (result.0 ≡ kind_number Kind.Memory) }
-    ensures told { result.0 ≡ 0 → Answers (IsCanonicalText (joined pieces.now)) (IsUnread (joined pieces.now)) line.new
-        (record { before = out.old; after = out.new; needed = needed.new; status = result.1 }) }
+    ensures told { result.0 ≡ 0 → Answers (IsCanonicalText (joined pieces.now)) (IsUnread (joined pieces.now)) out.old out.new result.1 }
 {
     files_are_on_plane();
     texts_are_files();
     texts_keep_patterns();
-    let opened = open_canon(alloc, stream, limit, seed);
-    let status = told_of_pieces(alloc, stream, pieces, out, needed, line);
-    (opened, status)
+    told_of_stream(alloc, stream, pieces, Form::Canonical, limit, seed, out)
 }
 
 /// The same of a stream for extended RLE.
@@ -77,16 +84,11 @@ pub fn rle_of_stream(
     limit: u64,
     seed: u64,
     out: &mut [u8],
-    needed: &mut usize,
-    line: &mut u64,
-) -> (u32, u32)
+) -> (u32, Told)
     ensures opened { (result.0 ≡ 0) ⊎ (result.0 ≡ kind_number Kind.Memory) }
-    ensures told { result.0 ≡ 0 → Answers (IsRleText (joined pieces.now)) (IsUnwritten (joined pieces.now)) line.new
-        (record { before = out.old; after = out.new; needed = needed.new; status = result.1 }) }
+    ensures told { result.0 ≡ 0 → Answers (IsRleText (joined pieces.now)) (IsUnwritten (joined pieces.now)) out.old out.new result.1 }
 {
-    let opened = open_to_rle(alloc, stream, limit, seed);
-    let status = told_of_pieces(alloc, stream, pieces, out, needed, line);
-    (opened, status)
+    told_of_stream(alloc, stream, pieces, Form::Rle, limit, seed, out)
 }
 
 /// The same of a stream for the five lines.
@@ -97,21 +99,16 @@ pub fn five_lines_of_stream(
     limit: u64,
     seed: u64,
     out: &mut [u8],
-    needed: &mut usize,
-    line: &mut u64,
-) -> (u32, u32)
+) -> (u32, Told)
     ensures opened { (result.0 ≡ 0) ⊎ (result.0 ≡ kind_number Kind.Memory) }
-    ensures told { result.0 ≡ 0 → Answers (AreFiveLines (joined pieces.now)) (IsUnread (joined pieces.now)) line.new
-        (record { before = out.old; after = out.new; needed = needed.new; status = result.1 }) }
+    ensures told { result.0 ≡ 0 → Answers (AreFiveLines (joined pieces.now)) (IsUnread (joined pieces.now)) out.old out.new result.1 }
 {
     canonical_is_least();
     files_are_on_plane();
     files_are_unique();
     texts_are_files();
     texts_keep_patterns();
-    let opened = open_show(alloc, stream, limit, seed);
-    let status = told_of_pieces(alloc, stream, pieces, out, needed, line);
-    (opened, status)
+    told_of_stream(alloc, stream, pieces, Form::Lines, limit, seed, out)
 }
 
 /// The same of a stream for the next generation.
@@ -122,18 +119,13 @@ pub fn next_generation_of_stream(
     limit: u64,
     seed: u64,
     out: &mut [u8],
-    needed: &mut usize,
-    line: &mut u64,
-) -> (u32, u32)
+) -> (u32, Told)
     ensures opened { (result.0 ≡ 0) ⊎ (result.0 ≡ kind_number Kind.Memory) }
     ensures told { result.0 ≡ 0 → Answers (IsStepped (joined pieces.now))
-        (λ fault. IsUnread (joined pieces.now) fault ⊎ IsUnstepped (joined pieces.now) fault) line.new
-        (record { before = out.old; after = out.new; needed = needed.new; status = result.1 }) }
+        (λ fault. IsUnread (joined pieces.now) fault ⊎ IsUnstepped (joined pieces.now) fault) out.old out.new result.1 }
 {
     files_are_on_plane();
-    let opened = open_step(alloc, stream, limit, seed);
-    let status = told_of_pieces(alloc, stream, pieces, out, needed, line);
-    (opened, status)
+    told_of_stream(alloc, stream, pieces, Form::Next, limit, seed, out)
 }
 
 /// Where no fault is told, the text of a stream that was fed a file's pieces, cut anywhere, is the one that `canon` of
@@ -146,21 +138,17 @@ pub fn stream_gives_the_text(
     limit: u64,
     seed: u64,
     out: &mut [u8],
-    needed: &mut usize,
-    line: &mut u64,
     other_limit: u64,
     other_seed: Seed,
-) -> (u32, u32, Result<Vec<u8>, Fault>)
+) -> (u32, Told, Result<Vec<u8>, Fault>)
     requires cut { whole.now ≡ joined pieces.now }
     requires limit { other_limit ≤ 2 ^ 62 }
-    ensures { result.0 ≡ 0 → (result.1 ≡ 0) ⊎ (result.1 ≡ 64) → IfOk result.2 (λ text. Gives text.items
-        (record { before = out.old; after = out.new; needed = needed.new; status = result.1 })) }
+    ensures { result.0 ≡ 0 → (result.1.status ≡ 0) ⊎ (result.1.status ≡ 64) → IfOk result.2 (λ text. Gives text.items out.old out.new result.1) }
 {
     files_are_unique();
-    let opened = open_canon(alloc, stream, limit, seed);
-    let status = told_of_pieces(alloc, stream, pieces, out, needed, line);
+    let (opened, told) = told_of_stream(alloc, stream, pieces, Form::Canonical, limit, seed, out);
     let mut store = Shared::new(alloc, other_seed, other_limit);
-    (opened, status, life_canon::canon(alloc, &mut store, whole))
+    (opened, told, life_canon::canon(alloc, &mut store, whole))
 }
 
 /// Where no fault is told, the five lines of a stream that was fed a file's pieces, cut anywhere, tell the file's pattern, and
@@ -173,24 +161,21 @@ pub fn stream_counts_the_text(
     limit: u64,
     seed: u64,
     out: &mut [u8],
-    needed: &mut usize,
-    line: &mut u64,
     other_limit: u64,
     other_seed: Seed,
-) -> (u32, u32, Result<Vec<u8>, Fault>)
+) -> (u32, Told, Result<Vec<u8>, Fault>)
     requires cut { whole.now ≡ joined pieces.now }
     requires limit { other_limit ≤ 2 ^ 62 }
-    ensures { result.0 ≡ 0 → (result.1 ≡ 0) ⊎ (result.1 ≡ 64) → IfOk result.2 (λ text. (lines : List ℕ)
-        × Gives lines (record { before = out.old; after = out.new; needed = needed.new; status = result.1 })
+    ensures { result.0 ≡ 0 → (result.1.status ≡ 0) ⊎ (result.1.status ≡ 64) → IfOk result.2 (λ text. (lines : List ℕ)
+        × Gives lines out.old out.new result.1
         × ((pattern : Pattern) × (pattern_of (joined pieces.now) ≡ Ok pattern) × IsShown pattern (node_lines text.items) lines)) }
 {
     files_are_on_plane();
     files_are_unique();
     texts_are_files();
-    let opened = open_show(alloc, stream, limit, seed);
-    let status = told_of_pieces(alloc, stream, pieces, out, needed, line);
+    let (opened, told) = told_of_stream(alloc, stream, pieces, Form::Lines, limit, seed, out);
     let mut store = Shared::new(alloc, other_seed, other_limit);
-    (opened, status, life_canon::canon(alloc, &mut store, whole))
+    (opened, told, life_canon::canon(alloc, &mut store, whole))
 }
 
 /// The text of the next generation that a stream put into the caller's memory is its own canonical text.
@@ -201,19 +186,16 @@ pub fn next_text_of_stream_is_fixed(
     limit: u64,
     seed: u64,
     out: &mut [u8],
-    needed: &mut usize,
-    line: &mut u64,
     text: &[u8],
     other_limit: u64,
     other_seed: Seed,
-) -> (u32, u32, Result<Vec<u8>, Fault>)
+) -> (u32, Told, Result<Vec<u8>, Fault>)
     requires { other_limit ≤ 2 ^ 62 }
-    ensures { result.0 ≡ 0 → result.1 ≡ 0 → Gives text.now (record { before = out.old; after = out.new; needed = needed.new; status = result.1 })
+    ensures { result.0 ≡ 0 → result.1.status ≡ 0 → Gives text.now out.old out.new result.1
         → IfOk result.2 (λ again. again.items ≡ text.now) }
 {
     files_are_unique();
-    let opened = open_step(alloc, stream, limit, seed);
-    let status = told_of_pieces(alloc, stream, pieces, out, needed, line);
+    let (opened, told) = told_of_stream(alloc, stream, pieces, Form::Next, limit, seed, out);
     let mut store = Shared::new(alloc, other_seed, other_limit);
-    (opened, status, life_canon::canon(alloc, &mut store, text))
+    (opened, told, life_canon::canon(alloc, &mut store, text))
 }

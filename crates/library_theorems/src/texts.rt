@@ -8,7 +8,7 @@ ghost use Rattle.claims.specs.Shown.{IsShown};
 ghost use Rattle.library_calls.specs.Told.{Answers, Gives};
 ghost use Rattle.library_theorems.specs.Answered.{IsRleText, AreFiveLines, IsUnread, IsUnwritten};
 
-use library_calls::{canon, show, to_rle};
+use library_calls::{Told, canon, show, to_rle};
 use life_base::Fault;
 use life_canon::laws::{
     canonical_is_least, files_are_on_plane, files_are_unique, texts_are_files, texts_keep_patterns,
@@ -24,16 +24,13 @@ pub fn canonical_text_is_told(
     limit: u64,
     seed: u64,
     out: &mut [u8],
-    needed: &mut usize,
-    line: &mut u64,
-) -> u32
-    ensures { Answers (IsCanonicalText file.now) (IsUnread file.now) line.new
-        (record { before = out.old; after = out.new; needed = needed.new; status = result }) }
+) -> Told
+    ensures { Answers (IsCanonicalText file.now) (IsUnread file.now) out.old out.new result }
 {
     files_are_on_plane();
     texts_are_files();
     texts_keep_patterns();
-    canon(alloc, file, limit, seed, out, needed, line)
+    canon(alloc, file, limit, seed, out)
 }
 
 /// Where no fault is told, the text is the one that `canon` of `life_canon` makes of the file.
@@ -43,35 +40,23 @@ pub fn told_text_is_that_of_canon(
     limit: u64,
     seed: u64,
     out: &mut [u8],
-    needed: &mut usize,
-    line: &mut u64,
     other_limit: u64,
     other_seed: Seed,
-) -> (u32, Result<Vec<u8>, Fault>)
+) -> (Told, Result<Vec<u8>, Fault>)
     requires { other_limit ≤ 2 ^ 62 }
-    ensures { (result.0 ≡ 0) ⊎ (result.0 ≡ 64) → IfOk result.1 (λ text. Gives text.items
-        (record { before = out.old; after = out.new; needed = needed.new; status = result.0 })) }
+    ensures { (result.0.status ≡ 0) ⊎ (result.0.status ≡ 64) → IfOk result.1 (λ text. Gives text.items out.old out.new result.0) }
 {
     files_are_unique();
-    let status = canon(alloc, file, limit, seed, out, needed, line);
+    let told = canon(alloc, file, limit, seed, out);
     let mut store = Shared::new(alloc, other_seed, other_limit);
-    (status, life_canon::canon(alloc, &mut store, file))
+    (told, life_canon::canon(alloc, &mut store, file))
 }
 
 /// The same of the text in extended RLE of a file, for which the file may have too many cells.
-pub fn rle_is_told(
-    alloc: Global,
-    file: &[u8],
-    limit: u64,
-    seed: u64,
-    out: &mut [u8],
-    needed: &mut usize,
-    line: &mut u64,
-) -> u32
-    ensures { Answers (IsRleText file.now) (IsUnwritten file.now) line.new
-        (record { before = out.old; after = out.new; needed = needed.new; status = result }) }
+pub fn rle_is_told(alloc: Global, file: &[u8], limit: u64, seed: u64, out: &mut [u8]) -> Told
+    ensures { Answers (IsRleText file.now) (IsUnwritten file.now) out.old out.new result }
 {
-    to_rle(alloc, file, limit, seed, out, needed, line)
+    to_rle(alloc, file, limit, seed, out)
 }
 
 /// The same of the five lines that tell a file's pattern.
@@ -81,18 +66,15 @@ pub fn five_lines_are_told(
     limit: u64,
     seed: u64,
     out: &mut [u8],
-    needed: &mut usize,
-    line: &mut u64,
-) -> u32
-    ensures { Answers (AreFiveLines file.now) (IsUnread file.now) line.new
-        (record { before = out.old; after = out.new; needed = needed.new; status = result }) }
+) -> Told
+    ensures { Answers (AreFiveLines file.now) (IsUnread file.now) out.old out.new result }
 {
     canonical_is_least();
     files_are_on_plane();
     files_are_unique();
     texts_are_files();
     texts_keep_patterns();
-    show(alloc, file, limit, seed, out, needed, line)
+    show(alloc, file, limit, seed, out)
 }
 
 /// Where no fault is told, the five lines tell the file's pattern, and how many node lines the text has that `canon` of
@@ -103,20 +85,18 @@ pub fn told_lines_count_the_text(
     limit: u64,
     seed: u64,
     out: &mut [u8],
-    needed: &mut usize,
-    line: &mut u64,
     other_limit: u64,
     other_seed: Seed,
-) -> (u32, Result<Vec<u8>, Fault>)
+) -> (Told, Result<Vec<u8>, Fault>)
     requires { other_limit ≤ 2 ^ 62 }
-    ensures { (result.0 ≡ 0) ⊎ (result.0 ≡ 64) → IfOk result.1 (λ text. (lines : List ℕ)
-        × Gives lines (record { before = out.old; after = out.new; needed = needed.new; status = result.0 })
+    ensures { (result.0.status ≡ 0) ⊎ (result.0.status ≡ 64) → IfOk result.1 (λ text. (lines : List ℕ)
+        × Gives lines out.old out.new result.0
         × ((pattern : Pattern) × (pattern_of file.now ≡ Ok pattern) × IsShown pattern (node_lines text.items) lines)) }
 {
     files_are_on_plane();
     files_are_unique();
     texts_are_files();
-    let status = show(alloc, file, limit, seed, out, needed, line);
+    let told = show(alloc, file, limit, seed, out);
     let mut store = Shared::new(alloc, other_seed, other_limit);
-    (status, life_canon::canon(alloc, &mut store, file))
+    (told, life_canon::canon(alloc, &mut store, file))
 }

@@ -16,4 +16,4 @@ unnamed : (number : ℕ) → number ≢ 0 → number ≢ 64 → number ≢ 65 �
 unnamed number not_ok not_room not_form differs = grind (arith, common_steps, none_found number KINDS differs)
 
 pub returns-clause-none : goal.returns-clause-none
-returns-clause-none c not_ok not_room not_form differs = rw (c.name_of.ensures, unnamed c.args.number not_ok not_room not_form differs) at c.give.ensures
+returns-clause-none c not_ok not_room not_form differs = rw (c.name_of.ensures, unnamed c.args.number not_ok not_room not_form differs) at c.tell_name.ensures

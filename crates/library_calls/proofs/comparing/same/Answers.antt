@@ -1,10 +1,15 @@
-use Rattle.std.proofs.Common.{◌∙◌, refl}
-use Rattle.library_calls.specs.Comparing.{by_fault}
-use Rattle.library_calls.proofs.Answering.{either}
+use Rattle.std.proofs.Common.{◌∙◌, refl, sym, subst}
+use Rattle.library_calls.specs.Comparing.{ComparesWithin, by_answer, by_fault}
+use Rattle.library_calls.proofs.Answering.{either, is-answer}
 use Rattle.library_calls.proofs.comparing.same.Goals as goal
+
+pub returns-in-Ok : goal.returns-in-Ok
+returns-in-Ok c =
+    subst (ComparesWithin c.args.limit c.args.first.now c.args.second.now) (sym c.of.ensures)
+    (by_answer refl refl c.in-Ok.ensures.accepted.0 c.in-Ok.ensures.accepted.1 (is-answer c.in-Ok.answer c.in-Ok.ensures.answer))
 
 pub returns : goal.returns
 returns c =
-    by_fault c.in-Err.fault c.refuse.ensures.status c.refuse.ensures.line refl
-    (either c.args.limit c.args.first.now c.args.second.now c.same.new.store c.in-Err.fault (c.same.ensures.keeps.limit ∙ c.store_of-store.ensures)
-    c.in-Err.ensures.fault (λ e. c.in-Err.ensures.needed (cc)))
+    subst (ComparesWithin c.args.limit c.args.first.now c.args.second.now) (sym c.refused.ensures)
+    (by_fault c.in-Err.fault refl refl refl (either c.args.limit c.args.first.now c.args.second.now c.same.new.store c.in-Err.fault
+    (c.same.ensures.keeps.limit ∙ c.store_of-store.ensures) c.in-Err.ensures.fault (λ e. c.in-Err.ensures.needed (cc))))

@@ -7,10 +7,11 @@ use Rattle.library_calls.proofs.in_form.key.Goals as goal
 pub returns-in-Ok : goal.returns-in-Ok
 returns-in-Ok c =
     at-form _ _ _ c.in-Some.form (sym c.form_of.ensures ∙ c.in-Some.is)
-    (by_text c.digest.result (c.in-Ok.text.items, c.in-Ok.ensures.text, c.digest.ensures ∙ ap sha256 c.as_slice.ensures.value) c.give.ensures refl)
+    (by_text c.digest.result (c.in-Ok.text.items, c.in-Ok.ensures.text, c.digest.ensures ∙ ap sha256 c.as_slice.ensures.value) c.give.ensures.gives
+    c.give.ensures.line)
 
 pub returns-in-Err : goal.returns-in-Err
 returns-in-Err c =
     at-form _ _ _ c.in-Some.form (sym c.form_of.ensures ∙ c.in-Some.is)
     (by_fault c.in-Err.fault c.in-Err.ensures.fault
-    (record { status = c.refuse.ensures.status; line = c.refuse.ensures.line; needed = refl; after = refl }))
+    (record { status = c.refuse.ensures.status; line = c.refuse.ensures.line; needed = c.refuse.ensures.needed; kept = refl }))

@@ -6,7 +6,7 @@ use Rattle.library_calls.proofs.stepping.step.Goals as goal
 
 pub returns : goal.returns
 returns c =
-    answered (λ text. text.items) (IsStepped c.args.bytes.now) (RefusesStepWithin c.args.limit c.args.bytes.now) _ _ c.step_life-found.result
+    answered (λ text. text.items) (IsStepped c.args.bytes.now) (RefusesStepWithin c.args.limit c.args.bytes.now) _ _ _ c.step_life-found.result
     c.step_life-found.ensures.stepped
     (refused_step c.args.limit c.args.bytes.now c.step_life-found.new.store c.step_life-found.result
     (c.step_life-found.ensures.keeps.limit ∙ c.store_of-store.ensures) c.step_life-found.ensures.refused

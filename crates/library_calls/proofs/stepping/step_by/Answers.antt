@@ -6,7 +6,7 @@ use Rattle.library_calls.proofs.stepping.step_by.Goals as goal
 
 pub returns : goal.returns
 returns c =
-    answered (λ text. text.items) (IsSteppedBy c.args.table.now c.args.bytes.now) (RefusesStepByWithin c.args.table.now c.args.limit c.args.bytes.now) _ _
+    answered (λ text. text.items) (IsSteppedBy c.args.table.now c.args.bytes.now) (RefusesStepByWithin c.args.table.now c.args.limit c.args.bytes.now) _ _ _
     c.step_table-found.result c.step_table-found.ensures.stepped
     (refused_step_by c.args.table.now c.args.limit c.args.bytes.now c.step_table-found.new.store c.step_table-found.result
     (c.step_table-found.ensures.keeps.limit ∙ c.store_of-store.ensures) c.step_table-found.ensures.refused

@@ -8,4 +8,4 @@ returns-in-Ok c = by_table c.in-Ok.table c.in-Ok.ensures.ok refl c.step_by.ensur
 pub returns-in-Err : goal.returns-in-Err
 returns-in-Err c =
     by_no_table c.in-Err.fault c.in-Err.ensures.err refl
-    (record { status = c.refuse.ensures.status; line = c.refuse.ensures.line; needed = refl; after = refl })
+    (record { status = c.refuse.ensures.status; line = c.refuse.ensures.line; needed = c.refuse.ensures.needed; kept = refl })

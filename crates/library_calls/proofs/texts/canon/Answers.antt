@@ -8,7 +8,7 @@ use Rattle.library_calls.proofs.texts.canon.Goals as goal
 
 pub returns : goal.returns
 returns c =
-    answered (λ text. text.items) (IsCanonicalText c.args.bytes.now) (RefusesWithin c.args.limit c.args.bytes.now) _ _ c.canon-found.result
+    answered (λ text. text.items) (IsCanonicalText c.args.bytes.now) (RefusesWithin c.args.limit c.args.bytes.now) _ _ _ c.canon-found.result
     (both (λ text. IsCanonical MAX_LEVEL c.args.bytes.now text.items) (λ text. IsLeastText MAX_LEVEL c.args.bytes.now text.items) c.canon-found.result
     c.canon-found.ensures.text c.canon-found.ensures.least)
     (refused c.args.limit c.args.bytes.now c.canon-found.new.store c.canon-found.result

@@ -7,7 +7,7 @@ use Rattle.library_calls.proofs.texts.show.Goals as goal
 
 pub returns : goal.returns
 returns c =
-    answered (λ text. text.items) (IsShown MAX_LEVEL c.args.bytes.now) (RefusesWithin c.args.limit c.args.bytes.now) _ _ c.show-found.result
+    answered (λ text. text.items) (IsShown MAX_LEVEL c.args.bytes.now) (RefusesWithin c.args.limit c.args.bytes.now) _ _ _ c.show-found.result
     c.show-found.ensures.text
     (refused c.args.limit c.args.bytes.now c.show-found.new.store c.show-found.result
     (c.show-found.ensures.keeps.limit ∙ c.store_of-store.ensures) c.show-found.ensures.fault c.show-found.ensures.needed)

@@ -8,7 +8,7 @@ use Rattle.library_calls.proofs.texts.to_rle.Goals as goal
 
 pub returns : goal.returns
 returns c =
-    answered (λ text. text.items) (IsRleText c.args.bytes.now) (RefusesRleWithin c.args.limit c.args.bytes.now) _ _ c.to_rle-found.result
+    answered (λ text. text.items) (IsRleText c.args.bytes.now) (RefusesRleWithin c.args.limit c.args.bytes.now) _ _ _ c.to_rle-found.result
     (both (λ text. IsRleOf MAX_LEVEL (2 ^ 20) c.args.bytes.now text.items) (λ text. Same MAX_LEVEL c.args.bytes.now text.items) c.to_rle-found.result
     c.to_rle-found.ensures.text c.to_rle-found.ensures.same)
     (refused_rle c.args.limit c.args.bytes.now c.to_rle-found.new.store c.to_rle-found.result

@@ -1,16 +1,12 @@
-use Rattle.library_calls.specs.declared.form.Form.TheVariants.{Next}
 use Rattle.theorems.specs.Joined.{joined}
 use Rattle.theorems.proofs.FileLaw.{map_ok}
 use Rattle.step_theorems.proofs.StepLaw.{next_is_fixed}
-use Rattle.library_theorems.proofs.Pieces.{is_open}
 use Rattle.library_theorems.proofs.Reworded.{fixed_so}
 use Rattle.library_theorems.proofs.streams.next_text_of_stream_is_fixed.Goals as goal
 
 pub returns : goal.returns
 returns c = λ opened status here.
     map_ok c.canon.result
-    (λ again is. fixed_so c.args.text.now again.items _ _
-    (λ it stepped. next_is_fixed c.files_are_unique.ensures (joined c.args.pieces.now) it again.items stepped)
-    (c.told_of_pieces-status.ensures Next c.args.limit
-    (is_open Next c.args.limit c.open_step-opened.result c.open_step-opened.new.stream.held.session c.open_step-opened.ensures opened)) status here is)
-    c.canon.ensures.text
+    (λ again is. fixed_so c.args.text.now again.items _ _ _
+    (λ it stepped. next_is_fixed c.files_are_unique.ensures (joined c.args.pieces.now) it again.items stepped) (c.told_of_stream-told.ensures.told opened)
+    status here is) c.canon.ensures.text

@@ -19,5 +19,5 @@ loop-piece-preserved c = λ form limit begun.
 pub returns : goal.returns
 returns c = λ form limit begun.
     told_at_end c.faults_stay.ensures form limit c.args.pieces.now c.loop-piece.piece-index c.loop-piece.stream.held.session
-    c.finish-status.new.stream.held.session _ _ c.loop-piece-test.false (c.finish-status.ensures.ends form limit (joined c.args.pieces.now))
-    c.finish-status.ensures.fault c.finish-status.ensures.tells (c.loop-piece.invariant form limit begun)
+    c.finish-told.new.stream.held.session _ _ _ c.loop-piece-test.false (c.finish-told.ensures.ends form limit (joined c.args.pieces.now))
+    c.finish-told.ensures.fault c.finish-told.ensures.tells (c.loop-piece.invariant form limit begun)

@@ -5,5 +5,5 @@ use Rattle.library_theorems.proofs.texts.told_lines_count_the_text.Goals as goal
 pub returns : goal.returns
 returns c = λ status.
     map_ok c.canon.result
-    (λ text is. counted_so c.files_are_on_plane.ensures c.files_are_unique.ensures c.texts_are_files.ensures c.args.file.now text.items _ _ is
-    c.show-status.ensures status) c.canon.ensures.text
+    (λ text is. counted_so c.files_are_on_plane.ensures c.files_are_unique.ensures c.texts_are_files.ensures c.args.file.now text.items _ _ _ is
+    c.show-told.ensures status) c.canon.ensures.text

@@ -4,4 +4,4 @@ use Rattle.library_theorems.proofs.texts.told_text_is_that_of_canon.Goals as goa
 
 pub returns : goal.returns
 returns c = λ status.
-    map_ok c.canon.result (λ text is. text_so c.files_are_unique.ensures c.args.file.now text.items _ _ is c.canon-status.ensures status) c.canon.ensures.text
+    map_ok c.canon.result (λ text is. text_so c.files_are_unique.ensures c.args.file.now text.items _ _ _ is c.canon-told.ensures status) c.canon.ensures.text

@@ -1,7 +1,7 @@
 use Rattle.std.proofs.Common.{◌∙◌, sym, ap, subst}
 use Rattle.std.proofs.lemmas.Result.{IfOk-weaker, IfErr-weaker, err_from_is_err_and}
 use Rattle.library_calls.specs.Forms.{Piecewise, IsTextOf, RefusesTextOf}
-use Rattle.library_calls.specs.declared.form.Form.{Form}
+use Rattle.library_calls.specs.declared.session.Form.{Form}
 use Rattle.library_calls.proofs.Answering.{and-lacks, both}
 use Rattle.library_calls.proofs.StreamFacts.{form-text, text-fault, wants, rle-fault, next-fault}
 use Rattle.library_calls.proofs.feeding.Feeding.text.Goals as goal

@@ -1,6 +1,6 @@
 use Rattle.std.proofs.Common.{refl}
 use Rattle.library_calls.proofs.StreamFacts.{takes-piece, takes-fault}
-use Rattle.library_calls.proofs.pieces.fed.Goals as goal
+use Rattle.library_calls.proofs.session.fed.Goals as goal
 
 pub returns-in-Ok-clause-takes : goal.returns-in-Ok-clause-takes
 returns-in-Ok-clause-takes c = λ form limit bytes.

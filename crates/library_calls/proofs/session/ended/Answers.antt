@@ -1,6 +1,6 @@
 use Rattle.std.proofs.Common.{refl}
 use Rattle.library_calls.proofs.StreamFacts.{ends-text, ends-fault}
-use Rattle.library_calls.proofs.pieces.ended.Goals as goal
+use Rattle.library_calls.proofs.session.ended.Goals as goal
 
 pub returns-in-Ok-clause-ends : goal.returns-in-Ok-clause-ends
 returns-in-Ok-clause-ends c = λ form limit bytes.

@@ -1,0 +1,25 @@
+//! What a call told, put where the caller wants it.
+
+ghost use Rattle.std.specs.Prelude.{◌≡◌};
+ghost use Rattle.library_calls.specs.Comparing.{compared};
+ghost use Rattle.library_calls.specs.Told.{told};
+
+use library_calls::{Compared, Told};
+
+/// Puts the length and the line of what was told into `needed` and `line`. The answer is the status.
+pub(crate) fn tell(answer: Told, needed: &mut usize, line: &mut u64) -> u32
+    ensures { answer ≡ told result needed.new line.new }
+{
+    *needed = answer.needed;
+    *line = answer.line;
+    answer.status
+}
+
+/// The same of a comparison.
+pub(crate) fn tell_compared(answer: Compared, is_same: &mut u32, line: &mut u64) -> u32
+    ensures { answer ≡ compared result is_same.new line.new }
+{
+    *is_same = answer.is_same;
+    *line = answer.line;
+    answer.status
+}
