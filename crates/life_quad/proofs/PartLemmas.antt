@@ -79,7 +79,8 @@ pair_kept true x y (quad a b c d) f e = by (is_blank_tree a && is_blank_tree b &
     by false h = kept_two x y c d (f.5 ∙ da) (f.6 ∙ da)
 
 -- the rows of bands one behind the other
-row_append : (low : Bool) (y : ℤ) (l m : List Piece) → row_cells y (half_band low 1 (l ++ m)) ≡ row_cells y (half_band low 1 l) ++ row_cells y (half_band low 1 m)
+row_append : (low : Bool) (y : ℤ) (l m : List Piece)
+    → row_cells y (half_band low 1 (l ++ m)) ≡ row_cells y (half_band low 1 l) ++ row_cells y (half_band low 1 m)
 row_append low y l m = ap (row_cells y) (flat_map-append (quarters_at low 1) l m) ∙ map-append _ (half_band low 1 l) (half_band low 1 m)
 
 live_two : (x y : ℤ) (s t : ℕ) (states : List ℕ) → live_cells x y (s ∷ t ∷ []) ++ live_cells (x +ℤ pos 2) y states ≡ live_cells x y (s ∷ t ∷ states)
@@ -134,7 +135,8 @@ rows_are row r0 r1 r2 r3 band old first second third new (west, w) e0 e1 e2 e3 a
     let last : r3 ≡ (row +ℤ pos 2) +ℤ pos 1 = omega (arith, ints, e3) in
     d ∙ ap (λ l. l ++ part_cells true true r3 band) (c ∙ ap (λ l. l ++ part_cells true false r2 band) (b ∙ ap (λ l. l ++ part_cells false true r1 band) a))
     ∙ joined old _ _ _ _
-    ∙ (λ i. old ++ ((part_cells false false (e0 i) band ++ part_cells false true (e1 i) band) ++ (part_cells true false (e2 i) band ++ part_cells true true (last i) band)))
+    ∙ (λ i. old ++ ((part_cells false false (e0 i) band ++ part_cells false true (e1 i) band)
+    ++ (part_cells true false (e2 i) band ++ part_cells true true (last i) band)))
     ∙ ap (λ l. old ++ l) (four_parts row west band w)
   where
     joined : (o u v w x : List Cell) → (((o ++ u) ++ v) ++ w) ++ x ≡ o ++ ((u ++ v) ++ (w ++ x))
