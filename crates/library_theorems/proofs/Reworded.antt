@@ -35,10 +35,12 @@ use Rattle.step_theorems.proofs.StepLaw.{unstepped_is}
 use Rattle.step_theorems.proofs.StepBy.{next_by_is_fixed, stepped_is, unstepped_is as unstepped_by_is}
 use Rattle.library_calls.specs.Answers.{RefusesWithin, RefusesRleWithin}
 use Rattle.library_calls.specs.Answers.{IsCanonicalText as LayerText, IsRleText as LayerRle}
-use Rattle.library_calls.specs.Comparing.{Compared, ComparesWithin, by_answer, IsAnswerOf, RefusesEither}
+use Rattle.library_calls.specs.declared.comparing.Compared.{Compared}
+use Rattle.library_calls.specs.Comparing.{ComparesWithin, by_answer, IsAnswerOf, RefusesEither}
 use Rattle.library_calls.specs.Comparing as comparing
 use Rattle.library_calls.specs.Stepping.{RefusesStepWithin, RefusesStepByWithin, StepsByTable, by_table, by_no_table}
-use Rattle.library_calls.specs.Told.{Told, Copies, LacksRoom, Gives, Tells, Answers, by_text, by_fault}
+use Rattle.library_calls.specs.declared.telling.Told.{Told}
+use Rattle.library_calls.specs.Told.{Copies, LacksRoom, Gives, Tells, Answers, by_text, by_fault}
 use Rattle.library_theorems.specs.Answered.{IsRleText, AreFiveLines, IsUnread, IsUnwritten}
 use Rattle.library_theorems.proofs.Numbered.{IsOfText, no_text}
 

@@ -8,5 +8,5 @@ pub returns : goal.returns
 returns c = λ opened status here.
     map_ok c.canon.result
     (λ again is. fixed_so c.args.text.now again.items _ _ _
-    (λ it stepped. next_is_fixed c.files_are_unique.ensures (joined c.args.pieces.now) it again.items stepped) (c.told_of_stream-told.ensures.told opened)
+    (λ it stepped. next_is_fixed c.files_are_unique.ensures (joined c.args.pieces.now) it again.items stepped) (c.told_of_stream-opened.ensures.told opened)
     status here is) c.canon.ensures.text

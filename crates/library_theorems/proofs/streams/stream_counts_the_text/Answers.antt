@@ -9,5 +9,5 @@ pub returns : goal.returns
 returns c = λ opened status.
     map_ok c.canon.result
     (λ text is. counted_so c.files_are_on_plane.ensures c.files_are_unique.ensures c.texts_are_files.ensures (joined c.args.pieces.now) text.items _ _ _
-    (subst (λ (bytes : List ℕ). IsCanonical 62 bytes text.items) c.requires.cut is) (c.told_of_stream-told.ensures.told opened) status)
+    (subst (λ (bytes : List ℕ). IsCanonical 62 bytes text.items) c.requires.cut is) (c.told_of_stream-opened.ensures.told opened) status)
     c.canon.ensures.text

@@ -1,6 +1,6 @@
 use Rattle.std.proofs.Common.{ℕ, []}
 use Rattle.library_calls.specs.Streams.{session_of, IsOpen, IsFed}
-use Rattle.library_calls.specs.declared.form.Form.{Form}
+use Rattle.library_calls.specs.declared.session.Form.{Form}
 use Rattle.library_theorems.proofs.Pieces.{Took}
 use Rattle.library_theorems.proofs.streams.told_of_pieces.Given as goal
 
