@@ -8,7 +8,7 @@ ghost use Rattle.life_cli.specs.declared.plans.Form.{Form as FormValue};
 ghost use Rattle.life_cli.specs.declared.plans.Target.{Target as TargetValue};
 
 use super::commands::parse;
-use super::{Form, Job, Plan, Target, Usage};
+use super::{Form, Job, KeysPlan, Plan, Request, Target, Usage};
 use clap::error::ErrorKind;
 use clap::{ArgMatches, Command};
 use std::alloc::Global;
@@ -179,69 +179,121 @@ fn step(alloc: Global, found: &ArgMatches<'_>) -> Result<Plan, Usage>
     }
 }
 
-fn names_input(found: &ArgMatches<'_>, id: &str) -> bool
-    ensures { result ≡ is_input (first_of id.now (rows_of (found_of found.now))) }
+/// The refusal of a command that is no job over one file or two.
+fn no_job(alloc: Global) -> Usage
 {
-    match value(found, id) {
-        Some(text) => text == "-",
-        None => false,
+    let mut command = Command::new(alloc, "golly_canon").override_usage("golly_canon <COMMAND>");
+    match command.error(
+        ErrorKind::InvalidSubcommand,
+        "the command is none over one file or two",
+    ) {
+        Ok(error) => Usage::Words(error),
+        Err(_) => Usage::Memory,
     }
 }
 
-/// How many of the files are standard input.
-fn inputs(found: &ArgMatches<'_>) -> u8
-    ensures { result ≡ input_count (rows_of (found_of found.now)) }
+/// The refusal of words that name no file.
+fn lacks_files(alloc: Global) -> Usage
+{
+    let mut command = Command::new(alloc, "golly_canon").override_usage("golly_canon keys [OPTIONS] [FILE]...");
+    match command.error(
+        ErrorKind::MissingRequiredArgument,
+        "a FILE or --from LIST has to be given",
+    ) {
+        Ok(error) => Usage::Words(error),
+        Err(_) => Usage::Memory,
+    }
+}
+
+/// All values of an option or of files.
+fn values<'m, 'a>(found: &'m ArgMatches<'a>, id: &str) -> &'m [&'a str]
+{
+    match found.get_strs(id) {
+        Some(values) => values,
+        None => &[],
+    }
+}
+
+fn keys<'a>(alloc: Global, found: &ArgMatches<'a>) -> Result<KeysPlan<'a>, Usage>
+{
+    let names = values(found, "FILE");
+    let from = value(found, "from");
+    if names.is_empty() && from.is_none() {
+        return Err(lacks_files(alloc));
+    }
+    let form = form(alloc, found)?;
+    let mut files = Vec::new(alloc);
+    files.extend_from_slice(names)?;
+    Ok(KeysPlan {
+        form,
+        zero: found.get_flag("zero"),
+        from,
+        files,
+    })
+}
+
+/// How many of these names are standard input, counted up to two.
+fn inputs_among(names: &[&str]) -> u8
 {
     let mut count = 0;
-    if names_input(found, "FILE") {
-        count += 1;
-    }
-    if names_input(found, "A") {
-        count += 1;
-    }
-    if names_input(found, "B") {
-        count += 1;
-    }
-    if names_input(found, "table") {
-        count += 1;
+    for name in names {
+        if *name == "-" && count < 2 {
+            count += 1;
+        }
     }
     count
 }
 
-/// The plan of matches that name standard input once at most.
-fn from_command(alloc: Global, matches: &ArgMatches<'_>) -> Result<Plan, Usage>
+/// How many of the values under a name are standard input, counted up to two.
+fn inputs(found: &ArgMatches<'_>, id: &str) -> u8
+{
+    inputs_among(values(found, id))
+}
+
+/// Whether standard input is named twice.
+fn names_input_twice(found: &ArgMatches<'_>) -> bool
+{
+    let files = inputs(found, "FILE") + inputs(found, "A") + inputs(found, "B");
+    files + inputs(found, "table") + inputs(found, "from") > 1
+}
+
+/// What matches ask for that name standard input once at most.
+fn from_command<'a>(alloc: Global, matches: &ArgMatches<'a>) -> Result<Request<'a>, Usage>
     requires whole { AreWhole (subcommand_rows_of matches.now) }
     requires once { ¬ NamesInputTwice (subcommand_rows_of matches.now) }
     ensures ok { IfOk result (IsPlanOf (subcommand_rows_of matches.now)) }
     ensures refused { IfErr result (Explains [] (subcommand_rows_of matches.now)) }
 {
     if let Some(found) = matches.subcommand_matches("canon") {
-        return canon(alloc, found);
+        return Ok(Request::Work(canon(alloc, found)?));
     }
     if let Some(found) = matches.subcommand_matches("convert") {
-        return convert(alloc, found);
+        return Ok(Request::Work(convert(alloc, found)?));
     }
     if let Some(found) = matches.subcommand_matches("same") {
-        return same(alloc, found);
+        return Ok(Request::Work(same(alloc, found)?));
     }
     if let Some(found) = matches.subcommand_matches("show") {
-        return show(alloc, found);
+        return Ok(Request::Work(show(alloc, found)?));
     }
     if let Some(found) = matches.subcommand_matches("step") {
-        return step(alloc, found);
+        return Ok(Request::Work(step(alloc, found)?));
+    }
+    if let Some(found) = matches.subcommand_matches("keys") {
+        return Ok(Request::Keys(keys(alloc, found)?));
     }
     unreachable!()
 }
 
-/// The plan of matches that have what their command wants.
-fn from_matches(alloc: Global, matches: &ArgMatches<'_>) -> Result<Plan, Usage>
+/// What matches ask for that have what their command wants.
+fn from_matches<'a>(alloc: Global, matches: &ArgMatches<'a>) -> Result<Request<'a>, Usage>
     requires { AreWhole (subcommand_rows_of matches.now) }
     ensures ok { IfOk result (IsPlanOf (subcommand_rows_of matches.now)) }
     ensures once { OnOk result (¬ NamesInputTwice (subcommand_rows_of matches.now)) }
     ensures refused { IfErr result (Explains [] (subcommand_rows_of matches.now)) }
 {
     if let Some((_, found)) = matches.subcommand() {
-        if inputs(found) > 1 {
+        if names_input_twice(found) {
             return Err(Usage::TwoInputs);
         }
     }
@@ -252,16 +304,25 @@ fn from_matches(alloc: Global, matches: &ArgMatches<'_>) -> Result<Plan, Usage>
 ///
 /// # Errors
 ///
-/// `Words` with the text to show, where `clap` finds a fault in the words, as which `--help` and `--version` count too, by its kind, and
-/// where the word behind `--to` is that of no format or the one behind `--form` that of no form, as `InvalidValue`; `TwoInputs` where words
-/// without a fault name `-` for two files, whatever stands behind these options; `Memory`.
-pub fn plan<S: AsStr>(alloc: Global, words: &[S]) -> Result<Plan, Usage>
-    ensures faultless { OnOk result (fault_of program (map S.text words.entry.now) ≡ []) }
-    ensures ok { IfOk result (IsPlanOf (subcommand_of program (map S.text words.entry.now))) }
-    ensures files { IfOk result (λ p. IsSome p.second ↔ HasSecond p.job) }
-    ensures once { OnOk result (¬ NamesInputTwice (subcommand_of program (map S.text words.entry.now))) }
-    ensures refused { IfErr result (Explains (fault_of program (map S.text words.entry.now)) (subcommand_of program (map S.text words.entry.now))) }
+/// `Words` with the text to show, where `clap` finds a fault in the words, as which `--help` and `--version` count too, by its kind; where the
+/// word behind `--to` is that of no format or the one behind `--form` that of no form, as `InvalidValue`; and where `keys` is given neither a
+/// file nor a list, as `MissingRequiredArgument`. `TwoInputs` where words without a fault name `-` for two files, whatever stands behind these
+/// options; `Memory`.
+pub fn request<'a, S: AsStr>(alloc: Global, words: &'a [S]) -> Result<Request<'a>, Usage>
 {
     let matches = parse(alloc, words)?;
     from_matches(alloc, &matches)
+}
+
+/// The plan of words that ask for a job over one file or two, as `request` has it.
+///
+/// # Errors
+///
+/// Those of `request`, and `Words` of words that ask for keys, as `InvalidSubcommand`.
+pub fn plan<S: AsStr>(alloc: Global, words: &[S]) -> Result<Plan, Usage>
+{
+    match request(alloc, words)? {
+        Request::Work(plan) => Ok(plan),
+        Request::Keys(_) => Err(no_job(alloc)),
+    }
 }
