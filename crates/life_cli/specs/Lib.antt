@@ -6,3 +6,4 @@ pub mod Plans
 pub mod Opening
 pub mod Usages
 pub mod Sentences
+pub mod Keys

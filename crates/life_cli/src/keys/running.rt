@@ -1,5 +1,9 @@
 //! The command `keys`: its files, one after another.
 
+ghost use Rattle.std.specs.Prelude.{◌≡◌, ◌⊎◌, IfErr, IfOk, OnOk, false};
+ghost use Rattle.life_cli.specs.Faults.{status_of};
+ghost use Rattle.life_cli.specs.Keys.{IsStatus};
+
 use super::key_of;
 use super::lines::{tell_refused, tell_unopened, write_key_line};
 use super::listing::first_name;
@@ -33,6 +37,12 @@ fn take_opened<R: Read + Drop, W: Sink, E: Sink>(
     out: &mut W,
     err: &mut E,
 ) -> Result<u8, Kind>
+    requires works { W.failures out.old ≡ 0 }
+    requires takes { W.stalled out.old ≡ false }
+    ensures status { IfOk result IsStatus }
+    ensures works { OnOk result (W.failures out.new ≡ 0) }
+    ensures takes { OnOk result (W.stalled out.new ≡ false) }
+    ensures kind { IfErr result (λ kind. kind ≡ Kind.WriteFault) }
 {
     let mut source = Device::new(opened.input).expecting(opened.bytes);
     let written = match key_of(settings.alloc, &settings.seeds, settings.form, &mut source) {
@@ -67,6 +77,14 @@ where
     F: FnMut(Origin<'_>) -> IoResult<Opened<R>> + Drop,
     W: Sink,
     E: Sink,
+    requires callable { F.IsAlwaysCallable opener.old }
+    requires works { W.failures out.old ≡ 0 }
+    requires takes { W.stalled out.old ≡ false }
+    ensures callable { F.IsAlwaysCallable opener.new }
+    ensures status { IfOk result IsStatus }
+    ensures works { OnOk result (W.failures out.new ≡ 0) }
+    ensures takes { OnOk result (W.stalled out.new ≡ false) }
+    ensures kind { IfErr result (λ kind. kind ≡ Kind.WriteFault) }
 {
     match opener(origin) {
         Ok(opened) => take_opened(settings, name, opened, room, out, err),
@@ -91,6 +109,14 @@ where
     F: FnMut(Origin<'_>) -> IoResult<Opened<R>> + Drop,
     W: Sink,
     E: Sink,
+    requires callable { F.IsAlwaysCallable opener.old }
+    requires works { W.failures out.old ≡ 0 }
+    requires takes { W.stalled out.old ≡ false }
+    ensures callable { F.IsAlwaysCallable opener.new }
+    ensures status { IfOk result IsStatus }
+    ensures works { OnOk result (W.failures out.new ≡ 0) }
+    ensures takes { OnOk result (W.stalled out.new ≡ false) }
+    ensures kind { IfErr result (λ kind. kind ≡ Kind.WriteFault) }
 {
     match str::from_utf8(name) {
         Ok(text) => take(settings, opener, Origin::File(text), name, room, out, err),
@@ -106,6 +132,9 @@ fn list_of<R, F>(alloc: Global, opener: &mut F, from: Option<&str>) -> Result<Ve
 where
     R: Read + Drop,
     F: FnMut(Origin<'_>) -> IoResult<Opened<R>> + Drop,
+    requires callable { F.IsAlwaysCallable opener.old }
+    ensures callable { F.IsAlwaysCallable opener.new }
+    ensures kind { IfErr result (λ kind. (kind ≡ Kind.ReadFault) ⊎ ((kind ≡ Kind.InputTooLong) ⊎ (kind ≡ Kind.Memory))) }
 {
     let Some(name) = from else {
         return Ok(Vec::new(alloc));
@@ -131,11 +160,21 @@ where
     F: FnMut(Origin<'_>) -> IoResult<Opened<R>> + Drop,
     W: Sink,
     E: Sink,
+    requires callable { F.IsAlwaysCallable opener.old }
+    requires works { W.failures out.old ≡ 0 }
+    requires takes { W.stalled out.old ≡ false }
+    ensures callable { F.IsAlwaysCallable opener.new }
+    ensures status { IfOk result IsStatus }
+    ensures works { OnOk result (W.failures out.new ≡ 0) }
+    ensures takes { OnOk result (W.stalled out.new ≡ false) }
+    ensures kind { IfErr result (λ kind. kind ≡ Kind.WriteFault) }
 {
     let mut greatest = 0;
     for name in names {
         let status = take(settings, opener, origin_of(name), name.as_bytes(), room, out, err)?;
-        greatest = status.max(greatest);
+        if status > greatest {
+            greatest = status;
+        }
     }
     Ok(greatest)
 }
@@ -154,6 +193,14 @@ where
     F: FnMut(Origin<'_>) -> IoResult<Opened<R>> + Drop,
     W: Sink,
     E: Sink,
+    requires callable { F.IsAlwaysCallable opener.old }
+    requires works { W.failures out.old ≡ 0 }
+    requires takes { W.stalled out.old ≡ false }
+    ensures callable { F.IsAlwaysCallable opener.new }
+    ensures status { IfOk result IsStatus }
+    ensures works { OnOk result (W.failures out.new ≡ 0) }
+    ensures takes { OnOk result (W.stalled out.new ≡ false) }
+    ensures kind { IfErr result (λ kind. kind ≡ Kind.WriteFault) }
 {
     let end = if settings.zero { b'\0' } else { b'\n' };
     let mut greatest = 0;
@@ -163,7 +210,9 @@ where
         rest = behind;
         if !name.is_empty() {
             let status = take_listed(settings, opener, name, room, out, err)?;
-            greatest = status.max(greatest);
+            if status > greatest {
+                greatest = status;
+            }
         }
     }
     Ok(greatest)
@@ -182,13 +231,22 @@ where
     F: FnMut(Origin<'_>) -> IoResult<Opened<R>> + Drop,
     W: Sink,
     E: Sink,
+    requires callable { F.IsAlwaysCallable opener.old }
+    requires works { W.failures out.old ≡ 0 }
+    requires takes { W.stalled out.old ≡ false }
+    ensures status { IfOk result IsStatus }
+    ensures kind { IfErr result (λ kind. IsStatus (status_of kind)) }
 {
     let list = list_of(settings.alloc, opener, plan.from)?;
     let mut room = Vec::new(settings.alloc);
     let named = take_named(settings, opener, plan.files.as_slice(), &mut room, out, err)?;
     let listed = take_list(settings, opener, list.as_slice(), &mut room, out, err)?;
     out.flush()?;
-    Ok(named.max(listed))
+    if named > listed {
+        Ok(named)
+    } else {
+        Ok(listed)
+    }
 }
 
 /// Writes a line for each file that the plan names, in their order: its key and its name. Files that are refused or can't be opened are told on
@@ -206,6 +264,10 @@ where
     F: FnMut(Origin<'_>) -> IoResult<Opened<R>> + Drop,
     W: Sink,
     E: Sink,
+    requires callable { F.IsAlwaysCallable opener }
+    requires works { W.failures out.old ≡ 0 }
+    requires takes { W.stalled out.old ≡ false }
+    ensures { IsStatus result }
 {
     let settings = Settings {
         alloc,

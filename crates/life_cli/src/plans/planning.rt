@@ -1,9 +1,10 @@
 //! The plan that the words ask for.
 
-ghost use Rattle.std.specs.Prelude.{◌≡◌, ◌≢◌, ◌↔◌, [], IfOk, IfErr, OnOk, Some, IsSome, MatchOption, map, option_map, string_bytes, codes};
+ghost use Rattle.std.specs.Prelude.{◌≡◌, ◌≢◌, ◌↔◌, ◌<◌, ◌^◌, [], IfOk, IfErr, OnOk, Some, IsSome, IsTrue, MatchOption, map, option_map, string_bytes, codes, count_by};
+ghost use Rattle.std.specs.Str.{bytes_eq};
 ghost use Rattle.clap.specs.Words.{fault_of, found_of, first_of, rows_of, subcommand_of, subcommand_rows_of};
 ghost use Rattle.life_cli.specs.CommandLine.{program};
-ghost use Rattle.life_cli.specs.Plans.{AreWhole, IsFound, IsPlanOf, HasNoForm, HasNoFormat, HasSecond, HoldsFile, HoldsFiles, HoldsForm, NamesInputTwice, Explains, RefusesWord, form_word, input_count, is_input, target_word};
+ghost use Rattle.life_cli.specs.Plans.{AreOfJob, AreWhole, IfWork, IsFound, IsPlanOf, IsRequestOf, HasNoForm, HasNoFormat, HasSecond, HoldsFile, HoldsFiles, HoldsFlag, HoldsForm, HoldsKeys, NamesInputTwice, Explains, ExplainsPlan, RefusesAs, RefusesKeys, RefusesWord, form_word, input_count, input_count_under, target_word, values_of};
 ghost use Rattle.life_cli.specs.declared.plans.Form.{Form as FormValue};
 ghost use Rattle.life_cli.specs.declared.plans.Target.{Target as TargetValue};
 
@@ -181,6 +182,7 @@ fn step(alloc: Global, found: &ArgMatches<'_>) -> Result<Plan, Usage>
 
 /// The refusal of a command that is no job over one file or two.
 fn no_job(alloc: Global) -> Usage
+    ensures { RefusesAs ErrorKind.InvalidSubcommand (Unit {0}) result }
 {
     let mut command = Command::new(alloc, "golly_canon").override_usage("golly_canon <COMMAND>");
     match command.error(
@@ -194,6 +196,7 @@ fn no_job(alloc: Global) -> Usage
 
 /// The refusal of words that name no file.
 fn lacks_files(alloc: Global) -> Usage
+    ensures { RefusesAs ErrorKind.MissingRequiredArgument (Unit {0}) result }
 {
     let mut command = Command::new(alloc, "golly_canon").override_usage("golly_canon keys [OPTIONS] [FILE]...");
     match command.error(
@@ -205,90 +208,130 @@ fn lacks_files(alloc: Global) -> Usage
     }
 }
 
-/// All values of an option or of files.
-fn values<'m, 'a>(found: &'m ArgMatches<'a>, id: &str) -> &'m [&'a str]
+/// The flag that writes and reads names that end in NUL.
+fn zero(found: &ArgMatches<'_>) -> bool
+    ensures { HoldsFlag (codes "zero") (rows_of (found_of found.now)) result }
 {
-    match found.get_strs(id) {
-        Some(values) => values,
-        None => &[],
+    found.get_flag("zero")
+}
+
+/// The files of `keys`.
+fn files<'a>(alloc: Global, found: &ArgMatches<'a>) -> Result<Vec<&'a str>, Usage>
+    ensures ok { IfOk result (λ files. map (λ name. name.now) files.items ≡ values_of (codes "FILE") (rows_of (found_of found.now))) }
+    ensures err { IfErr result (λ usage. usage ≡ Usage.Memory) }
+{
+    let mut files = Vec::new(alloc);
+    if let Some(names) = found.get_strs("FILE") {
+        files.extend_from_slice(names)?;
     }
+    Ok(files)
 }
 
 fn keys<'a>(alloc: Global, found: &ArgMatches<'a>) -> Result<KeysPlan<'a>, Usage>
+    ensures ok { IfOk result (HoldsKeys (rows_of (found_of found.now))) }
+    ensures err { IfErr result (RefusesKeys (rows_of (found_of found.now))) }
 {
-    let names = values(found, "FILE");
+    let files = match files(alloc, found) {
+        Ok(files) => files,
+        Err(usage) => return Err(usage),
+    };
     let from = value(found, "from");
-    if names.is_empty() && from.is_none() {
+    if files.is_empty() && from.is_none() {
         return Err(lacks_files(alloc));
     }
-    let form = form(alloc, found)?;
-    let mut files = Vec::new(alloc);
-    files.extend_from_slice(names)?;
+    let form = match form(alloc, found) {
+        Ok(form) => form,
+        Err(usage) => return Err(usage),
+    };
+    let zero = zero(found);
     Ok(KeysPlan {
         form,
-        zero: found.get_flag("zero"),
+        zero,
         from,
         files,
     })
 }
 
-/// How many of these names are standard input, counted up to two.
-fn inputs_among(names: &[&str]) -> u8
+/// How many of these names are standard input.
+fn inputs_among(names: &[&str]) -> u64
+    ensures { result ≡ count_by (λ name. bytes_eq name.now (codes "-")) names.now }
 {
     let mut count = 0;
     for name in names {
-        if *name == "-" && count < 2 {
+        if *name == "-" {
             count += 1;
         }
     }
     count
 }
 
-/// How many of the values under a name are standard input, counted up to two.
-fn inputs(found: &ArgMatches<'_>, id: &str) -> u8
+/// How many of the values under a name are standard input.
+fn inputs(found: &ArgMatches<'_>, id: &str) -> u128
+    ensures count { result ≡ input_count_under id.now (rows_of (found_of found.now)) }
+    ensures small { result < 2 ^ 64 }
 {
-    inputs_among(values(found, id))
+    match found.get_strs(id) {
+        Some(names) => u128::from(inputs_among(names)),
+        None => 0,
+    }
 }
 
 /// Whether standard input is named twice.
 fn names_input_twice(found: &ArgMatches<'_>) -> bool
+    ensures { IsTrue result ↔ (1 < input_count (rows_of (found_of found.now))) }
 {
     let files = inputs(found, "FILE") + inputs(found, "A") + inputs(found, "B");
     files + inputs(found, "table") + inputs(found, "from") > 1
 }
 
-/// What matches ask for that name standard input once at most.
-fn from_command<'a>(alloc: Global, matches: &ArgMatches<'a>) -> Result<Request<'a>, Usage>
-    requires whole { AreWhole (subcommand_rows_of matches.now) }
+/// The plan of matches that name standard input once at most.
+fn from_command(alloc: Global, matches: &ArgMatches<'_>) -> Result<Plan, Usage>
+    requires job { AreOfJob (subcommand_rows_of matches.now) }
     requires once { ¬ NamesInputTwice (subcommand_rows_of matches.now) }
     ensures ok { IfOk result (IsPlanOf (subcommand_rows_of matches.now)) }
     ensures refused { IfErr result (Explains [] (subcommand_rows_of matches.now)) }
 {
     if let Some(found) = matches.subcommand_matches("canon") {
-        return Ok(Request::Work(canon(alloc, found)?));
+        return canon(alloc, found);
     }
     if let Some(found) = matches.subcommand_matches("convert") {
-        return Ok(Request::Work(convert(alloc, found)?));
+        return convert(alloc, found);
     }
     if let Some(found) = matches.subcommand_matches("same") {
-        return Ok(Request::Work(same(alloc, found)?));
+        return same(alloc, found);
     }
     if let Some(found) = matches.subcommand_matches("show") {
-        return Ok(Request::Work(show(alloc, found)?));
+        return show(alloc, found);
     }
     if let Some(found) = matches.subcommand_matches("step") {
-        return Ok(Request::Work(step(alloc, found)?));
-    }
-    if let Some(found) = matches.subcommand_matches("keys") {
-        return Ok(Request::Keys(keys(alloc, found)?));
+        return step(alloc, found);
     }
     unreachable!()
+}
+
+/// What matches ask for that name standard input once at most.
+fn request_of<'a>(alloc: Global, matches: &ArgMatches<'a>) -> Result<Request<'a>, Usage>
+    requires whole { AreWhole (subcommand_rows_of matches.now) }
+    requires once { ¬ NamesInputTwice (subcommand_rows_of matches.now) }
+    ensures ok { IfOk result (IsRequestOf (subcommand_rows_of matches.now)) }
+    ensures refused { IfErr result (Explains [] (subcommand_rows_of matches.now)) }
+{
+    if let Some(found) = matches.subcommand_matches("keys") {
+        return match keys(alloc, found) {
+            Ok(plan) => Ok(Request::Keys(plan)),
+            Err(usage) => Err(usage),
+        };
+    }
+    match from_command(alloc, matches) {
+        Ok(plan) => Ok(Request::Work(plan)),
+        Err(usage) => Err(usage),
+    }
 }
 
 /// What matches ask for that have what their command wants.
 fn from_matches<'a>(alloc: Global, matches: &ArgMatches<'a>) -> Result<Request<'a>, Usage>
     requires { AreWhole (subcommand_rows_of matches.now) }
-    ensures ok { IfOk result (IsPlanOf (subcommand_rows_of matches.now)) }
+    ensures ok { IfOk result (IsRequestOf (subcommand_rows_of matches.now)) }
     ensures once { OnOk result (¬ NamesInputTwice (subcommand_rows_of matches.now)) }
     ensures refused { IfErr result (Explains [] (subcommand_rows_of matches.now)) }
 {
@@ -297,7 +340,7 @@ fn from_matches<'a>(alloc: Global, matches: &ArgMatches<'a>) -> Result<Request<'
             return Err(Usage::TwoInputs);
         }
     }
-    from_command(alloc, matches)
+    request_of(alloc, matches)
 }
 
 /// What the words ask for. They begin with the program's own name.
@@ -309,6 +352,11 @@ fn from_matches<'a>(alloc: Global, matches: &ArgMatches<'a>) -> Result<Request<'
 /// file nor a list, as `MissingRequiredArgument`. `TwoInputs` where words without a fault name `-` for two files, whatever stands behind these
 /// options; `Memory`.
 pub fn request<'a, S: AsStr>(alloc: Global, words: &'a [S]) -> Result<Request<'a>, Usage>
+    ensures faultless { OnOk result (fault_of program (map S.text words.entry.now) ≡ []) }
+    ensures ok { IfOk result (IsRequestOf (subcommand_of program (map S.text words.entry.now))) }
+    ensures files { IfOk result (IfWork (λ p. IsSome p.second ↔ HasSecond p.job)) }
+    ensures once { OnOk result (¬ NamesInputTwice (subcommand_of program (map S.text words.entry.now))) }
+    ensures refused { IfErr result (Explains (fault_of program (map S.text words.entry.now)) (subcommand_of program (map S.text words.entry.now))) }
 {
     let matches = parse(alloc, words)?;
     from_matches(alloc, &matches)
@@ -320,9 +368,15 @@ pub fn request<'a, S: AsStr>(alloc: Global, words: &'a [S]) -> Result<Request<'a
 ///
 /// Those of `request`, and `Words` of words that ask for keys, as `InvalidSubcommand`.
 pub fn plan<S: AsStr>(alloc: Global, words: &[S]) -> Result<Plan, Usage>
+    ensures faultless { OnOk result (fault_of program (map S.text words.entry.now) ≡ []) }
+    ensures ok { IfOk result (IsPlanOf (subcommand_of program (map S.text words.entry.now))) }
+    ensures files { IfOk result (λ p. IsSome p.second ↔ HasSecond p.job) }
+    ensures once { OnOk result (¬ NamesInputTwice (subcommand_of program (map S.text words.entry.now))) }
+    ensures refused { IfErr result (ExplainsPlan (fault_of program (map S.text words.entry.now)) (subcommand_of program (map S.text words.entry.now))) }
 {
-    match request(alloc, words)? {
-        Request::Work(plan) => Ok(plan),
-        Request::Keys(_) => Err(no_job(alloc)),
+    match request(alloc, words) {
+        Ok(Request::Work(plan)) => Ok(plan),
+        Ok(Request::Keys(_)) => Err(no_job(alloc)),
+        Err(usage) => Err(usage),
     }
 }
