@@ -3,6 +3,7 @@ use Rattle.std.proofs.Common.{◌≡◌, ℕ, suc, zero, ◌+◌, ◌-◌, ◌<�
 use Rattle.std.specs.List.{list_any}
 use Rattle.std.specs.Prelude.{◌==◌, ◌||◌, nat_lt}
 use Rattle.std.proofs.lemmas.List.{append_assoc, take-append-drop}
+use Rattle.std.proofs.lemmas.Bool.{false_from_ne_true}
 use Rattle.life_base.specs.Text.{onto_first}
 use Rattle.life_cli.specs.Keys.{escaped, escaped_byte, is_special, pieces_of}
 
@@ -15,24 +16,20 @@ by_tests false false false x y z w none = refl
 plain_byte : (b : ℕ) → is_special b ≡ false → escaped_byte b ≡ b ∷ []
 plain_byte b none = by_tests (b == 92) (b == 10) (b == 13) _ _ _ _ none
 
-is_false : (b : Bool) → ¬ (b ≡ true) → b ≡ false
-is_false true no = absurd (no refl)
-is_false false no = refl
-
 -- bytes none of which is special are written as they are
 pub plain_run : (name : List ℕ) (k : ℕ) → k ≤ length name → ((j : ℕ) → 0 ≤ j → j < k → ¬ (is_special (slice_index name j) ≡ true))
     → escaped (take k name) ≡ take k name
 plain_run name zero lt none = refl
 plain_run [] (suc k) lt none = absurd (omega arith)
 plain_run (b ∷ name) (suc k) lt none =
-    let here : is_special b ≡ false = is_false (is_special b) (none 0 (omega arith) (omega arith)) in
+    let here : is_special b ≡ false = false_from_ne_true (is_special b) (none 0 (omega arith) (omega arith)) in
     ap₂ (λ (x y : List ℕ). x ++ y) (plain_byte b here) (plain_run name k (omega (arith, lt)) (λ j low high. none (suc j) (omega arith) (omega (arith, high))))
 
 -- and a name of such bytes has none that is special
 pub none_special : (name : List ℕ) → ((j : ℕ) → 0 ≤ j → j < length name → ¬ (is_special (slice_index name j) ≡ true)) → list_any is_special name ≡ false
 none_special [] none = refl
 none_special (b ∷ name) none =
-    let here : is_special b ≡ false = is_false (is_special b) (none 0 (omega arith) (omega arith)) in
+    let here : is_special b ≡ false = false_from_ne_true (is_special b) (none 0 (omega arith) (omega arith)) in
     rw here (none_special name (λ j low high. none (suc j) (omega arith) (omega (arith, high))))
 
 escaped_both : (xs ys : List ℕ) → escaped (xs ++ ys) ≡ escaped xs ++ escaped ys
@@ -46,11 +43,11 @@ escaped_behind name k plain =
 
 -- the first piece of a list that has an end
 pub piece_at : (end : ℕ) (list : List ℕ) (k : ℕ) → k < length list → ((j : ℕ) → 0 ≤ j → j < k → ¬ ((slice_index list j == end) ≡ true))
-    → (slice_index list k == end) ≡ true → pieces_of end list ≡ take k list ∷ pieces_of end (drop (k + 1) list)
+    → (slice_index list k == end) ≡ true → pieces_of end list ≡ take k list ∷ pieces_of end (drop (suc k) list)
 piece_at end [] k lt none is = absurd (omega arith)
 piece_at end (b ∷ list) zero lt none is = ap (λ v. cond v ([] ∷ pieces_of end list) (onto_first b (pieces_of end list))) is
 piece_at end (b ∷ list) (suc k) lt none is =
-    let here : (b == end) ≡ false = is_false (b == end) (none 0 (omega arith) (omega arith)) in
+    let here : (b == end) ≡ false = false_from_ne_true (b == end) (none 0 (omega arith) (omega arith)) in
     let rest = piece_at end list k (omega (arith, lt)) (λ j low high. none (suc j) (omega arith) (omega (arith, high))) is in
     ap (λ v. cond v ([] ∷ pieces_of end list) (onto_first b (pieces_of end list))) here ∙ ap (onto_first b) rest
 
@@ -58,14 +55,13 @@ piece_at end (b ∷ list) (suc k) lt none is =
 pub piece_alone : (end : ℕ) (list : List ℕ) → 0 < length list → ((j : ℕ) → 0 ≤ j → j < length list → ¬ ((slice_index list j == end) ≡ true))
     → pieces_of end list ≡ list ∷ []
 piece_alone end [] lt none = absurd (omega arith)
-piece_alone end (b ∷ list) lt none =
-    let here : (b == end) ≡ false = is_false (b == end) (none 0 (omega arith) (omega arith)) in
-    ap (λ v. cond v ([] ∷ pieces_of end list) (onto_first b (pieces_of end list))) here
-    ∙ go list (λ j low high. none (suc j) (omega arith) (omega (arith, high)))
-  where
-    go : (list : List ℕ) → ((j : ℕ) → 0 ≤ j → j < length list → ¬ ((slice_index list j == end) ≡ true)) → onto_first b (pieces_of end list) ≡ (b ∷ list) ∷ []
-    go [] none = refl
-    go (x ∷ list) none = ap (onto_first b) (piece_alone end (x ∷ list) (omega arith) none)
+piece_alone end (b ∷ []) lt none =
+    let here : (b == end) ≡ false = false_from_ne_true (b == end) (none 0 (omega arith) (omega arith)) in
+    ap (λ v. cond v ([] ∷ []) ((b ∷ []) ∷ [])) here
+piece_alone end (b ∷ (c ∷ list)) lt none =
+    let here : (b == end) ≡ false = false_from_ne_true (b == end) (none 0 (omega arith) (omega arith)) in
+    let rest = piece_alone end (c ∷ list) (omega arith) (λ j low high. none (suc j) (omega arith) (omega (arith, high))) in
+    ap (λ v. cond v ([] ∷ pieces_of end (c ∷ list)) (onto_first b (pieces_of end (c ∷ list)))) here ∙ ap (onto_first b) rest
 
 -- no number is below itself
 pub never : (n : ℕ) → false ≡ nat_lt n n

@@ -49,10 +49,13 @@ files_rule = record (new_rule (codes "FILE")) { action = Some Append }
 abbrev pub flag : Text → Rule
 flag id = record (new_rule id) { long = Some id; action = Some SetTrue }
 
+-- a command over any number of files, with an optional --form FORM
+abbrev pub files_line : Text → App
+files_line name = with_rule (with_rule (new_app name) files_rule) (option (codes "form"))
+
 -- keys [FILE].., with an optional --form FORM, --zero and --from LIST
 abbrev pub keys_line : App
-keys_line = with_rule (with_rule (with_rule (with_rule (new_app (codes "keys")) files_rule) (option (codes "form"))) (flag (codes "zero")))
-    (option (codes "from"))
+keys_line = with_rule (with_rule (files_line (codes "keys")) (flag (codes "zero"))) (option (codes "from"))
 
 -- the program without its commands, of which it wants one; it has a version
 abbrev pub named : App

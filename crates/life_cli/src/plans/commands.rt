@@ -2,7 +2,7 @@
 
 ghost use Rattle.std.specs.Prelude.{◌≡◌, IfOk, codes, map, false};
 ghost use Rattle.clap.specs.Words.{App, rule_of, HasMatchesOf, FailsBy, fault_of, with_subcommand};
-ghost use Rattle.life_cli.specs.CommandLine.{required_file, option, required_option, one_file_line, two_files_line, canon_line, convert_line, same_line, step_line, files_rule, flag, keys_line, named, program, ReadsAs};
+ghost use Rattle.life_cli.specs.CommandLine.{required_file, option, required_option, one_file_line, two_files_line, canon_line, convert_line, same_line, step_line, files_rule, files_line, flag, keys_line, named, program, ReadsAs};
 
 use super::help::{CANON, CONVERT, Help, KEYS, PROGRAM, SAME, SHOW, STEP};
 use clap::{Arg, ArgAction, ArgMatches, Command, Error};
@@ -112,16 +112,23 @@ fn flag<'a>(alloc: Global, id: &'a str) -> Arg<'a>
     Arg::new(alloc, id).long(id).action(ArgAction::SetTrue)
 }
 
+/// A command over any number of files, in a form.
+fn any_files<'a>(alloc: Global, name: &'a str, help: Help) -> Result<Command<'a>, AllocError>
+    ensures { IfOk result (ReadsAs (files_line name.entry.now)) }
+{
+    let files = files(alloc).help("Pattern files; one of them may be -, standard input");
+    let command = Command::new(alloc, name)
+        .about(help.summary)
+        .long_about(help.about)
+        .after_long_help(help.notes);
+    let command = command.arg(files)?;
+    command.arg(form(alloc))
+}
+
 fn keys<'a>(alloc: Global) -> Result<Command<'a>, AllocError>
     ensures { IfOk result (ReadsAs keys_line) }
 {
-    let command = Command::new(alloc, "keys")
-        .about(KEYS.summary)
-        .long_about(KEYS.about)
-        .after_long_help(KEYS.notes);
-    let files = files(alloc).help("Pattern files; one of them may be -, standard input");
-    let command = command.arg(files)?;
-    let command = command.arg(form(alloc))?;
+    let command = any_files(alloc, "keys", KEYS)?;
     let zero = flag(alloc, "zero").help("End names in NUL, and write them as they are");
     let command = command.arg(zero)?;
     let from = option(alloc, "from", "LIST").help(

@@ -208,11 +208,11 @@ fn lacks_files(alloc: Global) -> Usage
     }
 }
 
-/// The flag that writes and reads names that end in NUL.
-fn zero(found: &ArgMatches<'_>) -> bool
-    ensures { HoldsFlag (codes "zero") (rows_of (found_of found.now)) result }
+/// Whether a flag was given.
+fn is_set(found: &ArgMatches<'_>, id: &str) -> bool
+    ensures { HoldsFlag id.now (rows_of (found_of found.now)) result }
 {
-    found.get_flag("zero")
+    found.get_flag(id)
 }
 
 /// The files of `keys`.
@@ -243,7 +243,7 @@ fn keys<'a>(alloc: Global, found: &ArgMatches<'a>) -> Result<KeysPlan<'a>, Usage
         Ok(form) => form,
         Err(usage) => return Err(usage),
     };
-    let zero = zero(found);
+    let zero = is_set(found, "zero");
     Ok(KeysPlan {
         form,
         zero,

@@ -1,4 +1,4 @@
-use Rattle.std.proofs.Common.{◌∷◌, ◌+◌, ◌∙◌, ap, sym, take}
+use Rattle.std.proofs.Common.{◌∷◌, ◌+◌, ◌∙◌, ap, sym, take, drop, add-one}
 use Rattle.life_base.proofs.LineEnds.{all_behind}
 use Rattle.life_cli.specs.Keys.{pieces_of}
 use Rattle.life_cli.proofs.KeyLines.{piece_alone, piece_at}
@@ -9,6 +9,7 @@ returns-in-Some-clause-first c =
     let found = rw c.in-Some.is at c.memchr.ensures in
     let list = c.args.list.now in
     piece_at c.args.end list c.in-Some.at found.0.high found.0.before found.1
+    ∙ ap (λ next. take c.in-Some.at list ∷ pieces_of c.args.end (drop next list)) (sym (add-one c.in-Some.at))
     ∙ ap (λ rest. take c.in-Some.at list ∷ pieces_of c.args.end rest) (sym (all_behind list (c.in-Some.at + 1)))
 
 pub returns-in-None-clause-first : goal.returns-in-None-clause-first
