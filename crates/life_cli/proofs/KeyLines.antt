@@ -1,10 +1,14 @@
 -- Names as they are written, and lists of names.
-use Rattle.std.proofs.Common.{◌≡◌, ℕ, suc, zero, ◌+◌, ◌-◌, ◌<◌, ◌≤◌, List, [], ◌∷◌, ◌++◌, length, take, drop, Bool, true, false, cond, refl, ap, ap₂, sym, ◌∙◌, arith, rules, slice_index}
+use Rattle.std.proofs.Common.{◌≡◌, ℕ, suc, zero, ◌+◌, ◌-◌, ◌<◌, ◌≤◌, List, [], ◌∷◌, ◌++◌, length, take, drop, Bool, true, false, cond, Option, Result, Ok, Err, refl, ap, ap₂, sym, subst, ◌∙◌, arith, rules, slice_index}
 use Rattle.std.specs.List.{list_any}
 use Rattle.std.specs.Prelude.{◌==◌, ◌||◌, nat_lt}
 use Rattle.std.proofs.lemmas.List.{append_assoc, take-append-drop}
 use Rattle.std.proofs.lemmas.Bool.{false_from_ne_true}
+use Rattle.std.specs.Io.KnownBytes.{Appends}
+use Rattle.std.proofs.KnownBytes.{Appends-trans}
 use Rattle.life_base.specs.Text.{onto_first}
+use Rattle.life_base.specs.Writing.{WritesPrefix, WritesText}
+use Rattle.life_base.proofs.WritingLemmas.{prefix-after, prefix-grows}
 use Rattle.life_cli.specs.Keys.{escaped, escaped_byte, is_special, pieces_of}
 
 by_tests : (a b c : Bool) (x y z w : List ℕ) → (a || b || c) ≡ false → cond a x (cond b y (cond c z w)) ≡ w
@@ -66,3 +70,24 @@ piece_alone end (b ∷ (c ∷ list)) lt none =
 -- no number is below itself
 pub never : (n : ℕ) → false ≡ nat_lt n n
 never n = search rules
+
+-- a text that was written whole, and then the next or a prefix of it
+pub then_text : {E : Type 0} (a b c : Option (List ℕ)) (xs ys : List ℕ) (r : Result (Unit {0}) E) → Appends a b xs → WritesText b c ys r
+    → WritesText a c (xs ++ ys) r
+then_text a b c xs ys (Ok x) first second = Appends-trans a b c xs ys first second
+then_text a b c xs ys (Err e) first second = prefix-after a b c xs ys first second
+
+-- what was written of a name, before what is left of it
+abbrev pub Written : Option (List ℕ) → Option (List ℕ) → List ℕ → List ℕ → Type 0
+Written a b name rest = (front : List ℕ) × (escaped name ≡ front ++ escaped rest) × Appends a b front
+
+pub written_further : (a b c : Option (List ℕ)) (name rest piece behind : List ℕ) → Written a b name rest → escaped rest ≡ piece ++ escaped behind
+    → Appends b c piece → Written a c name behind
+written_further a b c name rest piece behind (front, is, written) split more =
+    (front ++ piece, is ∙ ap (λ l. front ++ l) split ∙ sym (append_assoc front piece (escaped behind)), Appends-trans a b c front piece written more)
+
+pub written_broken : (a b c : Option (List ℕ)) (name rest piece behind : List ℕ) → Written a b name rest → escaped rest ≡ piece ++ escaped behind
+    → WritesPrefix b c piece → WritesPrefix a c (escaped name)
+written_broken a b c name rest piece behind (front, is, written) split broken =
+    let whole = is ∙ ap (λ l. front ++ l) split ∙ sym (append_assoc front piece (escaped behind)) in
+    subst (WritesPrefix a c) (sym whole) (prefix-grows a c (front ++ piece) (escaped behind) (prefix-after a b c front piece written broken))

@@ -43,11 +43,14 @@ abbrev pub key_line : Bool → List ℕ → List ℕ → List ℕ
 key_line false key name = name_mark name ++ (encode_lower key ++ (codes "  " ++ (escaped name ++ codes "\n")))
 key_line true key name = encode_lower key ++ (codes "  " ++ (name ++ 0 ∷ []))
 
+-- what is told of a fault: its line, where it names one, its kind, and what that means
+abbrev pub fault_text : Fault → List ℕ
+fault_text fault =
+    place_text false fault.place.line ++ (kind_name fault.kind ++ (codes ": " ++ (sentence_of fault.kind ++ codes "\n")))
+
 -- the line of a file that is refused, or for which room or memory is wanted
 abbrev pub refused_line : List ℕ → Fault → List ℕ
-refused_line name fault =
-    escaped name
-    ++ (codes ": " ++ (place_text false fault.place.line ++ (kind_name fault.kind ++ (codes ": " ++ (sentence_of fault.kind ++ codes "\n")))))
+refused_line name fault = escaped name ++ (codes ": " ++ fault_text fault)
 
 -- why a file can't be opened, by what the system says
 abbrev pub reason_of : ErrorKind → List ℕ

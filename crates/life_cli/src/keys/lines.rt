@@ -6,7 +6,7 @@ ghost use Rattle.std.specs.List.{list_any};
 ghost use Rattle.life_base.specs.DeviceRuns.{sink_run};
 ghost use Rattle.life_base.specs.Writing.{LeavesSink, WritesText};
 ghost use Rattle.life_cli.specs.Faults.{Tells};
-ghost use Rattle.life_cli.specs.Keys.{escaped, escaped_byte, is_special, key_line, name_mark, reason_of, refused_line, unopened_line};
+ghost use Rattle.life_cli.specs.Keys.{escaped, escaped_byte, fault_text, is_special, key_line, name_mark, reason_of, refused_line, unopened_line};
 
 use crate::sentences::sentence;
 use itoa::Buffer;
@@ -163,13 +163,12 @@ fn write_name<E: Sink>(err: &mut E, name: &[u8]) -> Result<(), Kind>
     write_text(err, b": ")
 }
 
-/// Writes the line of a file that is refused: its name, the line of the fault where it names one, the kind, and a sentence on it.
-fn write_refused<E: Sink>(err: &mut E, name: &[u8], fault: &Fault) -> Result<(), Kind>
+/// Writes what is told of a fault.
+fn write_fault<E: Sink>(err: &mut E, fault: &Fault) -> Result<(), Kind>
     requires { E.failures err.old ≡ 0 }
-    ensures text { WritesText (E.contents err.old) (E.contents err.new) (refused_line name.now fault.now) result }
+    ensures text { WritesText (E.contents err.old) (E.contents err.new) (fault_text fault.now) result }
     ensures sink { LeavesSink E.failures E.stalled err.old err.new result }
 {
-    write_name(err, name)?;
     let kind = fault.kind.name().as_bytes();
     let meaning = sentence(fault.kind).as_bytes();
     if fault.place.line == 0 {
@@ -178,6 +177,16 @@ fn write_refused<E: Sink>(err: &mut E, name: &[u8], fault: &Fault) -> Result<(),
     let mut buffer = Buffer::new();
     let line = buffer.format(fault.place.line).as_bytes();
     write_texts(err, &[b"line ", line, b": ", kind, b": ", meaning, b"\n"])
+}
+
+/// Writes the line of a file that is refused: its name, the line of the fault where it names one, the kind, and a sentence on it.
+fn write_refused<E: Sink>(err: &mut E, name: &[u8], fault: &Fault) -> Result<(), Kind>
+    requires { E.failures err.old ≡ 0 }
+    ensures text { WritesText (E.contents err.old) (E.contents err.new) (refused_line name.now fault.now) result }
+    ensures sink { LeavesSink E.failures E.stalled err.old err.new result }
+{
+    write_name(err, name)?;
+    write_fault(err, fault)
 }
 
 /// Why a file isn't opened, in words.
@@ -192,6 +201,15 @@ fn reason(kind: ErrorKind) -> &'static str
     }
 }
 
+/// Writes why a file isn't opened.
+fn write_reason<E: Sink>(err: &mut E, kind: ErrorKind) -> Result<(), Kind>
+    requires { E.failures err.old ≡ 0 }
+    ensures text { WritesText (E.contents err.old) (E.contents err.new) (reason_of kind ++ codes "\n") result }
+    ensures sink { LeavesSink E.failures E.stalled err.old err.new result }
+{
+    write_texts(err, &[reason(kind).as_bytes(), b"\n"])
+}
+
 /// Writes the line of a file that can't be opened.
 fn write_unopened<E: Sink>(err: &mut E, name: &[u8], kind: ErrorKind) -> Result<(), Kind>
     requires { E.failures err.old ≡ 0 }
@@ -199,7 +217,7 @@ fn write_unopened<E: Sink>(err: &mut E, name: &[u8], kind: ErrorKind) -> Result<
     ensures sink { LeavesSink E.failures E.stalled err.old err.new result }
 {
     write_name(err, name)?;
-    write_texts(err, &[reason(kind).as_bytes(), b"\n"])
+    write_reason(err, kind)
 }
 
 /// Writes the line of a file that is refused, as far as the sink takes it. It takes no memory.

@@ -215,23 +215,36 @@ fn is_set(found: &ArgMatches<'_>, id: &str) -> bool
     found.get_flag(id)
 }
 
-/// The files of `keys`.
-fn files<'a>(alloc: Global, found: &ArgMatches<'a>) -> Result<Vec<&'a str>, Usage>
-    ensures ok { IfOk result (λ files. map (λ name. name.now) files.items ≡ values_of (codes "FILE") (rows_of (found_of found.now))) }
+/// A copy of a list of names.
+fn copied<'a>(alloc: Global, names: &[&'a str]) -> Result<Vec<&'a str>, Usage>
+    ensures ok { IfOk result (λ copy. copy.items ≡ names.now) }
     ensures err { IfErr result (λ usage. usage ≡ Usage.Memory) }
 {
-    let mut files = Vec::new(alloc);
-    if let Some(names) = found.get_strs("FILE") {
-        files.extend_from_slice(names)?;
+    let mut copy = Vec::new(alloc);
+    copy.extend_from_slice(names)?;
+    Ok(copy)
+}
+
+/// All values of an option or of files.
+fn values<'a>(
+    alloc: Global,
+    found: &ArgMatches<'a>,
+    id: &str,
+) -> Result<Vec<&'a str>, Usage>
+    ensures ok { IfOk result (λ values. map (λ value. value.now) values.items ≡ values_of id.now (rows_of (found_of found.now))) }
+    ensures err { IfErr result (λ usage. usage ≡ Usage.Memory) }
+{
+    match found.get_strs(id) {
+        Some(names) => copied(alloc, names),
+        None => Ok(Vec::new(alloc)),
     }
-    Ok(files)
 }
 
 fn keys<'a>(alloc: Global, found: &ArgMatches<'a>) -> Result<KeysPlan<'a>, Usage>
     ensures ok { IfOk result (HoldsKeys (rows_of (found_of found.now))) }
     ensures err { IfErr result (RefusesKeys (rows_of (found_of found.now))) }
 {
-    let files = match files(alloc, found) {
+    let files = match values(alloc, found, "FILE") {
         Ok(files) => files,
         Err(usage) => return Err(usage),
     };
@@ -266,12 +279,11 @@ fn inputs_among(names: &[&str]) -> u64
 }
 
 /// How many of the values under a name are standard input.
-fn inputs(found: &ArgMatches<'_>, id: &str) -> u128
-    ensures count { result ≡ input_count_under id.now (rows_of (found_of found.now)) }
-    ensures small { result < 2 ^ 64 }
+fn inputs(found: &ArgMatches<'_>, id: &str) -> u64
+    ensures { result ≡ input_count_under id.now (rows_of (found_of found.now)) }
 {
     match found.get_strs(id) {
-        Some(names) => u128::from(inputs_among(names)),
+        Some(names) => inputs_among(names),
         None => 0,
     }
 }
@@ -280,8 +292,11 @@ fn inputs(found: &ArgMatches<'_>, id: &str) -> u128
 fn names_input_twice(found: &ArgMatches<'_>) -> bool
     ensures { IsTrue result ↔ (1 < input_count (rows_of (found_of found.now))) }
 {
-    let files = inputs(found, "FILE") + inputs(found, "A") + inputs(found, "B");
-    files + inputs(found, "table") + inputs(found, "from") > 1
+    let files = u128::from(inputs(found, "FILE"));
+    let pair = u128::from(inputs(found, "A")) + u128::from(inputs(found, "B"));
+    let table = u128::from(inputs(found, "table"));
+    let list = u128::from(inputs(found, "from"));
+    files + pair + table + list > 1
 }
 
 /// The plan of matches that name standard input once at most.
