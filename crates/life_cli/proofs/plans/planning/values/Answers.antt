@@ -1,4 +1,4 @@
-use Rattle.std.proofs.Common.{◌∙◌, ap, map}
+use Rattle.std.proofs.Common.{◌≡◌, ◌∙◌, [], ap, map, rules}
 use Rattle.std.proofs.lemmas.Result.{IfOk-weaker}
 use Rattle.clap.specs.Words.{found_of}
 use Rattle.life_cli.proofs.MatchesLemmas.{values_found, values_missing}
@@ -10,4 +10,6 @@ returns-in-Some-clause-ok c =
     IfOk-weaker c.copied.result _ _ (λ files is. ap (map (λ name. name.now)) is ∙ found) c.copied.ensures.ok
 
 pub returns-in-None-clause-ok : goal.returns-in-None-clause-ok
-returns-in-None-clause-ok c = values_missing (found_of c.args.found.now) c.args.id.now (rw c.in-None.is at c.get_strs.ensures)
+returns-in-None-clause-ok c =
+    let empty : c.new.result.items ≡ [] = search rules in
+    ap (map (λ name. name.now)) empty ∙ values_missing (found_of c.args.found.now) c.args.id.now (rw c.in-None.is at c.get_strs.ensures)
