@@ -16,8 +16,8 @@ use life_quad::Shared;
 use sha2::{Digest, Sha256};
 use std::alloc::Global;
 
-mod listing;
 mod lines;
+mod listing;
 mod running;
 
 pub use running::write_keys;

@@ -115,12 +115,7 @@ fn append_zero_line(line: &mut Vec<u8>, digits: &[u8], name: &[u8]) -> Result<()
 }
 
 /// Adds the line of a key.
-fn append_key_line(
-    line: &mut Vec<u8>,
-    key: &[u8; 32],
-    name: &[u8],
-    zero: bool,
-) -> Result<(), Kind>
+fn append_key_line(line: &mut Vec<u8>, key: &[u8; 32], name: &[u8], zero: bool) -> Result<(), Kind>
     ensures ok { OnOk result (line.new.items ≡ line.old.items ++ key_line zero key.now name.now) }
     ensures kind { IfErr result (λ kind. kind ≡ Kind.Memory) }
 {

@@ -171,7 +171,15 @@ where
 {
     let mut greatest = 0;
     for name in names {
-        let status = take(settings, opener, origin_of(name), name.as_bytes(), room, out, err)?;
+        let status = take(
+            settings,
+            opener,
+            origin_of(name),
+            name.as_bytes(),
+            room,
+            out,
+            err,
+        )?;
         if status > greatest {
             greatest = status;
         }

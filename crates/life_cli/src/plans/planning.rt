@@ -198,7 +198,9 @@ fn no_job(alloc: Global) -> Usage
 fn lacks_files(alloc: Global) -> Usage
     ensures { RefusesAs ErrorKind.MissingRequiredArgument (Unit {0}) result }
 {
-    let mut command = Command::new(alloc, "golly_canon").override_usage("golly_canon keys [OPTIONS] [FILE]...");
+    let mut command = Command::new(alloc, "golly_canon").override_usage(
+        "golly_canon keys [OPTIONS] [FILE]...",
+    );
     match command.error(
         ErrorKind::MissingRequiredArgument,
         "a FILE or --from LIST has to be given",
@@ -226,11 +228,7 @@ fn copied<'a>(alloc: Global, names: &[&'a str]) -> Result<Vec<&'a str>, Usage>
 }
 
 /// All values of an option or of files.
-fn values<'a>(
-    alloc: Global,
-    found: &ArgMatches<'a>,
-    id: &str,
-) -> Result<Vec<&'a str>, Usage>
+fn values<'a>(alloc: Global, found: &ArgMatches<'a>, id: &str) -> Result<Vec<&'a str>, Usage>
     ensures ok { IfOk result (λ values. map (λ value. value.now) values.items ≡ values_of id.now (rows_of (found_of found.now))) }
     ensures err { IfErr result (λ usage. usage ≡ Usage.Memory) }
 {
