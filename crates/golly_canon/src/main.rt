@@ -7,9 +7,9 @@ ghost use Rattle.life_cli.specs.Plans.{HasSecond};
 mod opening;
 
 use life_base::{Device, Kind};
-use life_cli::plans::{Plan, Usage};
-use life_cli::{Seeds, open_files, plan, refuse, report, work};
-use opening::{hold_closed_streams, open};
+use life_cli::plans::{KeysPlan, Plan, Request, Usage};
+use life_cli::{Seeds, open_files, refuse, report, request, work, write_keys};
+use opening::{hold_closed_streams, open, open_no_folder};
 use std::process::ExitCode;
 use std::{env, io};
 
@@ -48,9 +48,27 @@ fn carry_out(rt: &HostRuntime, plan: &Plan) -> u8
     }
 }
 
+/// Draws the random words, and writes the keys of the plan's files. Without random words nothing is read.
+fn carry_out_keys(rt: &HostRuntime, plan: &KeysPlan<'_>) -> u8 {
+    let mut err = Device::new(rt.stderr());
+    let Ok(seeds) = Seeds::drawn(rt) else {
+        return refuse(&mut err, Kind::ReadFault);
+    };
+    let mut out = Device::new(rt.stdout());
+    write_keys(
+        rt.alloc(),
+        &seeds,
+        plan,
+        |origin| open_no_folder(rt, origin),
+        &mut out,
+        &mut err,
+    )
+}
+
 fn run(rt: &HostRuntime, words: &[String]) -> u8 {
-    match plan(rt.alloc(), words) {
-        Ok(plan) => carry_out(rt, &plan),
+    match request(rt.alloc(), words) {
+        Ok(Request::Work(plan)) => carry_out(rt, &plan),
+        Ok(Request::Keys(plan)) => carry_out_keys(rt, &plan),
         Err(usage) => report_usage(rt, &usage),
     }
 }

@@ -3,7 +3,7 @@
 use life_cli::{Opened, Origin};
 use std::fs;
 use std::fs::File;
-use std::io::{Read, Result};
+use std::io::{ErrorKind, Read, Result};
 use std::rt::Stdin;
 
 /// A file, or standard input.
@@ -53,4 +53,25 @@ fn length(rt: &HostRuntime, input: &Input) -> u64 {
         Ok(metadata) => metadata.len(),
         Err(_) => 0,
     }
+}
+
+/// Whether an input is a folder, of which nothing can be read, where the system tells it.
+fn is_folder(rt: &HostRuntime, input: &Input) -> bool {
+    let metadata = match input {
+        Input::File(file) => file.metadata(),
+        Input::Standard(_) => fs::metadata(rt, "/dev/stdin"),
+    };
+    match metadata {
+        Ok(metadata) => metadata.is_dir(),
+        Err(_) => false,
+    }
+}
+
+/// Opens what a word names, unless it is a folder.
+pub(crate) fn open_no_folder(rt: &HostRuntime, origin: Origin<'_>) -> Result<Opened<Input>> {
+    let opened = open(rt, origin)?;
+    if is_folder(rt, &opened.input) {
+        return Err(ErrorKind::IsADirectory.into());
+    }
+    Ok(opened)
 }

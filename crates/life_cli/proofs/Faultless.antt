@@ -21,7 +21,7 @@ use Rattle.life_cli.specs.Plans.{AreWhole}
 use Rattle.life_cli.specs.declared.plans.Job.TheVariants.{Canon, Convert, Same, Show, Step as StepJob}
 use Rattle.life_cli.specs.declared.plans.Form.TheVariants.{Placed}
 use Rattle.life_cli.specs.declared.plans.Target.TheVariants.{Rle}
-use Rattle.life_cli.specs.CommandLine.{program, one_file_line, canon_line, convert_line, same_line, step_line}
+use Rattle.life_cli.specs.CommandLine.{program, one_file_line, canon_line, convert_line, same_line, step_line, keys_line}
 use Rattle.std.proofs.lemmas.Slice.Eq.{bytes_eq-Decides}
 
 -- no fault in two steps is none in either
@@ -427,7 +427,7 @@ canon_whole words none =
     let filled = leaf_filled s words all none in
     let rows = rows_after s.rules [] words in
     let given = one_given (is_given (codes "FILE") rows) _ filled.1 in
-    (Canon Placed, refl, given_first (codes "FILE") rows filled.0 given)
+    inl (Canon Placed, refl, given_first (codes "FILE") rows filled.0 given)
 
 show_whole : (words : List Text) → IsWholeAt words (leaf (one_file_line (codes "show")))
 show_whole words none =
@@ -436,7 +436,7 @@ show_whole words none =
     let filled = leaf_filled s words all none in
     let rows = rows_after s.rules [] words in
     let given = one_given (is_given (codes "FILE") rows) _ filled.1 in
-    (Show, refl, given_first (codes "FILE") rows filled.0 given)
+    inl (Show, refl, given_first (codes "FILE") rows filled.0 given)
 
 step_whole : (words : List Text) → IsWholeAt words (leaf step_line)
 step_whole words none =
@@ -445,7 +445,7 @@ step_whole words none =
     let filled = leaf_filled s words all none in
     let rows = rows_after s.rules [] words in
     let given = one_given (is_given (codes "FILE") rows) _ filled.1 in
-    (StepJob, refl, given_first (codes "FILE") rows filled.0 given)
+    inl (StepJob, refl, given_first (codes "FILE") rows filled.0 given)
 
 convert_whole : (words : List Text) → IsWholeAt words (leaf convert_line)
 convert_whole words none =
@@ -454,7 +454,7 @@ convert_whole words none =
     let filled = leaf_filled s words all none in
     let rows = rows_after s.rules [] words in
     let given = two_given (is_given (codes "FILE") rows) (is_given (codes "to") rows) _ filled.1 in
-    (Convert Rle, refl, (given_first (codes "FILE") rows filled.0 given.0, given_first (codes "to") rows filled.0 given.1))
+    inl (Convert Rle, refl, (given_first (codes "FILE") rows filled.0 given.0, given_first (codes "to") rows filled.0 given.1))
 
 same_whole : (words : List Text) → IsWholeAt words (leaf same_line)
 same_whole words none =
@@ -464,7 +464,10 @@ same_whole words none =
     let filled = leaf_filled s words all none in
     let rows = rows_after s.rules [] words in
     let given = two_given (is_given (codes "A") rows) (is_given (codes "B") rows) _ filled.1 in
-    (Same Placed, refl, (given_first (codes "A") rows filled.0 given.0, given_first (codes "B") rows filled.0 given.1))
+    inl (Same Placed, refl, (given_first (codes "A") rows filled.0 given.0, given_first (codes "B") rows filled.0 given.1))
+
+keys_whole : (words : List Text) → IsWholeAt words (leaf keys_line)
+keys_whole words none = inr refl
 
 -- ---- the program
 
@@ -509,7 +512,7 @@ subs_whole name words other = (
         (λ is. show_whole words),
         (
           (λ is. step_whole words),
-          ((λ is. absurd (is_help name other is)), tt),
+          ((λ is. keys_whole words), ((λ is. absurd (is_help name other is)), tt)),
         ),
       ),
     ),

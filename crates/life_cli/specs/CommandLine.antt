@@ -1,7 +1,7 @@
 -- The program's command line, as `clap` reads it.
 use Rattle.std.specs.Prelude.{◌≡◌, true, false, codes, Some}
 use Rattle.clap.specs.Words.{App, Rule, Text, app_of, new_app, new_rule, with_rule, with_subcommand}
-use Rattle.clap.specs.declared.builder.ArgAction.TheVariants.{Set}
+use Rattle.clap.specs.declared.builder.ArgAction.TheVariants.{Append, Set, SetTrue}
 use Rattle.clap.specs.declared.builder.command.Command.{Command}
 use Rattle.clap.specs.declared.builder.command.Command.TheViews.{out-Command}
 
@@ -41,6 +41,22 @@ same_line = with_rule (two_files_line (codes "same")) (option (codes "form"))
 abbrev pub step_line : App
 step_line = with_rule (one_file_line (codes "step")) (option (codes "table"))
 
+-- files by their places, any number of them
+abbrev pub files_rule : Rule
+files_rule = record (new_rule (codes "FILE")) { action = Some Append }
+
+-- a flag --NAME
+abbrev pub flag : Text → Rule
+flag id = record (new_rule id) { long = Some id; action = Some SetTrue }
+
+-- a command over any number of files, with an optional --form FORM
+abbrev pub files_line : Text → App
+files_line name = with_rule (with_rule (new_app name) files_rule) (option (codes "form"))
+
+-- keys [FILE].., with an optional --form FORM, --zero and --from LIST
+abbrev pub keys_line : App
+keys_line = with_rule (with_rule (files_line (codes "keys")) (flag (codes "zero"))) (option (codes "from"))
+
 -- the program without its commands, of which it wants one; it has a version
 abbrev pub named : App
 named =
@@ -49,12 +65,13 @@ named =
 
 -- the program
 abbrev pub program : App
-program = with_subcommand (with_subcommand (with_subcommand (with_subcommand (with_subcommand named
+program = with_subcommand (with_subcommand (with_subcommand (with_subcommand (with_subcommand (with_subcommand named
     canon_line.top)
     convert_line.top)
     same_line.top)
     (one_file_line (codes "show")).top)
-    step_line.top
+    step_line.top)
+    keys_line.top
 
 -- the command is read as this one, and none of its arguments is global
 pub record ReadsAs (line : App) (command : Command) : Type 0 where

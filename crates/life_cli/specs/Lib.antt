@@ -5,3 +5,5 @@ pub mod CommandLine
 pub mod Plans
 pub mod Opening
 pub mod Usages
+pub mod Sentences
+pub mod Keys

@@ -1,10 +1,10 @@
 -- What the words of a command line ask for.
-use Rattle.std.specs.Prelude.{◌≡◌, ◌≢◌, ◌⊎◌, ◌<◌, ◌∷◌, [], ℕ, Bool, false, List, Option, Some, None, IsSome, codes, string_bytes, option_map, count_by}
-use Rattle.std.specs.Option.{option_map_or}
+use Rattle.std.specs.Prelude.{◌≡◌, ◌≢◌, ◌⊎◌, ◌<◌, ◌+◌, [], ℕ, Bool, true, false, List, Option, Some, None, IsSome, codes, string_bytes, option_map, unwrap_or, map, count_by}
 use Rattle.std.specs.Str.{bytes_eq}
-use Rattle.clap.specs.Words.{Row, Text, Kinds, IsAmong, first_of, kind_of}
+use Rattle.clap.specs.Words.{Row, Text, Kinds, IsAmong, all_of, first_of, kind_of, one_of}
 use Rattle.clap.specs.declared.error.Error.{Error}
-use Rattle.clap.specs.declared.error.kind.ErrorKind.TheVariants.{InvalidValue, OutOfMemory}
+use Rattle.clap.specs.declared.error.kind.ErrorKind.{ErrorKind}
+use Rattle.clap.specs.declared.error.kind.ErrorKind.TheVariants.{InvalidSubcommand, InvalidValue, MissingRequiredArgument, OutOfMemory}
 use Rattle.life_cli.specs.declared.plans.Form.{Form}
 use Rattle.life_cli.specs.declared.plans.Form.TheVariants.{Placed, Moved, Turned}
 use Rattle.life_cli.specs.declared.plans.Job.{Job}
@@ -12,6 +12,9 @@ use Rattle.life_cli.specs.declared.plans.Job.TheVariants.{Canon, Convert, Same, 
 use Rattle.life_cli.specs.declared.plans.Target.{Target}
 use Rattle.life_cli.specs.declared.plans.Target.TheVariants.{Rle, Mc}
 use Rattle.life_cli.specs.declared.plans.Plan.{Plan}
+use Rattle.life_cli.specs.declared.plans.KeysPlan.{KeysPlan}
+use Rattle.life_cli.specs.declared.plans.Request.{Request}
+use Rattle.life_cli.specs.declared.plans.Request.TheVariants.{Work, Keys}
 use Rattle.life_cli.specs.declared.plans.Usage.{Usage}
 use Rattle.life_cli.specs.declared.plans.Usage.TheVariants.{Words, TwoInputs, NoText, Memory}
 
@@ -70,10 +73,51 @@ HoldsMatches Show rows p = HoldsFile rows p
 HoldsMatches Step rows p = HoldsFile rows p × (first_of (codes "table") rows ≡ None)
 HoldsMatches StepTable rows p = HoldsFiles (codes "FILE") (codes "table") rows p
 
+-- all values that were found under this name
+abbrev pub values_of : Text → List Row → List Text
+values_of id rows = unwrap_or (all_of id rows) []
+
+-- the flag was given, or not
+abbrev pub HoldsFlag : Text → List Row → Bool → Type 0
+HoldsFlag id rows flag = (one_of id rows ≡ Some (codes "true") → flag ≡ true)
+    × (one_of id rows ≡ Some (codes "false") → flag ≡ false) × (one_of id rows ≡ None → flag ≡ false)
+
+-- neither a file nor a list of files was found
+abbrev pub LacksFiles : List Row → Type 0
+LacksFiles rows = (values_of (codes "FILE") rows ≡ []) × (first_of (codes "from") rows ≡ None)
+
+-- the plan of the command `keys` has the files and options that were found for it
+pub record HoldsKeys (rows : List Row) (p : KeysPlan) : Type 0 where
+  pub form : HoldsForm rows p.form
+  pub files : map (λ name. name.now) p.files.items ≡ values_of (codes "FILE") rows
+  pub from : option_map (λ name. name.now) p.from ≡ first_of (codes "from") rows
+  pub zero : HoldsFlag (codes "zero") rows p.zero
+  pub some : ¬ LacksFiles rows
+
+-- the matches are those of the command `keys`
+abbrev pub AreOfKeys : Option (Text × List Row) → Type 0
+AreOfKeys None = ⊥
+AreOfKeys (Some matches) = matches.0 ≡ codes "keys"
+
 -- the plan holds the command, files and options of the matches: a command's name, and what was found for it
 abbrev pub IsPlanOf : Option (Text × List Row) → Plan → Type 0
 IsPlanOf None p = ⊥
 IsPlanOf (Some matches) p = (matches.0 ≡ command_of p.job) × HoldsMatches p.job matches.1 p
+
+-- the same of the command `keys`
+abbrev pub IsKeysPlanOf : Option (Text × List Row) → KeysPlan → Type 0
+IsKeysPlanOf None p = ⊥
+IsKeysPlanOf (Some matches) p = (matches.0 ≡ codes "keys") × HoldsKeys matches.1 p
+
+-- the same of what the words ask for
+abbrev pub IsRequestOf : Option (Text × List Row) → Request → Type 0
+IsRequestOf matches (Work p) = IsPlanOf matches p
+IsRequestOf matches (Keys p) = IsKeysPlanOf matches p
+
+-- this holds of a plan for a job, if the words ask for one
+abbrev pub IfWork : (Plan → Type 0) → Request → Type 0
+IfWork Holds (Work p) = Holds p
+IfWork Holds (Keys p) = Unit {0}
 
 -- something was found under this name
 abbrev pub IsFound : Text → List Row → Type 0
@@ -86,9 +130,13 @@ HasWanted (Same form) rows = IsFound (codes "A") rows × IsFound (codes "B") row
 HasWanted _ rows = IsFound (codes "FILE") rows
 
 -- the matches are those of a job's command, with what the job wants
+abbrev pub AreOfJob : Option (Text × List Row) → Type 0
+AreOfJob None = ⊥
+AreOfJob (Some matches) = (job : Job) × (matches.0 ≡ command_of job) × HasWanted job matches.1
+
+-- the same, or those of the command `keys`, in which `clap` wants nothing
 abbrev pub AreWhole : Option (Text × List Row) → Type 0
-AreWhole None = ⊥
-AreWhole (Some matches) = (job : Job) × (matches.0 ≡ command_of job) × HasWanted job matches.1
+AreWhole matches = AreOfJob matches ⊎ AreOfKeys matches
 
 -- the word behind --to is that of no format
 abbrev pub HasNoFormat : List Row → Type 0
@@ -105,23 +153,40 @@ RefusesWord is_such TwoInputs = ⊥
 RefusesWord is_such NoText = ⊥
 RefusesWord is_such Memory = Unit {0}
 
+-- the refusal of words of which this holds, as this kind, or for want of memory
+abbrev pub RefusesAs : ErrorKind → Type 0 → Usage → Type 0
+RefusesAs kind is_such (Words error) = is_such × (kind_of error ≡ kind)
+RefusesAs kind is_such TwoInputs = ⊥
+RefusesAs kind is_such NoText = ⊥
+RefusesAs kind is_such Memory = Unit {0}
+
+-- why what was found for `keys` has no plan: neither a file nor a list was found, or the word behind --form is that of no form
+abbrev pub RefusesKeys : List Row → Usage → Type 0
+RefusesKeys rows usage = RefusesAs MissingRequiredArgument (LacksFiles rows) usage ⊎ RefusesWord (HasNoForm rows) usage
+
 -- the matches are those of `convert` with a word that is that of no format
 abbrev pub NamesNoFormat : Option (Text × List Row) → Type 0
 NamesNoFormat None = ⊥
 NamesNoFormat (Some matches) = (matches.0 ≡ codes "convert") × HasNoFormat matches.1
 
--- the matches are those of `canon` or `same` with a word that is that of no form
+-- the matches are those of `canon`, `same` or `keys` with a word that is that of no form
 abbrev pub NamesNoForm : Option (Text × List Row) → Type 0
 NamesNoForm None = ⊥
-NamesNoForm (Some matches) = ((matches.0 ≡ codes "canon") ⊎ (matches.0 ≡ codes "same")) × HasNoForm matches.1
+NamesNoForm (Some matches) = ((matches.0 ≡ codes "canon") ⊎ ((matches.0 ≡ codes "same") ⊎ (matches.0 ≡ codes "keys"))) × HasNoForm matches.1
 
--- the value is standard input
-abbrev pub is_input : Option Text → Bool
-is_input value = option_map_or (λ text. bytes_eq text (codes "-")) value false
+-- the matches are those of `keys`, with neither a file nor a list of files
+abbrev pub NamesNoFiles : Option (Text × List Row) → Type 0
+NamesNoFiles None = ⊥
+NamesNoFiles (Some matches) = (matches.0 ≡ codes "keys") × LacksFiles matches.1
+
+-- how many of the values under this name are standard input
+abbrev pub input_count_under : Text → List Row → ℕ
+input_count_under id rows = count_by (λ text. bytes_eq text (codes "-")) (values_of id rows)
 
 -- how many of the files are standard input
 abbrev pub input_count : List Row → ℕ
-input_count rows = count_by (λ id. is_input (first_of id rows)) (codes "FILE" ∷ codes "A" ∷ codes "B" ∷ codes "table" ∷ [])
+input_count rows = input_count_under (codes "FILE") rows + input_count_under (codes "A") rows + input_count_under (codes "B") rows
+    + input_count_under (codes "table") rows + input_count_under (codes "from") rows
 
 -- the matches name standard input twice
 abbrev pub NamesInputTwice : Option (Text × List Row) → Type 0
@@ -129,14 +194,19 @@ NamesInputTwice None = ⊥
 NamesInputTwice (Some matches) = 1 < input_count matches.1
 
 -- Why words are refused in which `clap` finds these faults and these matches: by the kind of a fault; in words without a fault, since the word
--- behind --to is that of no format or the one behind --form that of no form, or since standard input is named twice, which is told before that; or
--- for want of memory.
+-- behind --to is that of no format or the one behind --form that of no form, since `keys` is given neither a file nor a list, or since standard
+-- input is named twice, which is told before these; or for want of memory.
 abbrev pub Explains : Kinds → Option (Text × List Row) → Usage → Type 0
 Explains faults matches (Words error) = IsAmong (kind_of error) faults
     ⊎ ((faults ≡ []) × (NamesNoFormat matches ⊎ NamesNoForm matches) × ¬ NamesInputTwice matches × (kind_of error ≡ InvalidValue))
+    ⊎ ((faults ≡ []) × NamesNoFiles matches × ¬ NamesInputTwice matches × (kind_of error ≡ MissingRequiredArgument))
 Explains faults matches TwoInputs = (faults ≡ []) × NamesInputTwice matches
 Explains faults matches NoText = ⊥
 Explains faults matches Memory = Unit {0}
+
+-- why words have no plan for a job over one file or two: the same, or since they ask for keys, as an InvalidSubcommand
+abbrev pub ExplainsPlan : Kinds → Option (Text × List Row) → Usage → Type 0
+ExplainsPlan faults matches usage = Explains faults matches usage ⊎ RefusesAs InvalidSubcommand (AreOfKeys matches) usage
 
 -- what an error of `clap` says: that memory is wanted, or what is wrong with the words
 abbrev pub Says : Error → Usage → Type 0

@@ -25,7 +25,7 @@ pub struct Opened<R> {
 }
 
 /// What a word names: `-` is standard input, and each other word a file.
-fn origin_of(word: &str) -> Origin<'_>
+pub(crate) fn origin_of(word: &str) -> Origin<'_>
     ensures { IsOriginOf word.now result }
 {
     if word == "-" {

@@ -50,6 +50,26 @@ pub struct Plan {
     pub second: Option<String>,
 }
 
+/// The command `keys`: what it takes, and how it writes.
+#[derive(Drop)]
+pub struct KeysPlan<'a> {
+    pub form: Form,
+    /// Whether names end in NUL in place of LF.
+    pub zero: bool,
+    /// The list of further files, if one is named.
+    pub from: Option<&'a str>,
+    pub files: Vec<&'a str>,
+}
+
+/// What the words ask for.
+#[derive(Drop)]
+pub enum Request<'a> {
+    /// A job over one file or two.
+    Work(Plan),
+    /// The keys of any number of files.
+    Keys(KeysPlan<'a>),
+}
+
 /// Why the words ask for nothing that can be done. `Words` also holds the text of `--help` and `--version`, and no error for want of
 /// memory.
 #[derive(Drop)]

@@ -2,9 +2,9 @@
 
 ghost use Rattle.std.specs.Prelude.{◌≡◌, IfOk, codes, map, false};
 ghost use Rattle.clap.specs.Words.{App, rule_of, HasMatchesOf, FailsBy, fault_of, with_subcommand};
-ghost use Rattle.life_cli.specs.CommandLine.{required_file, option, required_option, one_file_line, two_files_line, canon_line, convert_line, same_line, step_line, named, program, ReadsAs};
+ghost use Rattle.life_cli.specs.CommandLine.{required_file, option, required_option, one_file_line, two_files_line, canon_line, convert_line, same_line, step_line, files_rule, files_line, flag, keys_line, named, program, ReadsAs};
 
-use super::help::{CANON, CONVERT, Help, PROGRAM, SAME, SHOW, STEP};
+use super::help::{CANON, CONVERT, Help, KEYS, PROGRAM, SAME, SHOW, STEP};
 use clap::{Arg, ArgAction, ArgMatches, Command, Error};
 use std::alloc::{AllocError, Global};
 use std::convert::AsStr;
@@ -96,6 +96,47 @@ fn same<'a>(alloc: Global) -> Result<Command<'a>, AllocError>
     command.arg(form(alloc))
 }
 
+/// Files by their places, any number of them.
+fn files<'a>(alloc: Global) -> Arg<'a>
+    ensures rule { rule_of result ≡ files_rule }
+    ensures local { result.global ≡ false }
+{
+    Arg::new(alloc, "FILE").action(ArgAction::Append)
+}
+
+/// A flag.
+fn flag<'a>(alloc: Global, id: &'a str) -> Arg<'a>
+    ensures rule { rule_of result ≡ flag id.entry.now }
+    ensures local { result.global ≡ false }
+{
+    Arg::new(alloc, id).long(id).action(ArgAction::SetTrue)
+}
+
+/// A command over any number of files, in a form.
+fn any_files<'a>(alloc: Global, name: &'a str, help: Help) -> Result<Command<'a>, AllocError>
+    ensures { IfOk result (ReadsAs (files_line name.entry.now)) }
+{
+    let files = files(alloc).help("Pattern files; one of them may be -, standard input");
+    let command = Command::new(alloc, name)
+        .about(help.summary)
+        .long_about(help.about)
+        .after_long_help(help.notes);
+    let command = command.arg(files)?;
+    command.arg(form(alloc))
+}
+
+fn keys<'a>(alloc: Global) -> Result<Command<'a>, AllocError>
+    ensures { IfOk result (ReadsAs keys_line) }
+{
+    let command = any_files(alloc, "keys", KEYS)?;
+    let zero = flag(alloc, "zero").help("End names in NUL, and write them as they are");
+    let command = command.arg(zero)?;
+    let from = option(alloc, "from", "LIST").help(
+        "Take the files that LIST names too, a file or -: a name a line",
+    );
+    command.arg(from)
+}
+
 fn step<'a>(alloc: Global) -> Result<Command<'a>, AllocError>
     ensures { IfOk result (ReadsAs step_line) }
 {
@@ -139,7 +180,8 @@ fn golly_canon<'a>(alloc: Global) -> Result<Command<'a>, AllocError>
     let command = with_command(command, convert(alloc))?;
     let command = with_command(command, same(alloc))?;
     let command = with_command(command, one_file(alloc, "show", SHOW))?;
-    with_command(command, step(alloc))
+    let command = with_command(command, step(alloc))?;
+    with_command(command, keys(alloc))
 }
 
 /// The matches of the program's words.

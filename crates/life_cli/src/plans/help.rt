@@ -241,3 +241,43 @@ Exit status:
 
 See `golly_canon --help` for the lines on standard error.",
 };
+
+pub const KEYS: Help = Help {
+    summary: "Writes a key of each pattern file, one line a file",
+    about: "Writes a key of each pattern file, one line a file, as `sha256sum` does: the key, two
+spaces and the name of the file.
+
+The key is the SHA-256, in 64 hex digits, of the text that `golly_canon canon FILE`
+writes. So two files have one key if they are the same pattern, whatever their formats
+and spellings. --form tells in which form the patterns are taken:
+
+placed  as they lie, which is so without --form too
+moved   wherever they lie: shifts of a pattern have one key
+turned  however they are turned or reflected too
+
+A file that is refused or can't be opened is told on standard error, by its name, and
+passed over. In a name, a backslash, a line feed and a carriage return are written as
+\\, \\n and \\r, and the line then begins with a backslash.
+
+LIST holds a name a line, as `find` writes them; with --zero each ends in NUL, as by
+`find -print0`, and so do the lines that are written. It is read before any file is
+opened. In it - is a file of that name.",
+    notes: "Examples:
+  golly_canon keys *.rle *.mc
+  golly_canon keys --form turned *.rle | sort | uniq -w64 --all-repeated=separate
+  find . -name '*.rle' -print0 | golly_canon keys --zero --from - > keys
+  golly_canon keys --form moved a.rle b.rle | cut -c-64 | uniq -d
+
+The second lists the files that are one pattern, turned, reflected and moved, in groups.
+
+Exit status:
+  0  each file has its key
+  2  a file was refused
+  3  a file can't be opened or read, or the output can't be written
+  4  there isn't enough memory, or room in the store of squares, for a file
+  5  the command line isn't understood, no file is named, or - is named twice
+
+Of several the greatest; where the output can't be written, 3. What a file is refused by
+says `NAME: line N: KIND: ..`, or `NAME: KIND: ..` where the fault names no line; see
+`golly_canon --help` for the kinds. A list that can't be read is told as `ReadFault`.",
+};

@@ -1,14 +1,15 @@
 //! The plan that the words ask for.
 
-ghost use Rattle.std.specs.Prelude.{◌≡◌, ◌≢◌, ◌↔◌, [], IfOk, IfErr, OnOk, Some, IsSome, MatchOption, map, option_map, string_bytes, codes};
+ghost use Rattle.std.specs.Prelude.{◌≡◌, ◌≢◌, ◌↔◌, ◌<◌, ◌^◌, [], IfOk, IfErr, OnOk, Some, IsSome, IsTrue, MatchOption, map, option_map, string_bytes, codes, count_by};
+ghost use Rattle.std.specs.Str.{bytes_eq};
 ghost use Rattle.clap.specs.Words.{fault_of, found_of, first_of, rows_of, subcommand_of, subcommand_rows_of};
 ghost use Rattle.life_cli.specs.CommandLine.{program};
-ghost use Rattle.life_cli.specs.Plans.{AreWhole, IsFound, IsPlanOf, HasNoForm, HasNoFormat, HasSecond, HoldsFile, HoldsFiles, HoldsForm, NamesInputTwice, Explains, RefusesWord, form_word, input_count, is_input, target_word};
+ghost use Rattle.life_cli.specs.Plans.{AreOfJob, AreWhole, IfWork, IsFound, IsPlanOf, IsRequestOf, HasNoForm, HasNoFormat, HasSecond, HoldsFile, HoldsFiles, HoldsFlag, HoldsForm, HoldsKeys, NamesInputTwice, Explains, ExplainsPlan, RefusesAs, RefusesKeys, RefusesWord, form_word, input_count, input_count_under, target_word, values_of};
 ghost use Rattle.life_cli.specs.declared.plans.Form.{Form as FormValue};
 ghost use Rattle.life_cli.specs.declared.plans.Target.{Target as TargetValue};
 
 use super::commands::parse;
-use super::{Form, Job, Plan, Target, Usage};
+use super::{Form, Job, KeysPlan, Plan, Request, Target, Usage};
 use clap::error::ErrorKind;
 use clap::{ArgMatches, Command};
 use std::alloc::Global;
@@ -179,38 +180,126 @@ fn step(alloc: Global, found: &ArgMatches<'_>) -> Result<Plan, Usage>
     }
 }
 
-fn names_input(found: &ArgMatches<'_>, id: &str) -> bool
-    ensures { result ≡ is_input (first_of id.now (rows_of (found_of found.now))) }
+/// The refusal of a command that is no job over one file or two.
+fn no_job(alloc: Global) -> Usage
+    ensures { RefusesAs ErrorKind.InvalidSubcommand (Unit {0}) result }
 {
-    match value(found, id) {
-        Some(text) => text == "-",
-        None => false,
+    let mut command = Command::new(alloc, "golly_canon").override_usage("golly_canon <COMMAND>");
+    match command.error(
+        ErrorKind::InvalidSubcommand,
+        "the command is none over one file or two",
+    ) {
+        Ok(error) => Usage::Words(error),
+        Err(_) => Usage::Memory,
     }
 }
 
-/// How many of the files are standard input.
-fn inputs(found: &ArgMatches<'_>) -> u8
-    ensures { result ≡ input_count (rows_of (found_of found.now)) }
+/// The refusal of words that name no file.
+fn lacks_files(alloc: Global) -> Usage
+    ensures { RefusesAs ErrorKind.MissingRequiredArgument (Unit {0}) result }
+{
+    let mut command = Command::new(alloc, "golly_canon").override_usage(
+        "golly_canon keys [OPTIONS] [FILE]...",
+    );
+    match command.error(
+        ErrorKind::MissingRequiredArgument,
+        "a FILE or --from LIST has to be given",
+    ) {
+        Ok(error) => Usage::Words(error),
+        Err(_) => Usage::Memory,
+    }
+}
+
+/// Whether a flag was given.
+fn is_set(found: &ArgMatches<'_>, id: &str) -> bool
+    ensures { HoldsFlag id.now (rows_of (found_of found.now)) result }
+{
+    found.get_flag(id)
+}
+
+/// A copy of a list of names.
+fn copied<'a>(alloc: Global, names: &[&'a str]) -> Result<Vec<&'a str>, Usage>
+    ensures ok { IfOk result (λ copy. copy.items ≡ names.now) }
+    ensures err { IfErr result (λ usage. usage ≡ Usage.Memory) }
+{
+    let mut copy = Vec::new(alloc);
+    copy.extend_from_slice(names)?;
+    Ok(copy)
+}
+
+/// All values of an option or of files.
+fn values<'a>(alloc: Global, found: &ArgMatches<'a>, id: &str) -> Result<Vec<&'a str>, Usage>
+    ensures ok { IfOk result (λ values. map (λ value. value.now) values.items ≡ values_of id.now (rows_of (found_of found.now))) }
+    ensures err { IfErr result (λ usage. usage ≡ Usage.Memory) }
+{
+    match found.get_strs(id) {
+        Some(names) => copied(alloc, names),
+        None => Ok(Vec::new(alloc)),
+    }
+}
+
+fn keys<'a>(alloc: Global, found: &ArgMatches<'a>) -> Result<KeysPlan<'a>, Usage>
+    ensures ok { IfOk result (HoldsKeys (rows_of (found_of found.now))) }
+    ensures err { IfErr result (RefusesKeys (rows_of (found_of found.now))) }
+{
+    let files = match values(alloc, found, "FILE") {
+        Ok(files) => files,
+        Err(usage) => return Err(usage),
+    };
+    let from = value(found, "from");
+    if files.is_empty() && from.is_none() {
+        return Err(lacks_files(alloc));
+    }
+    let form = match form(alloc, found) {
+        Ok(form) => form,
+        Err(usage) => return Err(usage),
+    };
+    let zero = is_set(found, "zero");
+    Ok(KeysPlan {
+        form,
+        zero,
+        from,
+        files,
+    })
+}
+
+/// How many of these names are standard input.
+fn inputs_among(names: &[&str]) -> u64
+    ensures { result ≡ count_by (λ name. bytes_eq name.now (codes "-")) names.now }
 {
     let mut count = 0;
-    if names_input(found, "FILE") {
-        count += 1;
-    }
-    if names_input(found, "A") {
-        count += 1;
-    }
-    if names_input(found, "B") {
-        count += 1;
-    }
-    if names_input(found, "table") {
-        count += 1;
+    for name in names {
+        if *name == "-" {
+            count += 1;
+        }
     }
     count
 }
 
+/// How many of the values under a name are standard input.
+fn inputs(found: &ArgMatches<'_>, id: &str) -> u64
+    ensures { result ≡ input_count_under id.now (rows_of (found_of found.now)) }
+{
+    match found.get_strs(id) {
+        Some(names) => inputs_among(names),
+        None => 0,
+    }
+}
+
+/// Whether standard input is named twice.
+fn names_input_twice(found: &ArgMatches<'_>) -> bool
+    ensures { IsTrue result ↔ (1 < input_count (rows_of (found_of found.now))) }
+{
+    let files = u128::from(inputs(found, "FILE"));
+    let pair = u128::from(inputs(found, "A")) + u128::from(inputs(found, "B"));
+    let table = u128::from(inputs(found, "table"));
+    let list = u128::from(inputs(found, "from"));
+    files + pair + table + list > 1
+}
+
 /// The plan of matches that name standard input once at most.
 fn from_command(alloc: Global, matches: &ArgMatches<'_>) -> Result<Plan, Usage>
-    requires whole { AreWhole (subcommand_rows_of matches.now) }
+    requires job { AreOfJob (subcommand_rows_of matches.now) }
     requires once { ¬ NamesInputTwice (subcommand_rows_of matches.now) }
     ensures ok { IfOk result (IsPlanOf (subcommand_rows_of matches.now)) }
     ensures refused { IfErr result (Explains [] (subcommand_rows_of matches.now)) }
@@ -233,35 +322,74 @@ fn from_command(alloc: Global, matches: &ArgMatches<'_>) -> Result<Plan, Usage>
     unreachable!()
 }
 
-/// The plan of matches that have what their command wants.
-fn from_matches(alloc: Global, matches: &ArgMatches<'_>) -> Result<Plan, Usage>
+/// What matches ask for that name standard input once at most.
+fn request_of<'a>(alloc: Global, matches: &ArgMatches<'a>) -> Result<Request<'a>, Usage>
+    requires whole { AreWhole (subcommand_rows_of matches.now) }
+    requires once { ¬ NamesInputTwice (subcommand_rows_of matches.now) }
+    ensures ok { IfOk result (IsRequestOf (subcommand_rows_of matches.now)) }
+    ensures refused { IfErr result (Explains [] (subcommand_rows_of matches.now)) }
+{
+    if let Some(found) = matches.subcommand_matches("keys") {
+        return match keys(alloc, found) {
+            Ok(plan) => Ok(Request::Keys(plan)),
+            Err(usage) => Err(usage),
+        };
+    }
+    match from_command(alloc, matches) {
+        Ok(plan) => Ok(Request::Work(plan)),
+        Err(usage) => Err(usage),
+    }
+}
+
+/// What matches ask for that have what their command wants.
+fn from_matches<'a>(alloc: Global, matches: &ArgMatches<'a>) -> Result<Request<'a>, Usage>
     requires { AreWhole (subcommand_rows_of matches.now) }
-    ensures ok { IfOk result (IsPlanOf (subcommand_rows_of matches.now)) }
+    ensures ok { IfOk result (IsRequestOf (subcommand_rows_of matches.now)) }
     ensures once { OnOk result (¬ NamesInputTwice (subcommand_rows_of matches.now)) }
     ensures refused { IfErr result (Explains [] (subcommand_rows_of matches.now)) }
 {
     if let Some((_, found)) = matches.subcommand() {
-        if inputs(found) > 1 {
+        if names_input_twice(found) {
             return Err(Usage::TwoInputs);
         }
     }
-    from_command(alloc, matches)
+    request_of(alloc, matches)
 }
 
 /// What the words ask for. They begin with the program's own name.
 ///
 /// # Errors
 ///
-/// `Words` with the text to show, where `clap` finds a fault in the words, as which `--help` and `--version` count too, by its kind, and
-/// where the word behind `--to` is that of no format or the one behind `--form` that of no form, as `InvalidValue`; `TwoInputs` where words
-/// without a fault name `-` for two files, whatever stands behind these options; `Memory`.
-pub fn plan<S: AsStr>(alloc: Global, words: &[S]) -> Result<Plan, Usage>
+/// `Words` with the text to show, where `clap` finds a fault in the words, as which `--help` and `--version` count too, by its kind; where the
+/// word behind `--to` is that of no format or the one behind `--form` that of no form, as `InvalidValue`; and where `keys` is given neither a
+/// file nor a list, as `MissingRequiredArgument`. `TwoInputs` where words without a fault name `-` for two files, whatever stands behind these
+/// options; `Memory`.
+pub fn request<'a, S: AsStr>(alloc: Global, words: &'a [S]) -> Result<Request<'a>, Usage>
     ensures faultless { OnOk result (fault_of program (map S.text words.entry.now) ≡ []) }
-    ensures ok { IfOk result (IsPlanOf (subcommand_of program (map S.text words.entry.now))) }
-    ensures files { IfOk result (λ p. IsSome p.second ↔ HasSecond p.job) }
+    ensures ok { IfOk result (IsRequestOf (subcommand_of program (map S.text words.entry.now))) }
+    ensures files { IfOk result (IfWork (λ p. IsSome p.second ↔ HasSecond p.job)) }
     ensures once { OnOk result (¬ NamesInputTwice (subcommand_of program (map S.text words.entry.now))) }
     ensures refused { IfErr result (Explains (fault_of program (map S.text words.entry.now)) (subcommand_of program (map S.text words.entry.now))) }
 {
     let matches = parse(alloc, words)?;
     from_matches(alloc, &matches)
+}
+
+/// The plan of words that ask for a job over one file or two, as `request` has it.
+///
+/// # Errors
+///
+/// Those of `request`, and `Words` of words that ask for keys, as `InvalidSubcommand`.
+pub fn plan<S: AsStr>(alloc: Global, words: &[S]) -> Result<Plan, Usage>
+    ensures faultless { OnOk result (fault_of program (map S.text words.entry.now) ≡ []) }
+    ensures ok { IfOk result (IsPlanOf (subcommand_of program (map S.text words.entry.now))) }
+    ensures files { IfOk result (λ p. IsSome p.second ↔ HasSecond p.job) }
+    ensures once { OnOk result (¬ NamesInputTwice (subcommand_of program (map S.text words.entry.now))) }
+    ensures refused { IfErr result (ExplainsPlan (fault_of program (map S.text words.entry.now)) (subcommand_of program (map S.text words.entry.now))) }
+{
+    match request(alloc, words) {
+        Ok(Request::Work(plan)) => Ok(plan),
+        Ok(Request::Keys(_)) => Err(no_job(alloc)),
+        Err(usage) => Err(usage),
+    }
 }

@@ -3,8 +3,8 @@ use Rattle.clap.specs.Words.{is_simple}
 use Rattle.clap.proofs.OnLiterals.{clap_on_literals}
 use Rattle.life_cli.specs.CommandLine.{program}
 use Rattle.life_cli.proofs.Faultless.{whole}
-use Rattle.life_cli.proofs.MatchesLemmas.{files_of_plan, in_matches}
-use Rattle.life_cli.proofs.plans.planning.plan.Goals as goal
+use Rattle.life_cli.proofs.MatchesLemmas.{files_of_request, in_matches}
+use Rattle.life_cli.proofs.plans.planning.request.Goals as goal
 
 simple : is_simple program ≡ true
 unfolding clap_on_literals
@@ -19,7 +19,7 @@ pub returns-clause-ok : goal.returns-clause-ok
 returns-clause-ok g c = let entered = (c.in_ok-matches.ensures.ok simple).1 in rw (← entered) c.from_matches.ensures.ok
 
 pub returns-clause-files : goal.returns-clause-files
-returns-clause-files g c = files_of_plan _ c.from_matches.result c.from_matches.ensures.ok
+returns-clause-files g c = files_of_request _ c.from_matches.result c.from_matches.ensures.ok
 
 pub returns-clause-once : goal.returns-clause-once
 returns-clause-once g c = let entered = (c.in_ok-matches.ensures.ok simple).1 in rw (← entered) c.from_matches.ensures.once
