@@ -15,5 +15,7 @@ returns-in_err-write_name-clause-text g c =
 
 pub returns-clause-text : goal.returns-clause-text
 returns-clause-text g c =
-    subst (λ text. WritesText (g.E.Sink.contents c.args.err.now) (g.E.Sink.contents c.write_fault.new.err) text c.write_fault.result) (append_assoc (escaped c.args.name.now) (codes ": ") (fault_text c.args.fault.now))
-    (then_text _ _ _ (escaped c.args.name.now ++ codes ": ") (fault_text c.args.fault.now) c.write_fault.result c.in_ok-write_name.ensures.text c.write_fault.ensures.text)
+    subst (λ text. WritesText (g.E.Sink.contents c.args.err.now) (g.E.Sink.contents c.write_fault.new.err) text c.write_fault.result)
+    (append_assoc (escaped c.args.name.now) (codes ": ") (fault_text c.args.fault.now))
+    (then_text _ _ _ (escaped c.args.name.now ++ codes ": ") (fault_text c.args.fault.now)
+    c.write_fault.result c.in_ok-write_name.ensures.text c.write_fault.ensures.text)

@@ -15,5 +15,7 @@ returns-in_err-write_name-clause-text g c =
 
 pub returns-clause-text : goal.returns-clause-text
 returns-clause-text g c =
-    subst (λ text. WritesText (g.E.Sink.contents c.args.err.now) (g.E.Sink.contents c.write_reason.new.err) text c.write_reason.result) (append_assoc (escaped c.args.name.now) (codes ": ") (reason_of c.args.kind ++ codes "\n"))
-    (then_text _ _ _ (escaped c.args.name.now ++ codes ": ") (reason_of c.args.kind ++ codes "\n") c.write_reason.result c.in_ok-write_name.ensures.text c.write_reason.ensures.text)
+    subst (λ text. WritesText (g.E.Sink.contents c.args.err.now) (g.E.Sink.contents c.write_reason.new.err) text c.write_reason.result)
+    (append_assoc (escaped c.args.name.now) (codes ": ") (reason_of c.args.kind ++ codes "\n"))
+    (then_text _ _ _ (escaped c.args.name.now ++ codes ": ") (reason_of c.args.kind ++ codes "\n")
+    c.write_reason.result c.in_ok-write_name.ensures.text c.write_reason.ensures.text)
