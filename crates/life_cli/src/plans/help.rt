@@ -257,7 +257,7 @@ turned  however they are turned or reflected too
 
 A file that is refused or can't be opened is told on standard error, by its name, and
 passed over. In a name, a backslash, a line feed and a carriage return are written as
-\\, \\n and \\r, and the line then begins with a backslash.
+\\\\, \\n and \\r, and the line then begins with a backslash.
 
 LIST holds a name a line, as `find` writes them; with --zero each ends in NUL, as by
 `find -print0`, and so do the lines that are written. It is read before any file is

@@ -7,7 +7,7 @@ pub returns-in-Ok : goal.returns-in-Ok
 returns-in-Ok c =
     at-form _ _ _ c.in-Some.form (sym c.form_of.ensures ∙ c.in-Some.is)
     (subst (ComparesInForm c.in-Some.form c.args.limit c.args.first.now c.args.second.now) (sym c.of.ensures)
-    (by_answer refl refl c.in-Ok.ensures.accepted.0 c.in-Ok.ensures.accepted.1 (is-answer c.in-Ok.answer c.in-Ok.ensures.answer)))
+    (by_answer refl refl c.in-Ok.ensures.accepted.0 c.in-Ok.ensures.accepted.1 c.in-Ok.ensures.few (is-answer c.in-Ok.answer c.in-Ok.ensures.answer)))
 
 pub returns : goal.returns
 returns c =
