@@ -4,13 +4,14 @@
 usage: bench/run.py PROGRAM FOLDER    (PROGRAM: the built golly_canon; FOLDER: where inputs and plain programs are made)
 
 Of each command the two programs take turns, five times each, and the least processor time (user and system) of each counts; their bytes are
-compared first. The memory is the peak resident size in one more run, which /usr/bin/time starts: what this script starts itself is said to be
-as large as this script. With SMALL=1 in the environment each input has a tenth of the size that its row names, each program has three turns, and
+compared first. Golly's bgolly takes turns with it too, where it is installed. The memory is the peak resident size in one more run, which
+/usr/bin/time starts: what this script starts itself is said to be as large as this script. With SMALL=1 in the environment each input has a tenth of the size that its row names, each program has three turns, and
 the layers are left out: that ends within three minutes. The program of crates/bench_layers is proved and built first.
 """
 import functools
 import os
 import re
+import shutil
 import subprocess
 import sys
 import tempfile
@@ -52,9 +53,10 @@ def timed(words, source=os.devnull):
 
 
 def spent(words):
-    """The processor seconds of a command. Its output is thrown away, so that the time to take it does not count."""
+    """The processor seconds of a command. Its output is thrown away, so that the time to take it does not count; bgolly's standard error too, where
+    it names the file that it writes."""
     with open(os.devnull, "wb") as sink:
-        child = subprocess.Popen(words, stdin=subprocess.DEVNULL, stdout=sink)
+        child = subprocess.Popen(words, stdin=subprocess.DEVNULL, stdout=sink, stderr=sink if words[0] == "bgolly" else None)
         _, status, usage = os.wait4(child.pid, 0)
     if os.waitstatus_to_exitcode(status) not in (0, 1):
         sys.exit(f"{' '.join(words)}: status {os.waitstatus_to_exitcode(status)}")
@@ -207,6 +209,26 @@ def commands(program, folder):
         compared(label, [program, *words], [reference, *others])
 
 
+def beside_golly(program, folder):
+    """Golly's own program without a window on what it takes of these inputs. It writes the same pattern by Golly's order of squares, or steps it, so
+    bytes are not compared here (tests/program/golly.py compares what it reads)."""
+    if not shutil.which("bgolly"):
+        print("skipped: bgolly isn't installed")
+        return
+    print("beside bgolly, with HashLife, which reads a file and writes it as macrocell; the same for one generation")
+    reference = plain(folder, "plain")
+    soup, cells = soup_of(folder, SOUPS[1]), soup_of(folder, MILLION)
+    paths = dict(kinds(folder))
+    rows = [("canon, soup of 10 MB, RLE", ["canon", soup], 0), ("the same, macrocell", ["canon", tree_of(folder, reference, SOUPS[1])], 0)]
+    rows += [(f"canon, {label}", ["canon", paths[label]], 0) for label in paths if label.startswith(("random tree", "single cells in a square"))]
+    rows += [("step, RLE", ["step", cells], 1), ("step, macrocell", ["step", tree_of(folder, reference, MILLION)], 1)]
+    with tempfile.TemporaryDirectory() as place:
+        for label, words, generations in rows:
+            golly = ["bgolly", "-q", "-q", "-a", "HashLife", "-m", str(generations), "-i", "1", "-o", f"{place}/out.mc", words[1]]
+            took, other = in_turns([program, *words], golly)
+            print(f"  {label:<48} {took:6.3f} s, bgolly {other:6.3f} s: {took / other:4.2f}", flush=True)
+
+
 def rle(folder):
     print("reading RLE, beside a plain reader in C that checks nothing")
     program, reference = [layers(), "rle"], plain(folder, "plain_rle")
@@ -308,6 +330,7 @@ def main():
         print("each input has a tenth of the size that its row names")
     canonical(program, folder)
     commands(program, folder)
+    beside_golly(program, folder)
     if IS_SMALL:
         return
     rle(folder)

@@ -1,8 +1,9 @@
 #!/usr/bin/env python3
 """Holds the documents against the repository: each file, heading and line of code that they link to, and each file that they name, is there; the table
-of sizes in docs/PROOFS.md is what scripts/sizes prints; each planted bug of its table is an edit that turns what the table says, and nothing else; no
-line of documents, definitions and proofs is too wide; the man page has a date and the version; and each place that names the kinds of fault has them
-all, with their numbers (scripts/kinds says which places). And each check in the folders of tests/ is run, by tests/all or by another one.
+of sizes in docs/PROOFS.md is what scripts/sizes prints, and no clause is wider than 100 columns; each planted bug of its table is an edit that turns
+what the table says, and nothing else; no line of documents, definitions and proofs is too wide; the man page has a date and the version; and each place
+that names the kinds of fault has them all, with their numbers (scripts/kinds says which places). And each check in the folders of tests/ is run, by
+tests/all or by another one.
 
 usage: tests/documents/documents.py
 """
@@ -124,7 +125,8 @@ def findings():
     yield f"{SIZES}: {BUGS} planted bugs, and not {len(planted)}", len(planted) == BUGS
     for crate, function, right, wrong, edit in planted:
         yield f"{SIZES}: {edit} of {function}", plants(crate, right, wrong, edit)
-    printed = subprocess.run(["sh", "scripts/sizes"], cwd=TOP, stdout=subprocess.PIPE, text=True, check=True).stdout.splitlines()
+    printed = subprocess.run(["scripts/sizes"], cwd=TOP, stdout=subprocess.PIPE, text=True, check=True).stdout.splitlines()
+    yield "scripts/sizes: clauses of at most 100 columns", " 0 clauses are wider " in f" {printed[-1]} "
     table = set(text_of(SIZES).splitlines())
     for line in printed:
         yield f"{SIZES}: {line}", line in table

@@ -6,8 +6,8 @@ which `sha256sum` writes of a file of that name with that text.
 usage: tests/program/keys.py PROGRAM [--cases N] [--seed SEED]
 
 The rows are: forms and the order of files; lists (`--from`), with both ends; odd names; files that are refused, and that can't be opened or read; the
-statuses; outputs that fail; N random files of both formats in one process; and 100,000 names in one process, within bounds of time and memory. It
-needs coreutils from 9.0 on, and GNU time. The last line counts the checks.
+statuses; outputs that fail; the line of progress on a terminal; N random files of both formats in one process; and 100,000 names in one process,
+within bounds of time and memory. It needs coreutils from 9.0 on, and GNU time. The last line counts the checks.
 """
 
 import argparse
@@ -16,10 +16,14 @@ import hashlib
 import itertools
 import multiprocessing
 import os
+import pty
 import re
 import shutil
+import subprocess
 import sys
 import tempfile
+import time
+import tty
 
 sys.dont_write_bytecode = True  # nothing is left in tests/
 sys.path.insert(0, os.path.dirname(os.path.dirname(os.path.abspath(__file__))))
@@ -346,6 +350,9 @@ DEVICES = [
     ("a closed standard error", '"$program" keys child.mc pair.mc 2>&-', Answer(2, PAIR)),
     ("a list from a closed standard input", '"$program" keys --from - <&-', Answer(3, b"", b"ReadFault\n")),
     ("a closed standard input that isn't read", '"$program" keys pair.mc <&-', Answer(0, PAIR)),
+    ("a closed standard input", '"$program" keys - pair.mc <&-', Answer(3, PAIR, b"-: can't be opened\n")),
+    ("a closed standard input and a closed standard error", '"$program" keys pair.mc - <&- 2>&-', Answer(3, PAIR)),
+    ("a closed standard input, and a folder by its name", '"$program" keys - . <&-', Answer(3, b"", b"-: can't be opened\n.: is a folder\n")),
     ("a pipe by its name", 'mkfifo pipe; cat pair.mc > pipe & "$program" keys pipe blank; status=$?; rm pipe; exit $status',
      Answer(0, PAIR.replace(b"pair.mc", b"pipe") + BLANK)),
     ("a list that is a pipe", 'mkfifo pipe; echo blank > pipe & "$program" keys pair.mc --from pipe; status=$?; rm pipe; exit $status',
@@ -374,6 +381,66 @@ def device_rows(place):
     found = place.shell('"$program" keys --from list | head -n 1; exit ${PIPESTATUS[0]}')
     right = (found.status, found.output) == (3, PAIR) and re.fullmatch(rb"(absent: no such file\n)*WriteFault\n", found.error)
     counting.row("a reader that leaves after a line", [] if right and len(found.error) < 400_000 else [repr(found)[:300]])
+
+
+# ---- the line of progress
+
+HELD = 1.3  # for how many seconds a run is held: more than the second after which the line is shown
+CLEARED = b"\r\x1b[K"
+
+
+def read_all(end):
+    """What comes out of a terminal or a pipe until nobody writes to it."""
+    found = b""
+    while True:
+        try:
+            data = os.read(end, 1 << 16)
+        except OSError:  # so ends a terminal
+            data = b""
+        if not data:
+            os.close(end)
+            return found
+        found += data
+
+
+def on_terminal(place, words, held, shared=False):
+    """A run whose standard error is a terminal, and so is its standard output if that is shared. The pipe named `pipe` among its files is fed after
+    so many seconds."""
+    end, terminal = pty.openpty()
+    tty.setraw(terminal)  # no end of a line is turned into two bytes
+    pipe = os.path.join(place.here, "pipe")
+    os.mkfifo(pipe)
+    with tempfile.TemporaryFile() as output:
+        streams = {"stdin": subprocess.DEVNULL, "stdout": terminal if shared else output, "stderr": terminal}
+        with subprocess.Popen([place.program, "keys", *words], cwd=place.here, **streams) as run:
+            os.close(terminal)
+            time.sleep(held)
+            with open(pipe, "wb") as it:
+                it.write(SMALL[b"pair.mc"])
+            errors = read_all(end)
+        os.remove(pipe)
+        output.seek(0)
+        return Answer(run.returncode, output.read(), errors)
+
+
+def progress_rows(place):
+    place.put(b"names", b"pipe\nblank\nabsent\nblank\n")
+    held = PAIR.replace(b"pair.mc", b"pipe")
+    absent = REFUSED[4][2]
+    words = ["pipe", "blank", "absent", "blank"]
+    for name, more, seconds, answer in (
+        ("a run that is held", ["pipe", "blank"], HELD, Answer(0, held + BLANK, b"\r1 of 2 files" + CLEARED)),
+        ("cleared before a fault", words, HELD, Answer(3, held + BLANK + BLANK, b"\r1 of 4 files" + CLEARED + absent)),
+        ("a list", ["--from", "names"], HELD, Answer(3, held + BLANK + BLANK, b"\r1 files" + CLEARED + absent)),
+        ("a quick run", words, 0, Answer(3, held + BLANK + BLANK, absent)),
+    ):
+        counting.row(f"progress on a terminal: {name}", problems_of(on_terminal(place, more, seconds), answer))
+    shown = b"\r1 of 4 files" + CLEARED
+    answer = Answer(3, b"", held + shown + BLANK + absent + BLANK)
+    counting.row("progress on a terminal: cleared before a key", problems_of(on_terminal(place, words, HELD, shared=True), answer))
+    answer = Answer(3, held + BLANK + BLANK, absent)
+    script = f'mkfifo pipe; {{ sleep {HELD}; cat pair.mc; }} > pipe & "$program" keys {" ".join(words)}; status=$?; rm pipe; exit $status'
+    counting.row("no progress without a terminal", problems_of(place.shell(script), answer))
 
 
 # ---- random files
@@ -482,6 +549,7 @@ def main():
         name_rows(odd, texts.here)
         word_rows(small)
         device_rows(small)
+        progress_rows(small)
         random_rows(some, options.seed, options.cases)
         many_rows(small, os.path.join(folder, "measured"))
     return counting.ended()

@@ -1,7 +1,8 @@
 -- What is read in the words of the claims is a file in the layers below.
-use Rattle.std.proofs.Common.{◌≡◌, ℕ, zero, suc, ◌+◌, ◌<◌, List, [], ◌∷◌, length, take, drop, map, Bool, true, false, cond, not, ◌&&◌, ◌||◌, refl, ap, ◌∙◌, sym, arith, ◌⊎◌, inl, inr}
+use Rattle.std.proofs.Common.{◌≡◌, ℕ, zero, suc, ◌+◌, ◌<◌, List, [], ◌∷◌, length, take, drop, map, Bool, true, false, cond, not, ◌&&◌, refl, ap, ◌∙◌, sym, arith, ◌⊎◌, inl, inr}
 use Rattle.std.specs.Prelude.{Option, Some, None, Result, Ok, Err, codes, slice_index, slice_index_or, slice_get, filter_map}
 use Rattle.std.specs.List.{list_any, list_all, cons_option}
+use Rattle.std.proofs.lemmas.Bool.{or_parts}
 use Rattle.life_base.specs.Text.{lines_of, is_blank, begins_with, trim, is_digit_text, value_of, words_of}
 use Rattle.life_base.specs.declared.kind.Kind.{Kind}
 use Rattle.life_base.specs.declared.kind.Kind.TheVariants as kinds
@@ -102,16 +103,8 @@ no_leaf_in : (lines : List (List ℕ)) (i : ℕ) (rows : List ℕ) → list_any 
     → slice_get (filter_map square_on lines) i ≡ Some (Leaf rows) → ⊥
 no_leaf_in [] i rows h e = cc
 no_leaf_in (line ∷ lines) i rows h e =
-    by (square_on line) refl i (λ j. no_leaf_in lines j rows (second (is_node_line line && is_leaf_byte (slice_index (trim line) 0)) _ h)) e
+    by (square_on line) refl i (λ j. no_leaf_in lines j rows (or_parts (is_node_line line && is_leaf_byte (slice_index (trim line) 0)) _ h).1) e
   where
-    first : (v w : Bool) → (v || w) ≡ false → v ≡ false
-    first true w k = cc
-    first false w k = refl
-
-    second : (v w : Bool) → (v || w) ≡ false → w ≡ false
-    second true w k = cc
-    second false w k = k
-
     contra : (v : Bool) → v ≡ true → v ≡ false → ⊥
     contra true e f = cc
     contra false e f = cc
@@ -124,8 +117,8 @@ no_leaf_in (line ∷ lines) i rows h e =
     by None f j below g = below j g
     by (Some found) f zero below g =
         contra (is_node_line line && is_leaf_byte (slice_index (trim line) 0)) (leaf_line line rows (f ∙ g))
-        (first (is_node_line line && is_leaf_byte (slice_index (trim line) 0))
-        (list_any (λ l. is_node_line l && is_leaf_byte (slice_index (trim l) 0)) lines) h)
+        (or_parts (is_node_line line && is_leaf_byte (slice_index (trim line) 0))
+        (list_any (λ l. is_node_line l && is_leaf_byte (slice_index (trim l) 0)) lines) h).0
     by (Some found) f (suc j) below g = below j g
 
 -- a file without leaf lines has no leaf

@@ -2,6 +2,7 @@
 use Rattle.std.proofs.Common.{◌≡◌, ℕ, suc, List, [], ◌∷◌, length, take, Bool, true, false, cond, ◌&&◌, ◌||◌, refl, ap, ◌∙◌, sym, inl, inr, arith}
 use Rattle.std.specs.Prelude.{◌==◌, bytes_eq}
 use Rattle.std.proofs.lemmas.Bool.Decides.{nat_tests}
+use Rattle.std.proofs.lemmas.Bool.{or_parts}
 use Rattle.life_base.specs.Text.{lines_of, onto_first}
 use Rattle.claims.proofs.McLaw.{decided}
 
@@ -27,18 +28,10 @@ begins_line [] bytes h = refl
 begins_line (c ∷ word) [] h = refl
 begins_line (c ∷ word) (b ∷ bytes) h = elim (decided (b == 10)) [
   | inl e ↦
-      ap (λ v. v && bytes_eq (take (length word) bytes) word) (feed_free b c e (head (c == 10) (has_feed word) h))
+      ap (λ v. v && bytes_eq (take (length word) bytes) word) (feed_free b c e (or_parts (c == 10) (has_feed word) h).0)
       ∙ sym (ap (λ v. bytes_eq (take (suc (length word)) (first_line_of (cond v ([] ∷ lines_of bytes) (onto_first b (lines_of bytes))))) (c ∷ word)) e)
   | inr e ↦
-      ap (λ v. (b == c) && v) (begins_line word bytes (tail (c == 10) (has_feed word) h))
+      ap (λ v. (b == c) && v) (begins_line word bytes (or_parts (c == 10) (has_feed word) h).1)
       ∙ sym (ap (λ v. bytes_eq (take (suc (length word)) (first_line_of (cond v ([] ∷ lines_of bytes) (onto_first b (lines_of bytes))))) (c ∷ word)) e
       ∙ ap (λ (t : List ℕ). bytes_eq (take (suc (length word)) t) (c ∷ word)) (onto b (lines_of bytes)))
 ]
-  where
-    head : (v w : Bool) → (v || w) ≡ false → v ≡ false
-    head true w e = cc
-    head false w e = refl
-
-    tail : (v w : Bool) → (v || w) ≡ false → w ≡ false
-    tail true w e = cc
-    tail false w e = e

@@ -3,6 +3,7 @@ use Rattle.std.proofs.Common.{◌≡◌, ℕ, zero, suc, ◌+◌, ◌-◌, ◌<�
 use Rattle.std.specs.Prelude.{◌==◌, Result, Ok, Err, IsOk, codes}
 use Rattle.std.specs.List.{list_all}
 use Rattle.std.proofs.lemmas.List.{append-nil}
+use Rattle.std.proofs.lemmas.Bool.{and_from}
 use Rattle.life_base.proofs.Numbers.{first, second}
 use Rattle.life_base.proofs.WholeLines.{lines-joined}
 use Rattle.life_base.specs.Lines.{has_no_feed, joined}
@@ -30,10 +31,6 @@ ended_is : (lines : List (List ℕ)) → ended lines ≡ joined lines
 ended_is [] = refl
 ended_is (line ∷ lines) = ap (λ (t : List ℕ). line ++ 10 ∷ t) (ended_is lines)
 
-and_true : (a b : Bool) → a ≡ true → b ≡ true → (a && b) ≡ true
-and_true true b e f = f
-and_true false b e f = cc
-
 no_feeds : (bytes : List ℕ) → list_all has_no_feed (lines_of bytes) ≡ true
 no_feeds [] = refl
 no_feeds (b ∷ bytes) = by (b == 10) refl (lines_of bytes) (no_feeds bytes)
@@ -50,7 +47,7 @@ no_feeds (b ∷ bytes) = by (b == 10) refl (lines_of bytes) (no_feeds bytes)
 front_no_feeds : (lines : List (List ℕ)) (n : ℕ) → list_all has_no_feed lines ≡ true → list_all has_no_feed (take n lines) ≡ true
 front_no_feeds lines zero h = refl
 front_no_feeds [] (suc n) h = refl
-front_no_feeds (line ∷ lines) (suc n) h = and_true _ _ (first _ _ h) (front_no_feeds lines n (second (has_no_feed line) _ h))
+front_no_feeds (line ∷ lines) (suc n) h = and_from _ _ (first _ _ h) (front_no_feeds lines n (second (has_no_feed line) _ h))
 
 -- the lines of a front, and of what comes after it
 front_lines : (bytes more : List ℕ) (n : ℕ) → lines_of (ended (take n (lines_of bytes)) ++ more) ≡ take n (lines_of bytes) ++ lines_of more

@@ -225,19 +225,13 @@ abbrev pattern_in : LayerRle → Pattern
 pattern_in file = record { rule = rule_in file.rule; generation = file.position.generation; cell = cell (file_in file) }
 
 pub rle_says : (lines : List (List ℕ)) (file : LayerRle) → IsRle 62 lines file → (pattern : Pattern) × SaysRle lines file pattern
-rle_says lines file (inl b) = (
+rle_says lines file valid = (
   pattern_in file,
   record {
-    is = ended_behind with_line end_of_rle begun (behind_header (file_in file)) lines 1 (unmarked_runs lines file b);
-    rule = refl;
-    generation = refl;
-    cells = rle_cell_is file;
-  },
-)
-rle_says lines file (inr b) = (
-  pattern_in file,
-  record {
-    is = ended_behind with_line end_of_rle begun (behind_end (file_in file)) lines 1 (marked_runs lines file b);
+    is = elim valid [
+      | inl b ↦ ended_behind with_line end_of_rle begun (behind_header (file_in file)) lines 1 (unmarked_runs lines file b)
+      | inr b ↦ ended_behind with_line end_of_rle begun (behind_end (file_in file)) lines 1 (marked_runs lines file b)
+    ];
     rule = refl;
     generation = refl;
     cells = rle_cell_is file;

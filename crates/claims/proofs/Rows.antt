@@ -20,125 +20,92 @@ use Rattle.claims.specs.Shown.{rule_text, box_line}
 abbrev b3s23 : Rule
 b3s23 = counting 8 (3 ∷ []) (2 ∷ 3 ∷ [])
 
+-- texts beside the outcome that they share
+abbrev Rows : Type 0 → Type 0
+Rows Outcome = List (Outcome × List (List ℕ))
+
+abbrev row : {Outcome : Type 0} → Outcome → List (List ℕ) → Outcome × List (List ℕ)
+row outcome texts = (outcome, texts)
+
+-- each text has the outcome of its row
+abbrev Each : {Outcome : Type 0} → (List ℕ → Outcome) → Rows Outcome → Type 0
+Each outcome rows = map (λ row. map outcome row.1) rows ≡ map (λ row. map (λ text. row.0) row.1) rows
+
 -- ---- rules
 
 -- the five forms, and a letter after the first two
-abbrev form_rows : List (List ℕ × Result Rule Kind)
+abbrev form_rows : Rows (Result Rule Kind)
 form_rows =
-    (codes "B3/S23", Ok b3s23) ∷
-    (codes "B3S23", Ok b3s23) ∷
-    (codes "S23/B3", Ok b3s23) ∷
-    (codes "S23B3", Ok b3s23) ∷
-    (codes "23/3", Ok b3s23) ∷
-    (codes "b3s23", Ok b3s23) ∷
-    (codes "B33/S232", Ok b3s23) ∷
-    (codes " S23/B3\t", Ok b3s23) ∷
-    (codes "s32B333", Ok b3s23) ∷
-    (codes "B/S", Ok (counting 8 [] [])) ∷
-    (codes "/", Ok (counting 8 [] [])) ∷
-    (codes "BS", Ok (counting 8 [] [])) ∷
-    (codes "B876543218/S876543210", Ok (counting 8 (1 ∷ 2 ∷ 3 ∷ 4 ∷ 5 ∷ 6 ∷ 7 ∷ 8 ∷ []) (0 ∷ 1 ∷ 2 ∷ 3 ∷ 4 ∷ 5 ∷ 6 ∷ 7 ∷ 8 ∷ []))) ∷
-    (codes "B3/S23V", Ok (counting 4 (3 ∷ []) (2 ∷ 3 ∷ []))) ∷
-    (codes "b31s20v", Ok (counting 4 (1 ∷ 3 ∷ []) (0 ∷ 2 ∷ []))) ∷
-    (codes "B4/S4V", Ok (counting 4 (4 ∷ []) (4 ∷ []))) ∷
+    row (Ok b3s23) (codes "B3/S23" ∷ codes "B3S23" ∷ codes "S23/B3" ∷ codes "S23B3" ∷ codes "23/3" ∷ codes "b3s23" ∷ codes "B33/S232" ∷ codes " S23/B3\t" ∷
+    codes "s32B333" ∷ []) ∷
+    row (Ok (counting 8 [] [])) (codes "B/S" ∷ codes "/" ∷ codes "BS" ∷ []) ∷
+    row (Ok (counting 8 (1 ∷ 2 ∷ 3 ∷ 4 ∷ 5 ∷ 6 ∷ 7 ∷ 8 ∷ []) (0 ∷ 1 ∷ 2 ∷ 3 ∷ 4 ∷ 5 ∷ 6 ∷ 7 ∷ 8 ∷ []))) (codes "B876543218/S876543210" ∷ []) ∷
+    row (Ok (counting 4 (3 ∷ []) (2 ∷ 3 ∷ []))) (codes "B3/S23V" ∷ []) ∷
+    row (Ok (counting 4 (1 ∷ 3 ∷ []) (0 ∷ 2 ∷ []))) (codes "b31s20v" ∷ []) ∷
+    row (Ok (counting 4 (4 ∷ []) (4 ∷ []))) (codes "B4/S4V" ∷ []) ∷
     []
 
-forms_are_read : map (λ row. rule_of row.0) form_rows ≡ map (λ row. row.1) form_rows
+forms_are_read : Each rule_of form_rows
 unfolding rule_of digits_of
 forms_are_read = refl
 
 -- texts that name no rule
-abbrev unruly_rows : List (List ℕ × Result Rule Kind)
+abbrev unruly_rows : Rows (Result Rule Kind)
 unruly_rows =
-    (codes "", Err kinds.BadRule) ∷
-    (codes " \t\r", Err kinds.BadRule) ∷
-    (codes "B3 S23", Err kinds.BadRule) ∷
-    (127 ∷ [], Err kinds.BadRule) ∷
-    (codes "B3/S23:T20", Err kinds.BoundedGrid) ∷
-    (codes ":", Err kinds.BoundedGrid) ∷
-    (codes "B 3:", Err kinds.BadRule) ∷
-    (codes "b012/s", Err kinds.BirthOnZero) ∷
-    (codes "23/30", Err kinds.BirthOnZero) ∷
-    (codes "B0/S1V", Err kinds.BirthOnZero) ∷
-    (codes "B05/S2V", Err kinds.UnsupportedRule) ∷
-    (codes "B3/S5v", Err kinds.UnsupportedRule) ∷
-    (codes "B3/S23H", Err kinds.UnsupportedRule) ∷
-    (codes "23/3h", Err kinds.UnsupportedRule) ∷
-    (codes "S23/B3V", Err kinds.UnsupportedRule) ∷
-    (codes "23/3V", Err kinds.UnsupportedRule) ∷
-    (codes "s23b3v", Err kinds.UnsupportedRule) ∷
-    (codes "B1/S4VV", Err kinds.UnsupportedRule) ∷
-    (codes "B2-a/S12", Err kinds.UnsupportedRule) ∷
-    (codes "B2/", Err kinds.UnsupportedRule) ∷
-    (codes "B9/S1", Err kinds.UnsupportedRule) ∷
-    (codes "B3/23", Err kinds.UnsupportedRule) ∷
-    (codes "345/2/4", Err kinds.UnsupportedRule) ∷
+    row (Err kinds.BadRule) (codes "" ∷ codes " \t\r" ∷ codes "B3 S23" ∷ codes "B 3:" ∷ (127 ∷ []) ∷ replicate 256 97 ∷ []) ∷
+    row (Err kinds.BoundedGrid) (codes "B3/S23:T20" ∷ codes ":" ∷ []) ∷
+    row (Err kinds.BirthOnZero) (codes "b012/s" ∷ codes "23/30" ∷ codes "B0/S1V" ∷ []) ∷
+    row (Err kinds.UnsupportedRule) (codes "B05/S2V" ∷ codes "B3/S5v" ∷ codes "B3/S23H" ∷ codes "23/3h" ∷ codes "S23/B3V" ∷ codes "23/3V" ∷ codes "s23b3v" ∷
+    codes "B1/S4VV" ∷ codes "B2-a/S12" ∷ codes "B2/" ∷ codes "B9/S1" ∷ codes "B3/23" ∷ codes "345/2/4" ∷ []) ∷
     []
 
-unruly_are_refused : map (λ row. rule_of row.0) unruly_rows ≡ map (λ row. row.1) unruly_rows
+unruly_are_refused : Each rule_of unruly_rows
 unfolding rule_of digits_of
 unruly_are_refused = refl
 
--- all others are names, kept byte for byte
-abbrev name_rows : List (List ℕ × Result Rule Kind)
-name_rows =
-    (codes "B3", Ok (named (codes "B3"))) ∷
-    (codes " Life\r", Ok (named (codes "Life"))) ∷
-    (codes "V", Ok (named (codes "V"))) ∷
-    (codes "B2-aS12", Ok (named (codes "B2-aS12"))) ∷
-    (codes "B3S23VV", Ok (named (codes "B3S23VV"))) ∷
-    (codes "B9S1", Ok (named (codes "B9S1"))) ∷
-    (codes "WireWorld", Ok (named (codes "WireWorld"))) ∷
-    (codes "w22", Ok (named (codes "w22"))) ∷
-    (replicate 255 97, Ok (named (replicate 255 97))) ∷
-    (replicate 256 97, Err kinds.BadRule) ∷
-    []
+-- all others are names, kept byte for byte, without the blanks around them
+abbrev names : List (List ℕ)
+names =
+    codes "B3" ∷ codes "V" ∷ codes "B2-aS12" ∷ codes "B3S23VV" ∷ codes "B9S1" ∷ codes "WireWorld" ∷ codes "w22" ∷ replicate 255 97 ∷ []
 
-names_are_kept : map (λ row. rule_of row.0) name_rows ≡ map (λ row. row.1) name_rows
+names_are_kept : map rule_of names ≡ map (λ name. Ok (named name)) names
 unfolding rule_of digits_of
 names_are_kept = refl
 
+blanks_are_cut : rule_of (codes " Life\r") ≡ Ok (named (codes "Life"))
+unfolding rule_of digits_of
+blanks_are_cut = refl
+
 -- the canonical text of the rule that a text names
-abbrev rule_text_rows : List (List ℕ × Result (List ℕ) Kind)
+abbrev rule_text_rows : Rows (Result (List ℕ) Kind)
 rule_text_rows =
-    (codes "23/3", Ok (codes "B3/S23")) ∷
-    (codes "b3s23", Ok (codes "B3/S23")) ∷
-    (codes "B33/S232", Ok (codes "B3/S23")) ∷
-    (codes "b31s20v", Ok (codes "B13/S02V")) ∷
-    (codes "/", Ok (codes "B/S")) ∷
-    (codes "Life", Ok (codes "Life")) ∷
+    row (Ok (codes "B3/S23")) (codes "23/3" ∷ codes "b3s23" ∷ codes "B33/S232" ∷ []) ∷
+    row (Ok (codes "B13/S02V")) (codes "b31s20v" ∷ []) ∷
+    row (Ok (codes "B/S")) (codes "/" ∷ []) ∷
+    row (Ok (codes "Life")) (codes "Life" ∷ []) ∷
     []
 
-rules_are_told : map (λ row. rule_of row.0 >>= λ rule. Ok (rule_text rule)) rule_text_rows ≡ map (λ row. row.1) rule_text_rows
+rules_are_told : Each (λ text. rule_of text >>= λ rule. Ok (rule_text rule)) rule_text_rows
 unfolding rule_of digits_of
 rules_are_told = refl
 
 -- ---- states of extended RLE
 
-abbrev state_rows : List (List ℕ × Option ℕ)
+abbrev state_rows : Rows (Option ℕ)
 state_rows =
-    (codes "b", Some 0) ∷
-    (codes ".", Some 0) ∷
-    (codes "o", Some 1) ∷
-    (codes "A", Some 1) ∷
-    (codes "X", Some 24) ∷
-    (codes "Y", None) ∷
-    (codes "a", None) ∷
-    (codes "pA", Some 25) ∷
-    (codes "pX", Some 48) ∷
-    (codes "qA", Some 49) ∷
-    (codes "xA", Some 217) ∷
-    (codes "yA", Some 241) ∷
-    (codes "yO", Some 255) ∷
-    (codes "yP", None) ∷
-    (codes "yX", None) ∷
-    (codes "po", None) ∷
-    (codes "oA", None) ∷
-    (codes "zA", None) ∷
-    (codes "", None) ∷
+    row (Some 0) (codes "b" ∷ codes "." ∷ []) ∷
+    row (Some 1) (codes "o" ∷ codes "A" ∷ []) ∷
+    row (Some 24) (codes "X" ∷ []) ∷
+    row None (codes "Y" ∷ codes "a" ∷ codes "yP" ∷ codes "yX" ∷ codes "po" ∷ codes "oA" ∷ codes "zA" ∷ codes "" ∷ []) ∷
+    row (Some 25) (codes "pA" ∷ []) ∷
+    row (Some 48) (codes "pX" ∷ []) ∷
+    row (Some 49) (codes "qA" ∷ []) ∷
+    row (Some 217) (codes "xA" ∷ []) ∷
+    row (Some 241) (codes "yA" ∷ []) ∷
+    row (Some 255) (codes "yO" ∷ []) ∷
     []
 
-states_are_read : map (λ row. state_of row.0) state_rows ≡ map (λ row. row.1) state_rows
+states_are_read : Each state_of state_rows
 states_are_read = refl
 
 -- ---- files
@@ -148,17 +115,17 @@ abbrev seen_at : List (ℤ × ℤ) → Result Pattern Fault → Result (Rule × 
 seen_at places (Ok pattern) = Ok (pattern.rule, pattern.generation, map (λ place. pattern.cell place.0 place.1) places)
 seen_at places (Err fault) = Err fault
 
--- files, what is said by each, and the line and the kind of each that is refused
-abbrev Row : Type 0
-Row = List ℕ × Result (Rule × ℕ × List ℕ) Fault
+-- what is said by a file, or the line and the kind of one that is refused
+abbrev Seen : Type 0
+Seen = Result (Rule × ℕ × List ℕ) Fault
 
-abbrev seen : Row → Result (Rule × ℕ × List ℕ) Fault
-seen row = seen_at [] (pattern_of row.0)
+abbrev seen : List ℕ → Seen
+seen bytes = seen_at [] (pattern_of bytes)
 
-abbrev says : Rule → ℕ → Result (Rule × ℕ × List ℕ) Fault
+abbrev says : Rule → ℕ → Seen
 says rule generation = Ok (rule, generation, [])
 
-abbrev refused : ℕ → Kind → Result (Rule × ℕ × List ℕ) Fault
+abbrev refused : ℕ → Kind → Seen
 refused line kind = Err (fault_at line kind)
 
 -- five cells of a glider, and three others
@@ -221,149 +188,88 @@ lettered :
 unfolding pattern_of rule_of digits_of with_rle_line
 lettered = refl
 
--- macrocell files: the lines before the nodes
-abbrev macrocell_rows : List Row
+-- macrocell files
+abbrev macrocell_rows : Rows Seen
 macrocell_rows =
-    (codes "[M2]", says b3s23 0) ∷
-    (codes "[M2]foo\n", says b3s23 0) ∷
-    (codes "[M2]\n#R\tLife\n#R 23/36\r\n#G 5\n#G  007 \n", says (counting 8 (3 ∷ 6 ∷ []) (2 ∷ 3 ∷ [])) 7) ∷
-    (codes "[M2]\n#RB36/S23\n#G7\n#Rule\n#\n#r x", says b3s23 0) ∷
-    (codes "[M2]\n#G 18446744073709551615", says b3s23 18446744073709551615) ∷
-    (codes "[M2]\n#C\n#FRAMES 1", refused 3 kinds.Timeline) ∷
-    (codes "[M2]\n*$\n#FRAMEWORK", refused 3 kinds.Timeline) ∷
-    (codes "[M2]\n*$\n#R :", refused 3 kinds.LateHeader) ∷
-    (codes "[M2]\n*$\n\n#G x", refused 4 kinds.LateHeader) ∷
-    (codes "[M2]\n#R", refused 2 kinds.BadRule) ∷
-    (codes "[M2]\n#R B3 S23\n#R B3/S23", refused 2 kinds.BadRule) ∷
-    (codes "[M2]\n#R B3/S23:P9", refused 2 kinds.BoundedGrid) ∷
-    (codes "[M2]\n#R B3/S23H", refused 2 kinds.UnsupportedRule) ∷
-    (codes "[M2]\n#R B01/S", refused 2 kinds.BirthOnZero) ∷
-    (codes "[M2]\n#G", refused 2 kinds.BadNumber) ∷
-    (codes "[M2]\n#G -1", refused 2 kinds.BadNumber) ∷
-    (codes "[M2]\n#G 1,000", refused 2 kinds.BadNumber) ∷
-    (codes "[M2]\n#G 18446744073709551616", refused 2 kinds.TooLarge) ∷
-    (codes "[M2\n", refused 1 kinds.NoHeader) ∷
-    (codes " [M2]\n", refused 1 kinds.NoHeader) ∷
-    (codes "\n[M2]\n", refused 2 kinds.NoHeader) ∷
+    -- the lines before the nodes
+    row (says b3s23 0) (codes "[M2]" ∷ codes "[M2]foo\n" ∷ codes "[M2]\n#RB36/S23\n#G7\n#Rule\n#\n#r x" ∷ []) ∷
+    row (says (counting 8 (3 ∷ 6 ∷ []) (2 ∷ 3 ∷ [])) 7) (codes "[M2]\n#R\tLife\n#R 23/36\r\n#G 5\n#G  007 \n" ∷ []) ∷
+    row (says b3s23 18446744073709551615) (codes "[M2]\n#G 18446744073709551615" ∷ []) ∷
+    row (refused 3 kinds.Timeline) (codes "[M2]\n#C\n#FRAMES 1" ∷ codes "[M2]\n*$\n#FRAMEWORK" ∷ []) ∷
+    row (refused 3 kinds.LateHeader) (codes "[M2]\n*$\n#R :" ∷ []) ∷
+    row (refused 4 kinds.LateHeader) (codes "[M2]\n*$\n\n#G x" ∷ []) ∷
+    row (refused 2 kinds.BadRule) (codes "[M2]\n#R" ∷ codes "[M2]\n#R B3 S23\n#R B3/S23" ∷ []) ∷
+    row (refused 2 kinds.BoundedGrid) (codes "[M2]\n#R B3/S23:P9" ∷ []) ∷
+    row (refused 2 kinds.UnsupportedRule) (codes "[M2]\n#R B3/S23H" ∷ []) ∷
+    row (refused 2 kinds.BirthOnZero) (codes "[M2]\n#R B01/S" ∷ []) ∷
+    row (refused 2 kinds.BadNumber) (codes "[M2]\n#G" ∷ codes "[M2]\n#G -1" ∷ codes "[M2]\n#G 1,000" ∷ []) ∷
+    row (refused 2 kinds.TooLarge) (codes "[M2]\n#G 18446744073709551616" ∷ []) ∷
+    row (refused 1 kinds.NoHeader) (codes "[M2\n" ∷ codes " [M2]\n" ∷ []) ∷
+    row (refused 2 kinds.NoHeader) (codes "\n[M2]\n" ∷ []) ∷
+    -- the nodes
+    row (refused 8 kinds.BadChild) (codes "[M2]\n\t*$ \r\n\n#C\n4 1 0\t0  1\n5 0 0 0 0\n*$\n4 3 0 0 0" ∷ []) ∷
+    row (says b3s23 0) (codes "[M2]\n*$\n*$\n04 01 0 0 2\n4 0 0 0 0" ∷ codes "[M2]\n$$$$$$$........$" ∷ codes "[M2]\n62 0 0 0 0" ∷ codes "[M2]\n1 0 1 1 0" ∷
+    []) ∷
+    row (refused 2 kinds.BadLeaf) (codes "[M2]\n$$$$$$$.........$" ∷ codes "[M2]\n$$$$$$$$$" ∷ codes "[M2]\n$$$$$$$$." ∷ codes "[M2]\n.*o$" ∷
+    codes "[M2]\n. *$" ∷ []) ∷
+    row (refused 2 kinds.BadNode) (codes "[M2]\n4 0 0 0" ∷ codes "[M2]\n4 0 0 0 0 0" ∷ codes "[M2]\n4 0 0 0 -1" ∷ codes "[M2]\n4 0 0 0 0x" ∷
+    codes "[M2]\n #R B3/S23" ∷ []) ∷
+    row (refused 2 kinds.BadLevel) (codes "[M2]\n0 0 0 0 0" ∷ codes "[M2]\n63 0 0 0 0" ∷ []) ∷
+    row (refused 2 kinds.StateRange) (codes "[M2]\n1 0 0 0 2" ∷ []) ∷
+    row (says (named (codes "A")) 0) (codes "[M2]\n#R A\n1 0 0 0 255\n*$" ∷ []) ∷
+    row (refused 3 kinds.StateRange) (codes "[M2]\n#R A\n1 0 0 0 256" ∷ []) ∷
+    row (refused 2 kinds.BadChild) (codes "[M2]\n4 0 0 0 1" ∷ []) ∷
+    row (refused 3 kinds.BadChild) (codes "[M2]\n*$\n5 1 0 0 0" ∷ codes "[M2]\n*$\n4 0 0 3 0\n*$" ∷ []) ∷
     []
 
-macrocells_are_told : map seen macrocell_rows ≡ map (λ row. row.1) macrocell_rows
+macrocells_are_told : Each seen macrocell_rows
 unfolding pattern_of rule_of digits_of with_line with_rle_line
 macrocells_are_told = refl
 
--- and the nodes
-abbrev node_rows : List Row
-node_rows =
-    (codes "[M2]\n\t*$ \r\n\n#C\n4 1 0\t0  1\n5 0 0 0 0\n*$\n4 3 0 0 0", refused 8 kinds.BadChild) ∷
-    (codes "[M2]\n*$\n*$\n04 01 0 0 2\n4 0 0 0 0", says b3s23 0) ∷
-    (codes "[M2]\n$$$$$$$........$", says b3s23 0) ∷
-    (codes "[M2]\n$$$$$$$.........$", refused 2 kinds.BadLeaf) ∷
-    (codes "[M2]\n$$$$$$$$$", refused 2 kinds.BadLeaf) ∷
-    (codes "[M2]\n$$$$$$$$.", refused 2 kinds.BadLeaf) ∷
-    (codes "[M2]\n.*o$", refused 2 kinds.BadLeaf) ∷
-    (codes "[M2]\n. *$", refused 2 kinds.BadLeaf) ∷
-    (codes "[M2]\n4 0 0 0", refused 2 kinds.BadNode) ∷
-    (codes "[M2]\n4 0 0 0 0 0", refused 2 kinds.BadNode) ∷
-    (codes "[M2]\n4 0 0 0 -1", refused 2 kinds.BadNode) ∷
-    (codes "[M2]\n4 0 0 0 0x", refused 2 kinds.BadNode) ∷
-    (codes "[M2]\n #R B3/S23", refused 2 kinds.BadNode) ∷
-    (codes "[M2]\n0 0 0 0 0", refused 2 kinds.BadLevel) ∷
-    (codes "[M2]\n62 0 0 0 0", says b3s23 0) ∷
-    (codes "[M2]\n63 0 0 0 0", refused 2 kinds.BadLevel) ∷
-    (codes "[M2]\n1 0 1 1 0", says b3s23 0) ∷
-    (codes "[M2]\n1 0 0 0 2", refused 2 kinds.StateRange) ∷
-    (codes "[M2]\n#R A\n1 0 0 0 255\n*$", says (named (codes "A")) 0) ∷
-    (codes "[M2]\n#R A\n1 0 0 0 256", refused 3 kinds.StateRange) ∷
-    (codes "[M2]\n4 0 0 0 1", refused 2 kinds.BadChild) ∷
-    (codes "[M2]\n*$\n5 1 0 0 0", refused 3 kinds.BadChild) ∷
-    (codes "[M2]\n*$\n4 0 0 3 0\n*$", refused 3 kinds.BadChild) ∷
+-- extended RLE
+abbrev rle_rows : Rows Seen
+rle_rows =
+    -- the lines before the header
+    row (refused 1 kinds.NoHeader) (codes "" ∷ codes "bo$2bo$3o!" ∷ []) ∷
+    row (refused 4 kinds.NoHeader) (codes "\n \t\r\n#C\n" ∷ []) ∷
+    row (refused 2 kinds.NoHeader) (codes "#C\n x = 3, y = 3" ∷ []) ∷
+    row (says b3s23 0) (codes "#C\n#CXRLE Gen=3 Pos=1,2\n#N\n#CXRLE Pos=5,-7\nx=1,y=1\n" ∷ codes "#CXRLEPos=z\nx=1,y=1\n" ∷
+    codes "#CXRLE Pos=-2305843009213693952,2305843009213693951\nx=1,y=1\no!" ∷ []) ∷
+    row (says b3s23 4) (codes "#CXRLE Gen=3 pos=z Pos Gen=5 Foo=1,2 Gen=4\nx=1,y=1\n" ∷ []) ∷
+    row (refused 1 kinds.BadNumber) (codes "#CXRLE Pos=1\n" ∷ codes "#CXRLE Pos=1,2,3\n" ∷ codes "#CXRLE Pos=1, 2\n" ∷ codes "#CXRLE Pos=+1,2\n" ∷
+    codes "#CXRLE Pos=2305843009213693952,x\n" ∷ []) ∷
+    row (refused 1 kinds.OutOfPlane) (codes "#CXRLE Pos=2305843009213693952,0\n" ∷ codes "#CXRLE Pos=0,-2305843009213693953\n" ∷ []) ∷
+    row (refused 2 kinds.BadNumber) (codes "#C\n#CXRLE Gen=x Gen=1\n" ∷ []) ∷
+    row (refused 1 kinds.TooLarge) (codes "#CXRLE Gen=18446744073709551616\n" ∷ []) ∷
+    -- the header
+    row (says b3s23 0) (codes "x=3,y=003" ∷ []) ∷
+    row (says (counting 8 (3 ∷ 6 ∷ []) (2 ∷ 3 ∷ [])) 0) (codes "x \t= 3 ,\ty = 9999999999999999999999 , rule = B36/S23 \r\n" ∷ []) ∷
+    row (refused 1 kinds.BadHeader) (codes "x = 3" ∷ codes "x = 3, y = -3" ∷ codes "x = 3, y = 3 3" ∷ codes "x = 3, y = 3," ∷ codes "x = 3, y = 3, rule" ∷
+    codes "x = 3, y = 3 rule = B3/S23" ∷ codes "x = 3, y = 3, ru le = B3/S23" ∷ codes "xA" ∷ []) ∷
+    row (refused 1 kinds.BadRule) (codes "x = 3, y = 3, rule =" ∷ codes "x = 3, y = 3, rule = B3/S23 foo" ∷ []) ∷
+    row (refused 1 kinds.UnsupportedRule) (codes "x = 3, y = 3, rule = B3/S23," ∷ []) ∷
+    row (refused 1 kinds.BoundedGrid) (codes "x = 3, y = 3, rule = LifeHistory:T9" ∷ []) ∷
+    row (refused 1 kinds.BirthOnZero) (codes "x = 3, y = 3, rule = B03/S23" ∷ []) ∷
+    -- the lines after it
+    row (says b3s23 0) (codes "x=1,y=1\n\n#C\n#CXRLEfoo\n b o\t$\r\n2b" ∷ codes "x=1,y=1\no!o0o\n#CXRLE\nx=1\n0" ∷
+    codes "#CXRLE Pos=-2305843009213693952,0\nx=1,y=1\n4611686018427387904o" ∷ codes "#CXRLE Pos=2305843009213693951,0\nx=1,y=1\no$o" ∷
+    codes "#CXRLE Pos=0,2305843009213693951\nx=1,y=1\no$" ∷ []) ∷
+    row (refused 2 kinds.LateHeader) (codes "x=1,y=1\n#CXRLE Pos=z" ∷ []) ∷
+    row (refused 2 kinds.SecondHeader) (codes "x=1,y=1\nx =" ∷ []) ∷
+    row (refused 3 kinds.SecondHeader) (codes "x=1,y=1\no\nx=1,y=1" ∷ []) ∷
+    row (says (named (codes "A")) 0) (codes "x=1,y=1,rule=A\nxA" ∷ []) ∷
+    row (refused 2 kinds.StateRange) (codes "x=1,y=1\nxA" ∷ codes "x=1,y=1\nO" ∷ codes "x=1,y=1\n5B0o" ∷ []) ∷
+    row (refused 2 kinds.ZeroCount) (codes "x=1,y=1\n3o$0b" ∷ codes "x=1,y=1\n00o" ∷ []) ∷
+    row (refused 2 kinds.TooLarge) (codes "x=1,y=1\n4611686018427387905o" ∷ []) ∷
+    row (refused 2 kinds.BadItem) (codes "x=1,y=1\n3 o" ∷ codes "x=1,y=1\n3o2!" ∷ codes "x=1,y=1\nz" ∷ codes "x=1,y=1\n2yP" ∷ []) ∷
+    row (refused 3 kinds.BadItem) (codes "x=1,y=1\no\n3\no" ∷ []) ∷
+    row (refused 3 kinds.OutOfPlane) (codes "#CXRLE Pos=2305843009213693951,0\nx=1,y=1\n2b" ∷ codes "#CXRLE Pos=0,2305843009213693951\nx=1,y=1\no$b" ∷
+    codes "#CXRLE Pos=0,2305843009213693951\nx=1,y=1\no2$" ∷ []) ∷
     []
 
-nodes_are_told : map seen node_rows ≡ map (λ row. row.1) node_rows
-unfolding pattern_of rule_of digits_of with_line with_rle_line
-nodes_are_told = refl
-
--- extended RLE: the lines before the header
-abbrev position_rows : List Row
-position_rows =
-    (codes "", refused 1 kinds.NoHeader) ∷
-    (codes "\n \t\r\n#C\n", refused 4 kinds.NoHeader) ∷
-    (codes "bo$2bo$3o!", refused 1 kinds.NoHeader) ∷
-    (codes "#C\n x = 3, y = 3", refused 2 kinds.NoHeader) ∷
-    (codes "#C\n#CXRLE Gen=3 Pos=1,2\n#N\n#CXRLE Pos=5,-7\nx=1,y=1\n", says b3s23 0) ∷
-    (codes "#CXRLE Gen=3 pos=z Pos Gen=5 Foo=1,2 Gen=4\nx=1,y=1\n", says b3s23 4) ∷
-    (codes "#CXRLEPos=z\nx=1,y=1\n", says b3s23 0) ∷
-    (codes "#CXRLE Pos=-2305843009213693952,2305843009213693951\nx=1,y=1\no!", says b3s23 0) ∷
-    (codes "#CXRLE Pos=1\n", refused 1 kinds.BadNumber) ∷
-    (codes "#CXRLE Pos=1,2,3\n", refused 1 kinds.BadNumber) ∷
-    (codes "#CXRLE Pos=1, 2\n", refused 1 kinds.BadNumber) ∷
-    (codes "#CXRLE Pos=+1,2\n", refused 1 kinds.BadNumber) ∷
-    (codes "#CXRLE Pos=2305843009213693952,x\n", refused 1 kinds.BadNumber) ∷
-    (codes "#CXRLE Pos=2305843009213693952,0\n", refused 1 kinds.OutOfPlane) ∷
-    (codes "#CXRLE Pos=0,-2305843009213693953\n", refused 1 kinds.OutOfPlane) ∷
-    (codes "#C\n#CXRLE Gen=x Gen=1\n", refused 2 kinds.BadNumber) ∷
-    (codes "#CXRLE Gen=18446744073709551616\n", refused 1 kinds.TooLarge) ∷
-    []
-
-positions_are_told : map seen position_rows ≡ map (λ row. row.1) position_rows
-unfolding pattern_of rule_of digits_of with_line with_rle_line
-positions_are_told = refl
-
--- the header
-abbrev header_rows : List Row
-header_rows =
-    (codes "x=3,y=003", says b3s23 0) ∷
-    (codes "x \t= 3 ,\ty = 9999999999999999999999 , rule = B36/S23 \r\n", says (counting 8 (3 ∷ 6 ∷ []) (2 ∷ 3 ∷ [])) 0) ∷
-    (codes "x = 3", refused 1 kinds.BadHeader) ∷
-    (codes "x = 3, y = -3", refused 1 kinds.BadHeader) ∷
-    (codes "x = 3, y = 3 3", refused 1 kinds.BadHeader) ∷
-    (codes "x = 3, y = 3,", refused 1 kinds.BadHeader) ∷
-    (codes "x = 3, y = 3, rule", refused 1 kinds.BadHeader) ∷
-    (codes "x = 3, y = 3 rule = B3/S23", refused 1 kinds.BadHeader) ∷
-    (codes "x = 3, y = 3, ru le = B3/S23", refused 1 kinds.BadHeader) ∷
-    (codes "xA", refused 1 kinds.BadHeader) ∷
-    (codes "x = 3, y = 3, rule =", refused 1 kinds.BadRule) ∷
-    (codes "x = 3, y = 3, rule = B3/S23 foo", refused 1 kinds.BadRule) ∷
-    (codes "x = 3, y = 3, rule = B3/S23,", refused 1 kinds.UnsupportedRule) ∷
-    (codes "x = 3, y = 3, rule = LifeHistory:T9", refused 1 kinds.BoundedGrid) ∷
-    (codes "x = 3, y = 3, rule = B03/S23", refused 1 kinds.BirthOnZero) ∷
-    []
-
-headers_are_told : map seen header_rows ≡ map (λ row. row.1) header_rows
-unfolding pattern_of rule_of digits_of with_line with_rle_line
-headers_are_told = refl
-
--- and the lines after it
-abbrev data_rows : List Row
-data_rows =
-    (codes "x=1,y=1\n\n#C\n#CXRLEfoo\n b o\t$\r\n2b", says b3s23 0) ∷
-    (codes "x=1,y=1\n#CXRLE Pos=z", refused 2 kinds.LateHeader) ∷
-    (codes "x=1,y=1\nx =", refused 2 kinds.SecondHeader) ∷
-    (codes "x=1,y=1\no\nx=1,y=1", refused 3 kinds.SecondHeader) ∷
-    (codes "x=1,y=1,rule=A\nxA", says (named (codes "A")) 0) ∷
-    (codes "x=1,y=1\nxA", refused 2 kinds.StateRange) ∷
-    (codes "x=1,y=1\no!o0o\n#CXRLE\nx=1\n0", says b3s23 0) ∷
-    (codes "x=1,y=1\n3o$0b", refused 2 kinds.ZeroCount) ∷
-    (codes "x=1,y=1\n00o", refused 2 kinds.ZeroCount) ∷
-    (codes "x=1,y=1\n4611686018427387905o", refused 2 kinds.TooLarge) ∷
-    (codes "#CXRLE Pos=-2305843009213693952,0\nx=1,y=1\n4611686018427387904o", says b3s23 0) ∷
-    (codes "x=1,y=1\n3 o", refused 2 kinds.BadItem) ∷
-    (codes "x=1,y=1\no\n3\no", refused 3 kinds.BadItem) ∷
-    (codes "x=1,y=1\n3o2!", refused 2 kinds.BadItem) ∷
-    (codes "x=1,y=1\nO", refused 2 kinds.StateRange) ∷
-    (codes "x=1,y=1\nz", refused 2 kinds.BadItem) ∷
-    (codes "x=1,y=1\n2yP", refused 2 kinds.BadItem) ∷
-    (codes "x=1,y=1\n5B0o", refused 2 kinds.StateRange) ∷
-    (codes "#CXRLE Pos=2305843009213693951,0\nx=1,y=1\no$o", says b3s23 0) ∷
-    (codes "#CXRLE Pos=2305843009213693951,0\nx=1,y=1\n2b", refused 3 kinds.OutOfPlane) ∷
-    (codes "#CXRLE Pos=0,2305843009213693951\nx=1,y=1\no$", says b3s23 0) ∷
-    (codes "#CXRLE Pos=0,2305843009213693951\nx=1,y=1\no$b", refused 3 kinds.OutOfPlane) ∷
-    (codes "#CXRLE Pos=0,2305843009213693951\nx=1,y=1\no2$", refused 3 kinds.OutOfPlane) ∷
-    []
-
-data_are_told : map seen data_rows ≡ map (λ row. row.1) data_rows
-unfolding pattern_of rule_of digits_of with_line with_rle_line
-data_are_told = refl
+rles_are_told : Each seen rle_rows
+unfolding pattern_of rule_of digits_of with_rle_line
+rles_are_told = refl
 
 -- ---- almost accepted
 

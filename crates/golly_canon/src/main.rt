@@ -5,11 +5,13 @@ ghost use Rattle.std.specs.Prelude.{◌↔◌, IsSome};
 ghost use Rattle.life_cli.specs.Plans.{HasSecond};
 
 mod opening;
+mod progress;
 
 use life_base::{Device, Kind};
 use life_cli::plans::{KeysPlan, Plan, Request, Usage};
 use life_cli::{Seeds, open_files, refuse, report, request, work, write_keys};
-use opening::{hold_closed_streams, open, open_no_folder};
+use opening::{HeldStreams, hold_closed_streams, open, open_no_folder};
+use progress::{Beside, Progress};
 use std::process::ExitCode;
 use std::{env, io};
 
@@ -48,27 +50,52 @@ fn carry_out(rt: &HostRuntime, plan: &Plan) -> u8
     }
 }
 
-/// Draws the random words, and writes the keys of the plan's files. Without random words nothing is read.
-fn carry_out_keys(rt: &HostRuntime, plan: &KeysPlan<'_>) -> u8 {
-    let mut err = Device::new(rt.stderr());
-    let Ok(seeds) = Seeds::drawn(rt) else {
-        return refuse(&mut err, Kind::ReadFault);
-    };
-    let mut out = Device::new(rt.stdout());
+/// Writes the keys of the plan's files, and between their lines how far that is.
+fn write_keys_beside(
+    rt: &HostRuntime,
+    held: &HeldStreams,
+    seeds: &Seeds,
+    plan: &KeysPlan<'_>,
+    progress: &Progress,
+) -> u8 {
+    let mut out = Device::new(Beside {
+        stream: rt.stdout(),
+        progress,
+        clears: progress.is_shared,
+    });
+    let mut err = Device::new(Beside {
+        stream: rt.stderr(),
+        progress,
+        clears: true,
+    });
     write_keys(
         rt.alloc(),
-        &seeds,
+        seeds,
         plan,
-        |origin| open_no_folder(rt, origin),
+        |origin| {
+            progress.advance(rt);
+            open_no_folder(rt, held, origin)
+        },
         &mut out,
         &mut err,
     )
 }
 
-fn run(rt: &HostRuntime, words: &[String]) -> u8 {
+/// Draws the random words, and writes the keys of the plan's files. Without random words nothing is read.
+fn carry_out_keys(rt: &HostRuntime, held: &HeldStreams, plan: &KeysPlan<'_>) -> u8 {
+    let Ok(seeds) = Seeds::drawn(rt) else {
+        return refuse(&mut Device::new(rt.stderr()), Kind::ReadFault);
+    };
+    let progress = Progress::new(rt, plan);
+    let status = write_keys_beside(rt, held, &seeds, plan, &progress);
+    progress.clear();
+    status
+}
+
+fn run(rt: &HostRuntime, held: &HeldStreams, words: &[String]) -> u8 {
     match request(rt.alloc(), words) {
         Ok(Request::Work(plan)) => carry_out(rt, &plan),
-        Ok(Request::Keys(plan)) => carry_out_keys(rt, &plan),
+        Ok(Request::Keys(plan)) => carry_out_keys(rt, held, &plan),
         Err(usage) => report_usage(rt, &usage),
     }
 }
@@ -79,9 +106,9 @@ fn words(rt: &HostRuntime) -> io::Result<Vec<String>> {
 }
 
 fn main(rt: HostRuntime) -> ExitCode {
-    let _held = hold_closed_streams(&rt);
+    let held = hold_closed_streams(&rt);
     let status = match words(&rt) {
-        Ok(words) => run(&rt, &words),
+        Ok(words) => run(&rt, &held, &words),
         Err(error) => report_usage(&rt, &Usage::from(error)),
     };
     ExitCode::from(status)

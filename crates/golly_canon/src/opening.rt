@@ -4,6 +4,7 @@ use life_cli::{Opened, Origin};
 use std::fs;
 use std::fs::File;
 use std::io::{ErrorKind, Read, Result};
+use std::os::fd::AsRawFd;
 use std::rt::Stdin;
 
 /// A file, or standard input.
@@ -22,10 +23,24 @@ impl Read for Input {
     }
 }
 
+/// What holds the numbers of the standard streams that a caller has closed.
+#[derive(Drop)]
+pub(crate) struct HeldStreams([Option<File>; 3]);
+
+impl HeldStreams {
+    /// Whether standard input was closed, so that its number is held.
+    pub(crate) fn holds_input(&self) -> bool {
+        self.0
+            .iter()
+            .flatten()
+            .any(|folder| folder.as_raw_fd() == 0)
+    }
+}
+
 /// Takes the numbers of the standard streams that a caller has closed, so that no file that is opened later gets one of them and is
 /// taken for it. They are given to a folder, of which nothing can be read and to which nothing can be written.
-pub(crate) fn hold_closed_streams(rt: &HostRuntime) -> [Option<File>; 3] {
-    [held(rt), held(rt), held(rt)]
+pub(crate) fn hold_closed_streams(rt: &HostRuntime) -> HeldStreams {
+    HeldStreams([held(rt), held(rt), held(rt)])
 }
 
 /// A folder that is held open.
@@ -67,8 +82,15 @@ fn is_folder(rt: &HostRuntime, input: &Input) -> bool {
     }
 }
 
-/// Opens what a word names, unless it is a folder.
-pub(crate) fn open_no_folder(rt: &HostRuntime, origin: Origin<'_>) -> Result<Opened<Input>> {
+/// Opens what a word names, unless it is a folder, or a standard input that a caller has closed.
+pub(crate) fn open_no_folder(
+    rt: &HostRuntime,
+    held: &HeldStreams,
+    origin: Origin<'_>,
+) -> Result<Opened<Input>> {
+    if matches!(origin, Origin::Standard) && held.holds_input() {
+        return Err(ErrorKind::NotConnected.into());
+    }
     let opened = open(rt, origin)?;
     if is_folder(rt, &opened.input) {
         return Err(ErrorKind::IsADirectory.into());

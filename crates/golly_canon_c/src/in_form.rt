@@ -22,8 +22,10 @@ pub extern "C" fn golly_canon_canon_form(
     needed: &mut usize,
     line: &mut u64,
 ) -> u32
-    ensures { MatchOption (form_numbered form) (TellsNoForm out.old out.new (told result needed.new line.new))
-        (λ form. Answers (IsTextInForm form bytes.now) (RefusesInForm form limit bytes.now) out.old out.new (told result needed.new line.new)) }
+    ensures { MatchOption (form_numbered form)
+        (TellsNoForm out.old out.new (told result needed.new line.new))
+        (λ form. Answers (IsTextInForm form bytes.now) (RefusesInForm form limit bytes.now)
+        out.old out.new (told result needed.new line.new)) }
 {
     tell(
         canon_form(alloc, bytes, form, limit, seed, out),
@@ -44,8 +46,10 @@ pub extern "C" fn golly_canon_key(
     needed: &mut usize,
     line: &mut u64,
 ) -> u32
-    ensures { MatchOption (form_numbered form) (TellsNoForm out.old out.new (told result needed.new line.new))
-        (λ form. Answers (IsKeyInForm form bytes.now) (RefusesInForm form limit bytes.now) out.old out.new (told result needed.new line.new)) }
+    ensures { MatchOption (form_numbered form)
+        (TellsNoForm out.old out.new (told result needed.new line.new))
+        (λ form. Answers (IsKeyInForm form bytes.now) (RefusesInForm form limit bytes.now)
+        out.old out.new (told result needed.new line.new)) }
 {
     tell(key(alloc, bytes, form, limit, seed, out), needed, line)
 }
@@ -62,8 +66,10 @@ pub extern "C" fn golly_canon_same_form(
     is_same: &mut u32,
     line: &mut u64,
 ) -> u32
-    ensures { MatchOption (form_numbered form) (ComparesInNone (compared result is_same.new line.new))
-        (λ form. ComparesInForm form limit first.now second.now (compared result is_same.new line.new)) }
+    ensures { MatchOption (form_numbered form)
+        (ComparesInNone (compared result is_same.new line.new))
+        (λ form. ComparesInForm form limit first.now second.now
+        (compared result is_same.new line.new)) }
 {
     let answer = same_form(alloc, first, second, form, limit, seed);
     tell_compared(answer, is_same, line)

@@ -94,11 +94,16 @@ fn tell_name(name: &[u8], out: &mut [u8], needed: &mut usize) -> u32
 /// The name of a status: `OK`, `NoRoom`, `NoForm`, the name of the kind of fault, and no byte for a number that no call answers.
 #[unsafe(no_mangle)]
 pub extern "C" fn golly_canon_status_name(number: u32, out: &mut [u8], needed: &mut usize) -> u32
-    ensures kind { (kind : KindValue) → number ≡ kind_number kind → Gives (kind_name kind) out.old out.new (told result needed.new 0) }
+    ensures kind { (kind : KindValue) → number ≡ kind_number kind
+        → Gives (kind_name kind) out.old out.new (told result needed.new 0) }
     ensures ok { number ≡ 0 → Gives (codes "OK") out.old out.new (told result needed.new 0) }
-    ensures no_room { number ≡ 64 → Gives (codes "NoRoom") out.old out.new (told result needed.new 0) }
-    ensures no_form { number ≡ 65 → Gives (codes "NoForm") out.old out.new (told result needed.new 0) }
-    ensures none { number ≢ 0 → number ≢ 64 → number ≢ 65 → ((kind : KindValue) → number ≢ kind_number kind) → Gives [] out.old out.new (told result needed.new 0) }
+    ensures no_room { number ≡ 64 → Gives (codes "NoRoom") out.old out.new
+        (told result needed.new 0) }
+    ensures no_form { number ≡ 65 → Gives (codes "NoForm") out.old out.new
+        (told result needed.new 0) }
+    ensures none { number ≢ 0 → number ≢ 64 → number ≢ 65
+        → ((kind : KindValue) → number ≢ kind_number kind)
+        → Gives [] out.old out.new (told result needed.new 0) }
 {
     tell_name(name_of(number), out, needed)
 }

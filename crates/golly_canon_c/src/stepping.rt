@@ -19,7 +19,8 @@ pub extern "C" fn golly_canon_step(
     needed: &mut usize,
     line: &mut u64,
 ) -> u32
-    ensures { Answers (IsStepped bytes.now) (RefusesStepWithin limit bytes.now) out.old out.new (told result needed.new line.new) }
+    ensures { Answers (IsStepped bytes.now) (RefusesStepWithin limit bytes.now) out.old out.new
+        (told result needed.new line.new) }
 {
     tell(step(alloc, bytes, limit, seed, out), needed, line)
 }
@@ -38,7 +39,8 @@ pub extern "C" fn golly_canon_step_by_table(
     line: &mut u64,
     in_table: &mut u32,
 ) -> u32
-    ensures { StepsByTable limit bytes.now table.now in_table.new out.old out.new (told result needed.new line.new) }
+    ensures { StepsByTable limit bytes.now table.now in_table.new out.old out.new
+        (told result needed.new line.new) }
 {
     let (answer, of_table) = step_by_table(alloc, bytes, table, limit, seed, out);
     *in_table = of_table;

@@ -34,7 +34,8 @@ pub extern "C" fn golly_canon_open_canon_form(
     limit: u64,
     seed: u64,
 ) -> u32
-    ensures { MatchOption (form_numbered form) ((result ≡ 65) × (session_of stream.new ≡ None)) (λ form. Opens (text_in form) limit result (session_of stream.new)) }
+    ensures { MatchOption (form_numbered form) ((result ≡ 65) × (session_of stream.new ≡ None))
+        (λ form. Opens (text_in form) limit result (session_of stream.new)) }
 {
     open_canon_form(alloc, stream, form, limit, seed)
 }
@@ -87,10 +88,15 @@ pub extern "C" fn golly_canon_feed(
     piece: &[u8],
     line: &mut u64,
 ) -> u32
-    ensures closed { session_of stream.old ≡ None → (session_of stream.new ≡ None) × IsSpent result line.new }
-    ensures takes { (form : FormValue) (limit : ℕ) (bytes : List ℕ) → IsOpen (IsFed form limit bytes) (session_of stream.old) → IsOpen (Takes form limit (bytes ++ piece.now)) (session_of stream.new) }
-    ensures text { (text : List ℕ) → IsOpen (HasText text) (session_of stream.old) → IsOpen (HasText text) (session_of stream.new) }
-    ensures fault { (fault : FaultValue) → IsOpen (HasFault fault) (session_of stream.old) → IsOpen (HasFault fault) (session_of stream.new) }
+    ensures closed { session_of stream.old ≡ None
+        → (session_of stream.new ≡ None) × IsSpent result line.new }
+    ensures takes { (form : FormValue) (limit : ℕ) (bytes : List ℕ)
+        → IsOpen (IsFed form limit bytes) (session_of stream.old)
+        → IsOpen (Takes form limit (bytes ++ piece.now)) (session_of stream.new) }
+    ensures text { (text : List ℕ) → IsOpen (HasText text) (session_of stream.old)
+        → IsOpen (HasText text) (session_of stream.new) }
+    ensures fault { (fault : FaultValue) → IsOpen (HasFault fault) (session_of stream.old)
+        → IsOpen (HasFault fault) (session_of stream.new) }
     ensures tells { IfSome (session_of stream.new) (TellsPiece result line.new) }
 {
     let answer = feed(alloc, stream, piece);
@@ -107,11 +113,18 @@ pub extern "C" fn golly_canon_finish(
     needed: &mut usize,
     line: &mut u64,
 ) -> u32
-    ensures closed { session_of stream.old ≡ None → (session_of stream.new ≡ None) × TellsNothing out.old out.new (told result needed.new line.new) }
-    ensures ends { (form : FormValue) (limit : ℕ) (bytes : List ℕ) → IsOpen (IsFed form limit bytes) (session_of stream.old) → IsOpen (Ends form limit bytes) (session_of stream.new) }
-    ensures text { (text : List ℕ) → IsOpen (HasText text) (session_of stream.old) → IsOpen (HasText text) (session_of stream.new) }
-    ensures fault { (fault : FaultValue) → IsOpen (HasFault fault) (session_of stream.old) → IsOpen (HasFault fault) (session_of stream.new) }
-    ensures tells { IfSome (session_of stream.new) (TellsEnd out.old out.new (told result needed.new line.new)) }
+    ensures closed { session_of stream.old ≡ None
+        → (session_of stream.new ≡ None)
+        × TellsNothing out.old out.new (told result needed.new line.new) }
+    ensures ends { (form : FormValue) (limit : ℕ) (bytes : List ℕ)
+        → IsOpen (IsFed form limit bytes) (session_of stream.old)
+        → IsOpen (Ends form limit bytes) (session_of stream.new) }
+    ensures text { (text : List ℕ) → IsOpen (HasText text) (session_of stream.old)
+        → IsOpen (HasText text) (session_of stream.new) }
+    ensures fault { (fault : FaultValue) → IsOpen (HasFault fault) (session_of stream.old)
+        → IsOpen (HasFault fault) (session_of stream.new) }
+    ensures tells { IfSome (session_of stream.new)
+        (TellsEnd out.old out.new (told result needed.new line.new)) }
 {
     tell(finish(alloc, stream, out), needed, line)
 }

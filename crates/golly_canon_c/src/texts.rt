@@ -20,7 +20,8 @@ pub extern "C" fn golly_canon_canon(
     needed: &mut usize,
     line: &mut u64,
 ) -> u32
-    ensures { Answers (IsCanonicalText bytes.now) (RefusesWithin limit bytes.now) out.old out.new (told result needed.new line.new) }
+    ensures { Answers (IsCanonicalText bytes.now) (RefusesWithin limit bytes.now) out.old out.new
+        (told result needed.new line.new) }
 {
     tell(canon(alloc, bytes, limit, seed, out), needed, line)
 }
@@ -36,7 +37,8 @@ pub extern "C" fn golly_canon_to_rle(
     needed: &mut usize,
     line: &mut u64,
 ) -> u32
-    ensures { Answers (IsRleText bytes.now) (RefusesRleWithin limit bytes.now) out.old out.new (told result needed.new line.new) }
+    ensures { Answers (IsRleText bytes.now) (RefusesRleWithin limit bytes.now) out.old out.new
+        (told result needed.new line.new) }
 {
     tell(to_rle(alloc, bytes, limit, seed, out), needed, line)
 }
@@ -52,7 +54,8 @@ pub extern "C" fn golly_canon_show(
     needed: &mut usize,
     line: &mut u64,
 ) -> u32
-    ensures { Answers (IsShown MAX_LEVEL bytes.now) (RefusesWithin limit bytes.now) out.old out.new (told result needed.new line.new) }
+    ensures { Answers (IsShown MAX_LEVEL bytes.now) (RefusesWithin limit bytes.now) out.old
+        out.new (told result needed.new line.new) }
 {
     tell(show(alloc, bytes, limit, seed, out), needed, line)
 }

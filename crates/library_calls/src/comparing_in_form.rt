@@ -27,9 +27,11 @@ fn are_shifted(
     second: &[u8],
 ) -> Result<bool, Fault>
     ensures accepted { OnOk result (Accepted MAX_LEVEL first.now × Accepted MAX_LEVEL second.now) }
-    ensures answer { IfOk result (λ answer. IsTrue answer ↔ AreOneInForm FormValue.Moved first.now second.now) }
+    ensures answer { IfOk result
+        (λ answer. IsTrue answer ↔ AreOneInForm FormValue.Moved first.now second.now) }
     ensures few { OnOk result (¬ HasTooMany FormValue.Moved first.now second.now) }
-    ensures fault { IfErr result (λ fault. (limit : ℕ) → store.old.limit ≡ room_of limit → RefusesEitherInForm FormValue.Moved limit first.now second.now fault) }
+    ensures fault { IfErr result (λ fault. (limit : ℕ) → store.old.limit ≡ room_of limit
+        → RefusesEitherInForm FormValue.Moved limit first.now second.now fault) }
 {
     patterns_fit();
     patterns_stay();
@@ -42,9 +44,11 @@ fn are_shifted(
 /// Whether a shift behind one of the eight turns and reflections does.
 fn are_turned(alloc: Global, store: &mut Shared, first: &[u8], second: &[u8]) -> Result<bool, Fault>
     ensures accepted { OnOk result (Accepted MAX_LEVEL first.now × Accepted MAX_LEVEL second.now) }
-    ensures answer { IfOk result (λ answer. IsTrue answer ↔ AreOneInForm FormValue.Turned first.now second.now) }
+    ensures answer { IfOk result
+        (λ answer. IsTrue answer ↔ AreOneInForm FormValue.Turned first.now second.now) }
     ensures few { OnOk result (¬ HasTooMany FormValue.Turned first.now second.now) }
-    ensures fault { IfErr result (λ fault. (limit : ℕ) → store.old.limit ≡ room_of limit → RefusesEitherInForm FormValue.Turned limit first.now second.now fault) }
+    ensures fault { IfErr result (λ fault. (limit : ℕ) → store.old.limit ≡ room_of limit
+        → RefusesEitherInForm FormValue.Turned limit first.now second.now fault) }
 {
     patterns_fit();
     patterns_stay();
@@ -64,9 +68,11 @@ fn are_one(
     form: PatternForm,
 ) -> Result<bool, Fault>
     ensures accepted { OnOk result (Accepted MAX_LEVEL first.now × Accepted MAX_LEVEL second.now) }
-    ensures answer { IfOk result (λ answer. IsTrue answer ↔ AreOneInForm form first.now second.now) }
+    ensures answer { IfOk result
+        (λ answer. IsTrue answer ↔ AreOneInForm form first.now second.now) }
     ensures few { OnOk result (¬ HasTooMany form first.now second.now) }
-    ensures fault { IfErr result (λ fault. (limit : ℕ) → store.old.limit ≡ room_of limit → RefusesEitherInForm form limit first.now second.now fault) }
+    ensures fault { IfErr result (λ fault. (limit : ℕ) → store.old.limit ≡ room_of limit
+        → RefusesEitherInForm form limit first.now second.now fault) }
 {
     match form {
         PatternForm::Placed => life_canon::same(alloc, store, first, second),
@@ -84,7 +90,8 @@ pub fn same_form(
     limit: u64,
     seed: u64,
 ) -> Compared
-    ensures { MatchOption (form_numbered form) (ComparesInNone result) (λ form. ComparesInForm form limit first.now second.now result) }
+    ensures { MatchOption (form_numbered form) (ComparesInNone result)
+        (λ form. ComparesInForm form limit first.now second.now result) }
 {
     let Some(form) = form_of(form) else {
         return Compared {

@@ -48,7 +48,8 @@ pub(crate) fn canonical_of(
     pattern: &Pattern,
 ) -> Result<Vec<u8>, Fault>
     requires { IsOfFile MAX_LEVEL store.now pattern.now }
-    ensures text { IfOk result (λ text. (bytes : List ℕ) → IsRead MAX_LEVEL bytes store.now pattern.now → IsCanonicalText bytes text.items) }
+    ensures text { IfOk result (λ text. (bytes : List ℕ)
+        → IsRead MAX_LEVEL bytes store.now pattern.now → IsCanonicalText bytes text.items) }
     ensures memory { IfErr result (λ fault. fault ≡ fault_of Memory) }
 {
     patterns_fit();
@@ -73,9 +74,12 @@ impl Feeding {
 
     /// The same after the next piece.
     pub(crate) fn fed(self, piece: &[u8]) -> Result<Feeding, Fault>
-        ensures fed { IfOk result (λ r. r ≡ record { form = self.form; room = self.room; bytes = self.bytes ++ piece.now }) }
-        ensures front { OnOk result ((fault : FaultValue) → ¬ RefusesFront MAX_LEVEL (self.bytes ++ piece.now) fault) }
-        ensures fault { IfErr result (λ fault. (limit : ℕ) → self.room ≡ room_of limit → RefusesPiece limit (self.bytes ++ piece.now) fault) }
+        ensures fed { IfOk result (λ r. r ≡ record
+            { form = self.form; room = self.room; bytes = self.bytes ++ piece.now }) }
+        ensures front { OnOk result
+            ((fault : FaultValue) → ¬ RefusesFront MAX_LEVEL (self.bytes ++ piece.now) fault) }
+        ensures fault { IfErr result (λ fault. (limit : ℕ) → self.room ≡ room_of limit
+            → RefusesPiece limit (self.bytes ++ piece.now) fault) }
     {
         let Feeding {
             mut reader,
@@ -93,7 +97,8 @@ impl Feeding {
     /// The text of the file whose pieces came.
     pub(crate) fn text(self, alloc: Global) -> Result<Vec<u8>, Fault>
         ensures text { IfOk result (λ text. IsTextOf self.form self.bytes text.items) }
-        ensures fault { IfErr result (λ fault. (limit : ℕ) → self.room ≡ room_of limit → RefusesTextOf self.form limit self.bytes fault) }
+        ensures fault { IfErr result (λ fault. (limit : ℕ) → self.room ≡ room_of limit
+            → RefusesTextOf self.form limit self.bytes fault) }
     {
         let Feeding {
             reader,

@@ -42,8 +42,11 @@ pub(crate) fn moved_text(
     pattern: &Pattern,
 ) -> Result<Vec<u8>, Fault>
     requires { IsOfFile MAX_LEVEL store.old pattern.now }
-    ensures text { IfOk result (λ text. (bytes : List ℕ) → IsRead MAX_LEVEL bytes store.old pattern.now → IsTextMoved bytes text.items) }
-    ensures fault { IfErr result (λ fault. (limit : ℕ) (bytes : List ℕ) → store.old.limit ≡ room_of limit → IsRead MAX_LEVEL bytes store.old pattern.now → RefusesInForm FormValue.Moved limit bytes fault) }
+    ensures text { IfOk result (λ text. (bytes : List ℕ)
+        → IsRead MAX_LEVEL bytes store.old pattern.now → IsTextMoved bytes text.items) }
+    ensures fault { IfErr result (λ fault. (limit : ℕ) (bytes : List ℕ)
+        → store.old.limit ≡ room_of limit → IsRead MAX_LEVEL bytes store.old pattern.now
+        → RefusesInForm FormValue.Moved limit bytes fault) }
 {
     patterns_fit();
     let moved = moved_of(alloc, store, pattern)?;
@@ -57,8 +60,11 @@ pub(crate) fn turned_text_of(
     pattern: &Pattern,
 ) -> Result<Vec<u8>, Fault>
     requires { IsOfFile MAX_LEVEL store.now pattern.now }
-    ensures text { IfOk result (λ text. (bytes : List ℕ) → IsRead MAX_LEVEL bytes store.now pattern.now → IsTextTurned bytes text.items) }
-    ensures fault { IfErr result (λ fault. (limit : ℕ) (bytes : List ℕ) → store.now.limit ≡ room_of limit → IsRead MAX_LEVEL bytes store.now pattern.now → RefusesInForm FormValue.Turned limit bytes fault) }
+    ensures text { IfOk result (λ text. (bytes : List ℕ)
+        → IsRead MAX_LEVEL bytes store.now pattern.now → IsTextTurned bytes text.items) }
+    ensures fault { IfErr result (λ fault. (limit : ℕ) (bytes : List ℕ)
+        → store.now.limit ≡ room_of limit → IsRead MAX_LEVEL bytes store.now pattern.now
+        → RefusesInForm FormValue.Turned limit bytes fault) }
 {
     patterns_fit();
     turned_text(alloc, store, pattern)
@@ -72,8 +78,11 @@ pub(crate) fn text_in_form(
     form: PatternForm,
 ) -> Result<Vec<u8>, Fault>
     requires { IsOfFile MAX_LEVEL store.old pattern.now }
-    ensures text { IfOk result (λ text. (bytes : List ℕ) → IsRead MAX_LEVEL bytes store.old pattern.now → IsTextInForm form bytes text.items) }
-    ensures fault { IfErr result (λ fault. (limit : ℕ) (bytes : List ℕ) → store.old.limit ≡ room_of limit → IsRead MAX_LEVEL bytes store.old pattern.now → RefusesInForm form limit bytes fault) }
+    ensures text { IfOk result (λ text. (bytes : List ℕ)
+        → IsRead MAX_LEVEL bytes store.old pattern.now → IsTextInForm form bytes text.items) }
+    ensures fault { IfErr result (λ fault. (limit : ℕ) (bytes : List ℕ)
+        → store.old.limit ≡ room_of limit → IsRead MAX_LEVEL bytes store.old pattern.now
+        → RefusesInForm form limit bytes fault) }
 {
     match form {
         PatternForm::Placed => canonical_of(alloc, store, pattern),
@@ -119,7 +128,8 @@ pub fn canon_form(
     out: &mut [u8],
 ) -> Told
     ensures { MatchOption (form_numbered form) (TellsNoForm out.old out.new result)
-        (λ form. Answers (IsTextInForm form bytes.now) (RefusesInForm form limit bytes.now) out.old out.new result) }
+        (λ form. Answers (IsTextInForm form bytes.now) (RefusesInForm form limit bytes.now)
+        out.old out.new result) }
 {
     let Some(form) = form_of(form) else {
         return no_form();
@@ -131,7 +141,8 @@ pub fn canon_form(
 /// The key of the pattern of a file of either format, in the form with this number: the SHA-256 of the text that `canon_form` gives, 32 bytes.
 pub fn key(alloc: Global, bytes: &[u8], form: u32, limit: u64, seed: u64, out: &mut [u8]) -> Told
     ensures { MatchOption (form_numbered form) (TellsNoForm out.old out.new result)
-        (λ form. Answers (IsKeyInForm form bytes.now) (RefusesInForm form limit bytes.now) out.old out.new result) }
+        (λ form. Answers (IsKeyInForm form bytes.now) (RefusesInForm form limit bytes.now)
+        out.old out.new result) }
 {
     let Some(form) = form_of(form) else {
         return no_form();

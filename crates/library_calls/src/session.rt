@@ -57,7 +57,8 @@ pub enum Session {
 
 /// The session after the next piece. One that has a text or a fault stays as it is.
 pub(crate) fn fed(session: Session, piece: &[u8]) -> Session
-    ensures takes { (form : FormValue) (limit : ℕ) (bytes : List ℕ) → IsFed form limit bytes session → Takes form limit (bytes ++ piece.now) result }
+    ensures takes { (form : FormValue) (limit : ℕ) (bytes : List ℕ)
+        → IsFed form limit bytes session → Takes form limit (bytes ++ piece.now) result }
     ensures text { (text : List ℕ) → HasText text session → HasText text result }
     ensures fault { (fault : FaultValue) → HasFault fault session → HasFault fault result }
 {
@@ -72,7 +73,8 @@ pub(crate) fn fed(session: Session, piece: &[u8]) -> Session
 
 /// The session after the end of the file. One that has a text or a fault stays as it is.
 pub(crate) fn ended(session: Session, alloc: Global) -> Session
-    ensures ends { (form : FormValue) (limit : ℕ) (bytes : List ℕ) → IsFed form limit bytes session → Ends form limit bytes result }
+    ensures ends { (form : FormValue) (limit : ℕ) (bytes : List ℕ)
+        → IsFed form limit bytes session → Ends form limit bytes result }
     ensures text { (text : List ℕ) → HasText text session → HasText text result }
     ensures fault { (fault : FaultValue) → HasFault fault session → HasFault fault result }
 {

@@ -13,7 +13,8 @@ use std::alloc::Global;
 
 /// The canonical text of the next generation of the pattern of a file, under its B/S rule.
 pub fn step(alloc: Global, bytes: &[u8], limit: u64, seed: u64, out: &mut [u8]) -> Told
-    ensures { Answers (IsStepped bytes.now) (RefusesStepWithin limit bytes.now) out.old out.new result }
+    ensures { Answers (IsStepped bytes.now) (RefusesStepWithin limit bytes.now) out.old out.new
+        result }
 {
     let mut store = store_of(alloc, limit, seed);
     let found = step_life(alloc, &mut store, bytes);
@@ -29,7 +30,8 @@ fn step_by(
     seed: u64,
     out: &mut [u8],
 ) -> Told
-    ensures { Answers (IsSteppedBy table.now bytes.now) (RefusesStepByWithin table.now limit bytes.now) out.old out.new result }
+    ensures { Answers (IsSteppedBy table.now bytes.now)
+        (RefusesStepByWithin table.now limit bytes.now) out.old out.new result }
 {
     let mut store = store_of(alloc, limit, seed);
     let found = step_table(alloc, &mut store, bytes, table);

@@ -46,7 +46,8 @@ fn text_in(form: PatternForm) -> Form
 /// Opens a stream whose end gives the canonical text in the form with this number, and closes it first where it is open. The
 /// answer is the status.
 pub fn open_canon_form(alloc: Global, stream: &mut Stream, form: u32, limit: u64, seed: u64) -> u32
-    ensures { MatchOption (form_numbered form) ((result ≡ 65) × (session_of stream.new ≡ None)) (λ form. Opens (text_in form) limit result (session_of stream.new)) }
+    ensures { MatchOption (form_numbered form) ((result ≡ 65) × (session_of stream.new ≡ None))
+        (λ form. Opens (text_in form) limit result (session_of stream.new)) }
 {
     close(alloc, stream);
     match form_of(form) {
@@ -93,10 +94,15 @@ fn tell_end(session: &Session, out: &mut [u8]) -> Told
 /// Takes the next piece of the file. The fault of a line that it tells is that of the whole file, whatever bytes follow (`faults_stay` of
 /// `life_canon`).
 pub fn feed(alloc: Global, stream: &mut Stream, piece: &[u8]) -> Told
-    ensures closed { session_of stream.old ≡ None → (session_of stream.new ≡ None) × IsSpent result.status result.line }
-    ensures takes { (form : FormValue) (limit : ℕ) (bytes : List ℕ) → IsOpen (IsFed form limit bytes) (session_of stream.old) → IsOpen (Takes form limit (bytes ++ piece.now)) (session_of stream.new) }
-    ensures text { (text : List ℕ) → IsOpen (HasText text) (session_of stream.old) → IsOpen (HasText text) (session_of stream.new) }
-    ensures fault { (fault : FaultValue) → IsOpen (HasFault fault) (session_of stream.old) → IsOpen (HasFault fault) (session_of stream.new) }
+    ensures closed { session_of stream.old ≡ None
+        → (session_of stream.new ≡ None) × IsSpent result.status result.line }
+    ensures takes { (form : FormValue) (limit : ℕ) (bytes : List ℕ)
+        → IsOpen (IsFed form limit bytes) (session_of stream.old)
+        → IsOpen (Takes form limit (bytes ++ piece.now)) (session_of stream.new) }
+    ensures text { (text : List ℕ) → IsOpen (HasText text) (session_of stream.old)
+        → IsOpen (HasText text) (session_of stream.new) }
+    ensures fault { (fault : FaultValue) → IsOpen (HasFault fault) (session_of stream.old)
+        → IsOpen (HasFault fault) (session_of stream.new) }
     ensures tells { IfSome (session_of stream.new) (TellsPiece result.status result.line) }
     ensures needed { result.needed ≡ 0 }
 {
@@ -112,10 +118,15 @@ pub fn feed(alloc: Global, stream: &mut Stream, piece: &[u8]) -> Told
 
 /// Ends the file, and gives its text or tells its fault, as often as it is called.
 pub fn finish(alloc: Global, stream: &mut Stream, out: &mut [u8]) -> Told
-    ensures closed { session_of stream.old ≡ None → (session_of stream.new ≡ None) × TellsNothing out.old out.new result }
-    ensures ends { (form : FormValue) (limit : ℕ) (bytes : List ℕ) → IsOpen (IsFed form limit bytes) (session_of stream.old) → IsOpen (Ends form limit bytes) (session_of stream.new) }
-    ensures text { (text : List ℕ) → IsOpen (HasText text) (session_of stream.old) → IsOpen (HasText text) (session_of stream.new) }
-    ensures fault { (fault : FaultValue) → IsOpen (HasFault fault) (session_of stream.old) → IsOpen (HasFault fault) (session_of stream.new) }
+    ensures closed { session_of stream.old ≡ None
+        → (session_of stream.new ≡ None) × TellsNothing out.old out.new result }
+    ensures ends { (form : FormValue) (limit : ℕ) (bytes : List ℕ)
+        → IsOpen (IsFed form limit bytes) (session_of stream.old)
+        → IsOpen (Ends form limit bytes) (session_of stream.new) }
+    ensures text { (text : List ℕ) → IsOpen (HasText text) (session_of stream.old)
+        → IsOpen (HasText text) (session_of stream.new) }
+    ensures fault { (fault : FaultValue) → IsOpen (HasFault fault) (session_of stream.old)
+        → IsOpen (HasFault fault) (session_of stream.new) }
     ensures tells { IfSome (session_of stream.new) (TellsEnd out.old out.new result) }
 {
     let Some(mut session) = take(alloc, stream) else {

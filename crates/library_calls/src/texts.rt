@@ -11,7 +11,8 @@ use std::alloc::Global;
 
 /// The canonical text of the pattern of a file of either format.
 pub fn canon(alloc: Global, bytes: &[u8], limit: u64, seed: u64, out: &mut [u8]) -> Told
-    ensures { Answers (IsCanonicalText bytes.now) (RefusesWithin limit bytes.now) out.old out.new result }
+    ensures { Answers (IsCanonicalText bytes.now) (RefusesWithin limit bytes.now) out.old out.new
+        result }
 {
     let mut store = store_of(alloc, limit, seed);
     let found = life_canon::canon(alloc, &mut store, bytes);
@@ -20,7 +21,8 @@ pub fn canon(alloc: Global, bytes: &[u8], limit: u64, seed: u64, out: &mut [u8])
 
 /// The text in extended RLE of the pattern of a file of either format.
 pub fn to_rle(alloc: Global, bytes: &[u8], limit: u64, seed: u64, out: &mut [u8]) -> Told
-    ensures { Answers (IsRleText bytes.now) (RefusesRleWithin limit bytes.now) out.old out.new result }
+    ensures { Answers (IsRleText bytes.now) (RefusesRleWithin limit bytes.now) out.old out.new
+        result }
 {
     let mut store = store_of(alloc, limit, seed);
     let found = life_canon::to_rle(alloc, &mut store, bytes);
@@ -29,7 +31,8 @@ pub fn to_rle(alloc: Global, bytes: &[u8], limit: u64, seed: u64, out: &mut [u8]
 
 /// Five lines on the pattern of a file of either format.
 pub fn show(alloc: Global, bytes: &[u8], limit: u64, seed: u64, out: &mut [u8]) -> Told
-    ensures { Answers (IsShown MAX_LEVEL bytes.now) (RefusesWithin limit bytes.now) out.old out.new result }
+    ensures { Answers (IsShown MAX_LEVEL bytes.now) (RefusesWithin limit bytes.now) out.old
+        out.new result }
 {
     let mut store = store_of(alloc, limit, seed);
     let found = life_canon::show(alloc, &mut store, bytes);

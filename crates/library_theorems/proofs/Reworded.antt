@@ -6,7 +6,6 @@ use Rattle.life_base.specs.Refusal.{OrMemory}
 use Rattle.life_base.specs.Text.{lines_of}
 use Rattle.life_base.specs.declared.fault.Fault.{Fault}
 use Rattle.life_base.specs.declared.kind.Kind.TheVariants.{Memory}
-use Rattle.life_mc.specs.Reading.{IsMacrocell}
 use Rattle.life_canon.specs.Files.{Accepted}
 use Rattle.life_canon.specs.Laws.{CanonicalIsLeast, FilesAreOnPlane, FilesAreUnique, TextsAreFiles, TextsKeepPatterns}
 use Rattle.life_canon.specs.Least.{IsLeastText}
@@ -22,12 +21,11 @@ use Rattle.claims.specs.Generation.{IsUnstepped}
 use Rattle.claims.specs.Pattern.{Pattern}
 use Rattle.claims.specs.Shown.{IsShown as AreLines}
 use Rattle.claims.specs.Table.{Table, table_of}
-use Rattle.claims.proofs.RuleLaw.{rule_in}
 use Rattle.table_laws.specs.Laws.{TablesDecide, TablesRead, TablesRefuse}
 use Rattle.table_laws.specs.Tables.{IsTable}
 use Rattle.theorems.proofs.CanonicalLaw.{canonical_so}
 use Rattle.theorems.proofs.CellsLaw.{few_cells, says_more}
-use Rattle.theorems.proofs.FileLaw.{files_agree, ok_of, same_from, same_to, rle_format}
+use Rattle.theorems.proofs.FileLaw.{same_from, same_to, rle_format}
 use Rattle.theorems.proofs.RefusalLaw.{accepted_is_ok, refuses_agree, want_as}
 use Rattle.theorems.proofs.ShownLaw.{shown_is}
 use Rattle.theorems.proofs.StreamLaw.{one_text}
@@ -38,10 +36,13 @@ use Rattle.library_calls.specs.Answers.{IsCanonicalText as LayerText, IsRleText 
 use Rattle.library_calls.specs.declared.comparing.Compared.{Compared}
 use Rattle.library_calls.specs.Comparing.{ComparesWithin, by_answer, IsAnswerOf, RefusesEither}
 use Rattle.library_calls.specs.Comparing as comparing
+use Rattle.library_calls.specs.Forms.{IsTextOf, RefusesTextOf}
+use Rattle.library_calls.specs.declared.session.Form.{Form}
 use Rattle.library_calls.specs.Stepping.{RefusesStepWithin, RefusesStepByWithin, StepsByTable, by_table, by_no_table}
 use Rattle.library_calls.specs.declared.telling.Told.{Told}
 use Rattle.library_calls.specs.Told.{Copies, LacksRoom, Gives, Tells, Answers, by_text, by_fault}
 use Rattle.library_theorems.specs.Answered.{IsRleText, AreFiveLines, IsUnread, IsUnwritten}
+use Rattle.library_theorems.specs.Ending.{IsEndFault}
 use Rattle.library_theorems.proofs.Numbered.{IsOfText, no_text}
 
 -- the same is told by what texts and faults imply
@@ -50,6 +51,21 @@ pub reworded : {IsText IsOther : List ℕ → Type 0} {IsFault IsOtherFault : Fa
     → Answers IsOther IsOtherFault before after told
 reworded (by_text t is gives none) text fault = by_text t (text t is) gives none
 reworded (by_fault f why tells) text fault = by_fault f (fault f why) tells
+
+-- what is told for this form is told for that one, which it is
+pub of_form : {form that : Form} {IsFault : Fault → Type 0} {before after : List ℕ} {told : Told} → form ≡ that → (file : List ℕ)
+    → Answers (IsTextOf form file) IsFault before after told → Answers (IsTextOf that file) IsFault before after told
+of_form {IsFault = IsFault} {before = before} {after = after} {told = told} is file =
+    subst (λ (f : Form). Answers (IsTextOf f file) IsFault before after told) is
+
+-- the end of a stream for that form tells what its texts and its faults imply
+pub ended_so : {form that : Form} {IsOther : List ℕ → Type 0} {IsOtherFault : Fault → Type 0} {before after : List ℕ} {told : Told} → form ≡ that
+    → (limit : ℕ) (file : List ℕ) → Answers (IsTextOf form file) (IsEndFault form limit file) before after told
+    → ((text : List ℕ) → IsTextOf that file text → IsOther text) → ((fault : Fault) → IsUnread file fault → IsOtherFault fault)
+    → ((fault : Fault) → RefusesTextOf that limit file fault → IsOtherFault fault) → Answers IsOther IsOtherFault before after told
+ended_so {before = before} {after = after} {told = told} is limit file answers text unread refused =
+    reworded (subst (λ (f : Form). Answers (IsTextOf f file) (IsEndFault f limit file) before after told) is answers) text
+    (λ fault why. elim why [ inl u ↦ unread fault u | inr r ↦ refused fault r ])
 
 -- ---- texts
 

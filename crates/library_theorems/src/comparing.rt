@@ -18,11 +18,14 @@ pub fn files_are_compared(
     limit: u64,
     seed: u64,
 ) -> Compared
-    ensures answer { result.status ≡ 0 → (result.line ≡ 0) × IsOk (pattern_of first.now) × IsOk (pattern_of second.now)
-        × (((result.is_same ≡ 1) × Same first.now second.now) ⊎ ((result.is_same ≡ 0) × (Same first.now second.now → ⊥))) }
-    ensures refused { result.status ≢ 0 → (result.is_same ≡ 0) × ((fault : Fault) × (result.status ≡ kind_number fault.kind)
+    ensures answer { result.status ≡ 0 → (result.line ≡ 0) × IsOk (pattern_of first.now)
+        × IsOk (pattern_of second.now) × (((result.is_same ≡ 1) × Same first.now second.now)
+        ⊎ ((result.is_same ≡ 0) × (Same first.now second.now → ⊥))) }
+    ensures refused { result.status ≢ 0 → (result.is_same ≡ 0)
+        × ((fault : Fault) × (result.status ≡ kind_number fault.kind)
         × (result.line ≡ fault.place.line)
-        × ((pattern_of first.now ≡ Err fault) ⊎ ((IsOk (pattern_of first.now) × (pattern_of second.now ≡ Err fault)) ⊎ IsWant fault))) }
+        × ((pattern_of first.now ≡ Err fault)
+        ⊎ ((IsOk (pattern_of first.now) × (pattern_of second.now ≡ Err fault)) ⊎ IsWant fault))) }
 {
     files_are_on_plane();
     same(alloc, first, second, limit, seed)

@@ -1,6 +1,6 @@
 //! A file that comes in pieces, and one answer at its end.
 
-ghost use Rattle.std.specs.Prelude.{◌≡◌, ◌⊎◌, ◌≤◌, ◌^◌, ℕ, List, [], Ok, IfOk};
+ghost use Rattle.std.specs.Prelude.{◌≡◌, ◌⊎◌, ℕ, List, [], Ok, IfOk};
 ghost use Rattle.life_base.specs.Kinds.{kind_number};
 ghost use Rattle.claims.specs.Counting.{node_lines, IsCanonicalText};
 ghost use Rattle.claims.specs.Files.{pattern_of};
@@ -21,13 +21,15 @@ use life_canon::laws::{
     canonical_is_least, faults_stay, files_are_on_plane, files_are_unique, texts_are_files,
     texts_keep_patterns,
 };
-use life_quad::{Seed, Shared};
+use life_quad::Shared;
 use std::alloc::Global;
 
 /// What the end of the file tells whose pieces these are: each is fed to an open stream, which is finished and closed.
 fn told_of_pieces(alloc: Global, stream: &mut Stream, pieces: &[Vec<u8>], out: &mut [u8]) -> Told
-    ensures { (form : FormValue) (limit : ℕ) → IsOpen (IsFed form limit []) (session_of stream.old)
-        → Answers (IsTextOf form (joined pieces.now)) (IsEndFault form limit (joined pieces.now)) out.old out.new result }
+    ensures { (form : FormValue) (limit : ℕ)
+        → IsOpen (IsFed form limit []) (session_of stream.old)
+        → Answers (IsTextOf form (joined pieces.now)) (IsEndFault form limit (joined pieces.now))
+        out.old out.new result }
 {
     faults_stay();
     for piece in pieces {
@@ -49,153 +51,77 @@ fn told_of_stream(
     out: &mut [u8],
 ) -> (u32, Told)
     ensures opened { (result.0 ≡ 0) ⊎ (result.0 ≡ kind_number Kind.Memory) }
-    ensures told { result.0 ≡ 0
-        → Answers (IsTextOf form (joined pieces.now)) (IsEndFault form limit (joined pieces.now)) out.old out.new result.1 }
+    ensures told { result.0 ≡ 0 → Answers (IsTextOf form (joined pieces.now))
+        (IsEndFault form limit (joined pieces.now)) out.old out.new result.1 }
 {
     let opened = open(alloc, stream, form, limit, seed);
     let told = told_of_pieces(alloc, stream, pieces, out);
     (opened, told)
 }
 
-/// A stream that was opened for the canonical text, which only want of memory refuses, and fed the pieces of a file, cut
+/// A stream that was opened for a text of this form, which only want of memory refuses, and fed the pieces of a file, cut
 /// anywhere, tells at its end what is told of the whole file.
-pub fn canonical_text_of_stream(
+pub fn text_of_stream(
     alloc: Global,
     stream: &mut Stream,
     pieces: &[Vec<u8>],
+    form: Form,
     limit: u64,
     seed: u64,
     out: &mut [u8],
 ) -> (u32, Told)
     ensures opened { (result.0 ≡ 0) ⊎ (result.0 ≡ kind_number Kind.Memory) }
-    ensures told { result.0 ≡ 0 → Answers (IsCanonicalText (joined pieces.now)) (IsUnread (joined pieces.now)) out.old out.new result.1 }
-{
-    files_are_on_plane();
-    texts_are_files();
-    texts_keep_patterns();
-    told_of_stream(alloc, stream, pieces, Form::Canonical, limit, seed, out)
-}
-
-/// The same of a stream for extended RLE.
-pub fn rle_of_stream(
-    alloc: Global,
-    stream: &mut Stream,
-    pieces: &[Vec<u8>],
-    limit: u64,
-    seed: u64,
-    out: &mut [u8],
-) -> (u32, Told)
-    ensures opened { (result.0 ≡ 0) ⊎ (result.0 ≡ kind_number Kind.Memory) }
-    ensures told { result.0 ≡ 0 → Answers (IsRleText (joined pieces.now)) (IsUnwritten (joined pieces.now)) out.old out.new result.1 }
-{
-    told_of_stream(alloc, stream, pieces, Form::Rle, limit, seed, out)
-}
-
-/// The same of a stream for the five lines.
-pub fn five_lines_of_stream(
-    alloc: Global,
-    stream: &mut Stream,
-    pieces: &[Vec<u8>],
-    limit: u64,
-    seed: u64,
-    out: &mut [u8],
-) -> (u32, Told)
-    ensures opened { (result.0 ≡ 0) ⊎ (result.0 ≡ kind_number Kind.Memory) }
-    ensures told { result.0 ≡ 0 → Answers (AreFiveLines (joined pieces.now)) (IsUnread (joined pieces.now)) out.old out.new result.1 }
+    ensures canonical { form ≡ FormValue.Canonical → result.0 ≡ 0
+        → Answers (IsCanonicalText (joined pieces.now)) (IsUnread (joined pieces.now)) out.old
+        out.new result.1 }
+    ensures rle { form ≡ FormValue.Rle → result.0 ≡ 0
+        → Answers (IsRleText (joined pieces.now)) (IsUnwritten (joined pieces.now)) out.old
+        out.new result.1 }
+    ensures lines { form ≡ FormValue.Lines → result.0 ≡ 0
+        → Answers (AreFiveLines (joined pieces.now)) (IsUnread (joined pieces.now)) out.old
+        out.new result.1 }
+    ensures next { form ≡ FormValue.Next → result.0 ≡ 0
+        → Answers (IsStepped (joined pieces.now))
+        (λ fault. IsUnread (joined pieces.now) fault ⊎ IsUnstepped (joined pieces.now) fault)
+        out.old out.new result.1 }
 {
     canonical_is_least();
     files_are_on_plane();
     files_are_unique();
     texts_are_files();
     texts_keep_patterns();
-    told_of_stream(alloc, stream, pieces, Form::Lines, limit, seed, out)
-}
-
-/// The same of a stream for the next generation.
-pub fn next_generation_of_stream(
-    alloc: Global,
-    stream: &mut Stream,
-    pieces: &[Vec<u8>],
-    limit: u64,
-    seed: u64,
-    out: &mut [u8],
-) -> (u32, Told)
-    ensures opened { (result.0 ≡ 0) ⊎ (result.0 ≡ kind_number Kind.Memory) }
-    ensures told { result.0 ≡ 0 → Answers (IsStepped (joined pieces.now))
-        (λ fault. IsUnread (joined pieces.now) fault ⊎ IsUnstepped (joined pieces.now) fault) out.old out.new result.1 }
-{
-    files_are_on_plane();
-    told_of_stream(alloc, stream, pieces, Form::Next, limit, seed, out)
+    told_of_stream(alloc, stream, pieces, form, limit, seed, out)
 }
 
 /// Where no fault is told, the text of a stream that was fed a file's pieces, cut anywhere, is the one that `canon` of
-/// `life_canon` makes of the file.
-pub fn stream_gives_the_text(
+/// `life_canon` makes of the file; and its five lines tell the file's pattern, and how many node lines that text has. The text
+/// of the next generation that a stream put into the caller's memory is its own canonical text.
+pub fn text_of_stream_beside_canon(
     alloc: Global,
     stream: &mut Stream,
     pieces: &[Vec<u8>],
-    whole: &[u8],
+    form: Form,
     limit: u64,
     seed: u64,
     out: &mut [u8],
-    other_limit: u64,
-    other_seed: Seed,
+    store: &mut Shared,
+    bytes: &[u8],
 ) -> (u32, Told, Result<Vec<u8>, Fault>)
-    requires cut { whole.now ≡ joined pieces.now }
-    requires limit { other_limit ≤ 2 ^ 62 }
-    ensures { result.0 ≡ 0 → (result.1.status ≡ 0) ⊎ (result.1.status ≡ 64) → IfOk result.2 (λ text. Gives text.items out.old out.new result.1) }
-{
-    files_are_unique();
-    let (opened, told) = told_of_stream(alloc, stream, pieces, Form::Canonical, limit, seed, out);
-    let mut store = Shared::new(alloc, other_seed, other_limit);
-    (opened, told, life_canon::canon(alloc, &mut store, whole))
-}
-
-/// Where no fault is told, the five lines of a stream that was fed a file's pieces, cut anywhere, tell the file's pattern, and
-/// how many node lines the text has that `canon` of `life_canon` makes of the file.
-pub fn stream_counts_the_text(
-    alloc: Global,
-    stream: &mut Stream,
-    pieces: &[Vec<u8>],
-    whole: &[u8],
-    limit: u64,
-    seed: u64,
-    out: &mut [u8],
-    other_limit: u64,
-    other_seed: Seed,
-) -> (u32, Told, Result<Vec<u8>, Fault>)
-    requires cut { whole.now ≡ joined pieces.now }
-    requires limit { other_limit ≤ 2 ^ 62 }
-    ensures { result.0 ≡ 0 → (result.1.status ≡ 0) ⊎ (result.1.status ≡ 64) → IfOk result.2 (λ text. (lines : List ℕ)
-        × Gives lines out.old out.new result.1
-        × ((pattern : Pattern) × (pattern_of (joined pieces.now) ≡ Ok pattern) × IsShown pattern (node_lines text.items) lines)) }
+    ensures text { form ≡ FormValue.Canonical → bytes.now ≡ joined pieces.now → result.0 ≡ 0
+        → (result.1.status ≡ 0) ⊎ (result.1.status ≡ 64)
+        → IfOk result.2 (λ text. Gives text.items out.old out.new result.1) }
+    ensures lines { form ≡ FormValue.Lines → bytes.now ≡ joined pieces.now → result.0 ≡ 0
+        → (result.1.status ≡ 0) ⊎ (result.1.status ≡ 64)
+        → IfOk result.2 (λ text. (lines : List ℕ) × Gives lines out.old out.new result.1
+        × ((pattern : Pattern) × (pattern_of (joined pieces.now) ≡ Ok pattern)
+        × IsShown pattern (node_lines text.items) lines)) }
+    ensures next { form ≡ FormValue.Next → result.0 ≡ 0 → result.1.status ≡ 0
+        → Gives bytes.now out.old out.new result.1
+        → IfOk result.2 (λ again. again.items ≡ bytes.now) }
 {
     files_are_on_plane();
     files_are_unique();
     texts_are_files();
-    let (opened, told) = told_of_stream(alloc, stream, pieces, Form::Lines, limit, seed, out);
-    let mut store = Shared::new(alloc, other_seed, other_limit);
-    (opened, told, life_canon::canon(alloc, &mut store, whole))
-}
-
-/// The text of the next generation that a stream put into the caller's memory is its own canonical text.
-pub fn next_text_of_stream_is_fixed(
-    alloc: Global,
-    stream: &mut Stream,
-    pieces: &[Vec<u8>],
-    limit: u64,
-    seed: u64,
-    out: &mut [u8],
-    text: &[u8],
-    other_limit: u64,
-    other_seed: Seed,
-) -> (u32, Told, Result<Vec<u8>, Fault>)
-    requires { other_limit ≤ 2 ^ 62 }
-    ensures { result.0 ≡ 0 → result.1.status ≡ 0 → Gives text.now out.old out.new result.1
-        → IfOk result.2 (λ again. again.items ≡ text.now) }
-{
-    files_are_unique();
-    let (opened, told) = told_of_stream(alloc, stream, pieces, Form::Next, limit, seed, out);
-    let mut store = Shared::new(alloc, other_seed, other_limit);
-    (opened, told, life_canon::canon(alloc, &mut store, text))
+    let (opened, told) = told_of_stream(alloc, stream, pieces, form, limit, seed, out);
+    (opened, told, life_canon::canon(alloc, store, bytes))
 }

@@ -1,6 +1,6 @@
 //! The texts of a file, put into memory of the caller.
 
-ghost use Rattle.std.specs.Prelude.{◌≡◌, ◌⊎◌, ◌≤◌, ◌^◌, ℕ, List, Ok, IfOk};
+ghost use Rattle.std.specs.Prelude.{◌≡◌, ◌⊎◌, ℕ, List, Ok, IfOk};
 ghost use Rattle.claims.specs.Counting.{node_lines, IsCanonicalText};
 ghost use Rattle.claims.specs.Files.{pattern_of};
 ghost use Rattle.claims.specs.Pattern.{Pattern};
@@ -13,43 +13,18 @@ use life_base::Fault;
 use life_canon::laws::{
     canonical_is_least, files_are_on_plane, files_are_unique, texts_are_files, texts_keep_patterns,
 };
-use life_quad::{Seed, Shared};
+use life_quad::Shared;
 use std::alloc::Global;
 
 /// The canonical text of a file stands at the front of the caller's memory, or its length is told where it doesn't fit; or
 /// the number and the line of the file's fault are told.
-pub fn canonical_text_is_told(
-    alloc: Global,
-    file: &[u8],
-    limit: u64,
-    seed: u64,
-    out: &mut [u8],
-) -> Told
+pub fn text_is_told(alloc: Global, file: &[u8], limit: u64, seed: u64, out: &mut [u8]) -> Told
     ensures { Answers (IsCanonicalText file.now) (IsUnread file.now) out.old out.new result }
 {
     files_are_on_plane();
     texts_are_files();
     texts_keep_patterns();
     canon(alloc, file, limit, seed, out)
-}
-
-/// Where no fault is told, the text is the one that `canon` of `life_canon` makes of the file.
-pub fn told_text_is_that_of_canon(
-    alloc: Global,
-    file: &[u8],
-    limit: u64,
-    seed: u64,
-    out: &mut [u8],
-    other_limit: u64,
-    other_seed: Seed,
-) -> (Told, Result<Vec<u8>, Fault>)
-    requires { other_limit ≤ 2 ^ 62 }
-    ensures { (result.0.status ≡ 0) ⊎ (result.0.status ≡ 64) → IfOk result.1 (λ text. Gives text.items out.old out.new result.0) }
-{
-    files_are_unique();
-    let told = canon(alloc, file, limit, seed, out);
-    let mut store = Shared::new(alloc, other_seed, other_limit);
-    (told, life_canon::canon(alloc, &mut store, file))
 }
 
 /// The same of the text in extended RLE of a file, for which the file may have too many cells.
@@ -60,13 +35,7 @@ pub fn rle_is_told(alloc: Global, file: &[u8], limit: u64, seed: u64, out: &mut 
 }
 
 /// The same of the five lines that tell a file's pattern.
-pub fn five_lines_are_told(
-    alloc: Global,
-    file: &[u8],
-    limit: u64,
-    seed: u64,
-    out: &mut [u8],
-) -> Told
+pub fn lines_are_told(alloc: Global, file: &[u8], limit: u64, seed: u64, out: &mut [u8]) -> Told
     ensures { Answers (AreFiveLines file.now) (IsUnread file.now) out.old out.new result }
 {
     canonical_is_least();
@@ -77,26 +46,28 @@ pub fn five_lines_are_told(
     show(alloc, file, limit, seed, out)
 }
 
-/// Where no fault is told, the five lines tell the file's pattern, and how many node lines the text has that `canon` of
-/// `life_canon` makes of the file.
-pub fn told_lines_count_the_text(
+/// Where no fault is told, the text is the one that `canon` of `life_canon` makes of the file; and the five lines tell the file's
+/// pattern, and how many node lines that text has.
+pub fn told_texts_are_those_of_canon(
     alloc: Global,
     file: &[u8],
     limit: u64,
     seed: u64,
     out: &mut [u8],
-    other_limit: u64,
-    other_seed: Seed,
-) -> (Told, Result<Vec<u8>, Fault>)
-    requires { other_limit ≤ 2 ^ 62 }
-    ensures { (result.0.status ≡ 0) ⊎ (result.0.status ≡ 64) → IfOk result.1 (λ text. (lines : List ℕ)
-        × Gives lines out.old out.new result.0
-        × ((pattern : Pattern) × (pattern_of file.now ≡ Ok pattern) × IsShown pattern (node_lines text.items) lines)) }
+    shown: &mut [u8],
+    store: &mut Shared,
+) -> (Told, Told, Result<Vec<u8>, Fault>)
+    ensures text { (result.0.status ≡ 0) ⊎ (result.0.status ≡ 64)
+        → IfOk result.2 (λ text. Gives text.items out.old out.new result.0) }
+    ensures lines { (result.1.status ≡ 0) ⊎ (result.1.status ≡ 64)
+        → IfOk result.2 (λ text. (lines : List ℕ) × Gives lines shown.old shown.new result.1
+        × ((pattern : Pattern) × (pattern_of file.now ≡ Ok pattern)
+        × IsShown pattern (node_lines text.items) lines)) }
 {
     files_are_on_plane();
     files_are_unique();
     texts_are_files();
-    let told = show(alloc, file, limit, seed, out);
-    let mut store = Shared::new(alloc, other_seed, other_limit);
-    (told, life_canon::canon(alloc, &mut store, file))
+    let text = canon(alloc, file, limit, seed, out);
+    let lines = show(alloc, file, limit, seed, shown);
+    (text, lines, life_canon::canon(alloc, store, file))
 }

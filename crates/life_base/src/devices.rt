@@ -30,7 +30,8 @@ pub trait Source {
     fn read(&mut self, buf: &mut [u8]) -> Result<usize, Kind>
         requires { failures self.old ≡ 0 }
         ensures count { ReadsAtMost result buf.new }
-        ensures failure { CountsFailure (failures self.old) (failures self.new) result Kind.ReadFault }
+        ensures failure { CountsFailure (failures self.old) (failures self.new) result
+            Kind.ReadFault }
         ensures bytes { ReadConsumes (remaining self.old) (remaining self.new) result buf.new };
 
     ghost at_most_one: { (s : Self) → failures s ≤ 1 };
@@ -58,7 +59,8 @@ pub trait Sink {
     fn write(&mut self, buf: &[u8]) -> Result<usize, Kind>
         requires { failures self.old ≡ 0 }
         ensures count { WritesAtMost result buf.now }
-        ensures failure { CountsFailure (failures self.old) (failures self.new) result Kind.WriteFault }
+        ensures failure { CountsFailure (failures self.old) (failures self.new) result
+            Kind.WriteFault }
         ensures bytes { WriteAppends (contents self.old) (contents self.new) result buf.now }
         ensures stalled { stalled self.new ≡ (stalled self.old || takes_none result buf.now) }
         ensures flushed { flushed self.new ≡ false };
@@ -66,7 +68,8 @@ pub trait Sink {
     /// Hands on what was written, as far as the sink still holds it. A failure of any cause is `WriteFault`.
     fn flush(&mut self) -> Result<(), Kind>
         requires { failures self.old ≡ 0 }
-        ensures failure { CountsFailure (failures self.old) (failures self.new) result Kind.WriteFault }
+        ensures failure { CountsFailure (failures self.old) (failures self.new) result
+            Kind.WriteFault }
         ensures bytes { Keeps (contents self.old) (contents self.new) }
         ensures stalled { stalled self.new ≡ stalled self.old }
         ensures flushed { OnOk result (flushed self.new ≡ true) };
@@ -164,9 +167,12 @@ impl<W: Write> Sink for Device<W> {
     fn write(&mut self, buf: &[u8]) -> Result<usize, Kind>
         requires { count_of (has_failed self.old) ≡ 0 }
         ensures count { WritesAtMost result buf.now }
-        ensures failure { CountsFailure (count_of (has_failed self.old)) (count_of (has_failed self.new)) result Kind.WriteFault }
-        ensures bytes { WriteAppends (W.contents (device_inner self.old)) (W.contents (device_inner self.new)) result buf.now }
-        ensures stalled { has_stalled self.new ≡ (has_stalled self.old || takes_none result buf.now) }
+        ensures failure { CountsFailure (count_of (has_failed self.old))
+            (count_of (has_failed self.new)) result Kind.WriteFault }
+        ensures bytes { WriteAppends (W.contents (device_inner self.old))
+            (W.contents (device_inner self.new)) result buf.now }
+        ensures stalled { has_stalled self.new
+            ≡ (has_stalled self.old || takes_none result buf.now) }
         ensures flushed { is_flushed self.new ≡ false }
     {
         self.flushed = false;
@@ -186,8 +192,10 @@ impl<W: Write> Sink for Device<W> {
 
     fn flush(&mut self) -> Result<(), Kind>
         requires { count_of (has_failed self.old) ≡ 0 }
-        ensures failure { CountsFailure (count_of (has_failed self.old)) (count_of (has_failed self.new)) result Kind.WriteFault }
-        ensures bytes { Keeps (W.contents (device_inner self.old)) (W.contents (device_inner self.new)) }
+        ensures failure { CountsFailure (count_of (has_failed self.old))
+            (count_of (has_failed self.new)) result Kind.WriteFault }
+        ensures bytes { Keeps (W.contents (device_inner self.old))
+            (W.contents (device_inner self.new)) }
         ensures stalled { has_stalled self.new ≡ has_stalled self.old }
         ensures flushed { is_flushed self.new ≡ is_ok result }
     {

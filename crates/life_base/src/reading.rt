@@ -15,12 +15,16 @@ const PIECE: usize = 65536;
 pub fn read_within<R: Source>(alloc: Global, reader: &mut R, most: u64) -> Result<Vec<u8>, Kind>
     requires working { R.failures reader.old ≡ 0 }
     requires bound { most ≤ 2 ^ 30 }
-    ensures ok { IfOk result (λ bytes. ReadAll most (R.remaining reader.old) (R.remaining reader.new) bytes.items) }
+    ensures ok { IfOk result
+        (λ bytes. ReadAll most (R.remaining reader.old) (R.remaining reader.new) bytes.items) }
     ensures works { OnOk result (R.failures reader.new ≡ 0) }
     ensures failed { IfErr result (λ kind. kind ≡ Kind.ReadFault → R.failures reader.new ≡ 1) }
-    ensures long { IfErr result (λ kind. kind ≡ Kind.InputTooLong → CameBeyond most (R.remaining reader.old) (R.remaining reader.new)) }
-    ensures kinds { IfErr result (λ kind. (kind ≡ Kind.ReadFault) ⊎ ((kind ≡ Kind.InputTooLong) ⊎ (kind ≡ Kind.Memory))) }
-    ensures reported { OnErr result (R.failures reader.new ≡ 1 → IfErr result (λ kind. kind ≡ Kind.ReadFault)) }
+    ensures long { IfErr result (λ kind. kind ≡ Kind.InputTooLong
+        → CameBeyond most (R.remaining reader.old) (R.remaining reader.new)) }
+    ensures kinds { IfErr result
+        (λ kind. (kind ≡ Kind.ReadFault) ⊎ ((kind ≡ Kind.InputTooLong) ⊎ (kind ≡ Kind.Memory))) }
+    ensures reported { OnErr result
+        (R.failures reader.new ≡ 1 → IfErr result (λ kind. kind ≡ Kind.ReadFault)) }
 {
     let mut bytes = Vec::new(alloc);
     let mut piece = [0u8; PIECE];

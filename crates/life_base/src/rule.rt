@@ -74,7 +74,8 @@ impl LifeRule {
     /// Whether a cell is alive in the next generation, by whether it is `alive` now and how many of its neighbours that count are.
     pub fn next(&self, alive: bool, count: u8) -> bool
         requires { count ≤ most_neighbours self.now.near }
-        ensures { result ≡ has_digit (if alive then self.now.sets.survivals else self.now.sets.births) count }
+        ensures { result ≡ has_digit
+            (if alive then self.now.sets.survivals else self.now.sets.births) count }
     {
         let set = if alive { self.survivals } else { self.births };
         (set >> count) & 1 == 1

@@ -48,7 +48,8 @@ fn digit_set(text: &[u8]) -> u16
 
 /// The digits before, between and behind the bytes that are no digits.
 fn digit_groups(alloc: Global, text: &[u8]) -> Result<Vec<&[u8]>, AllocError>
-    ensures { IfOk result (λ groups. map (λ group. group.now) groups.items ≡ digit_groups text.now) }
+    ensures { IfOk result
+        (λ groups. map (λ group. group.now) groups.items ≡ digit_groups text.now) }
 {
     text.split(|b| !is_count_digit(*b)).collect(alloc)
 }
@@ -66,7 +67,8 @@ fn marks(alloc: Global, text: &[u8]) -> Result<Vec<u8>, AllocError>
 /// The births and the survivals of two texts of digits, by the two letters around a slash.
 fn form_with_slash(marks: &[u8], first: &[u8], second: &[u8]) -> Option<(u16, u16)>
     ensures bounds { IfSome result (λ p. (p.0 < 512) × (p.1 < 512)) }
-    ensures form { option_map (λ p. record { births = p.0; survivals = p.1 }) result ≡ life_form ([] ∷ first.now ∷ [] ∷ second.now ∷ []) marks.now }
+    ensures form { option_map (λ p. record { births = p.0; survivals = p.1 }) result
+        ≡ life_form ([] ∷ first.now ∷ [] ∷ second.now ∷ []) marks.now }
 {
     match marks {
         b"B/S" => Some((digit_set(first), digit_set(second))),
@@ -78,7 +80,8 @@ fn form_with_slash(marks: &[u8], first: &[u8], second: &[u8]) -> Option<(u16, u1
 /// The same, by the two letters alone.
 fn form_without_slash(marks: &[u8], first: &[u8], second: &[u8]) -> Option<(u16, u16)>
     ensures bounds { IfSome result (λ p. (p.0 < 512) × (p.1 < 512)) }
-    ensures form { option_map (λ p. record { births = p.0; survivals = p.1 }) result ≡ life_form ([] ∷ first.now ∷ second.now ∷ []) marks.now }
+    ensures form { option_map (λ p. record { births = p.0; survivals = p.1 }) result
+        ≡ life_form ([] ∷ first.now ∷ second.now ∷ []) marks.now }
 {
     match marks {
         b"BS" => Some((digit_set(first), digit_set(second))),
@@ -90,7 +93,8 @@ fn form_without_slash(marks: &[u8], first: &[u8], second: &[u8]) -> Option<(u16,
 /// The births and the survivals of a text of one of the five forms, by its digits and its marks.
 fn life_form(groups: &[&[u8]], marks: &[u8]) -> Option<(u16, u16)>
     ensures bounds { IfSome result (λ p. (p.0 < 512) × (p.1 < 512)) }
-    ensures form { option_map (λ p. record { births = p.0; survivals = p.1 }) result ≡ life_form (map (λ group. group.now) groups.now) marks.now }
+    ensures form { option_map (λ p. record { births = p.0; survivals = p.1 }) result
+        ≡ life_form (map (λ group. group.now) groups.now) marks.now }
 {
     match groups {
         [[], first, [], second] => form_with_slash(marks, first, second),
@@ -105,7 +109,8 @@ fn life_form(groups: &[&[u8]], marks: &[u8]) -> Option<(u16, u16)>
 
 /// The births and the survivals of a text of one of the five forms.
 fn life_sets(alloc: Global, text: &[u8]) -> Result<Option<(u16, u16)>, Kind>
-    ensures ok { IfOk result (λ found. option_map (λ p. record { births = p.0; survivals = p.1 }) found ≡ life_sets text.now) }
+    ensures ok { IfOk result (λ found. option_map (λ p. record { births = p.0; survivals = p.1 })
+        found ≡ life_sets text.now) }
     ensures bounds { IfOk result (λ found. IfSome found (λ p. (p.0 < 512) × (p.1 < 512))) }
     ensures err { IfErr result (λ kind. kind ≡ Memory) }
 {
@@ -117,7 +122,8 @@ fn life_sets(alloc: Global, text: &[u8]) -> Result<Option<(u16, u16)>, Kind>
 /// The births and the survivals, if no digit is above 4.
 fn up_to_four(found: Option<(u16, u16)>) -> Option<(u16, u16)>
     ensures bounds { IfSome result (λ p. (p.0 < 32) × (p.1 < 32)) }
-    ensures within { option_map (λ p. record { births = p.0; survivals = p.1 }) result ≡ up_to_four (option_map (λ p. record { births = p.0; survivals = p.1 }) found) }
+    ensures within { option_map (λ p. record { births = p.0; survivals = p.1 }) result
+        ≡ up_to_four (option_map (λ p. record { births = p.0; survivals = p.1 }) found) }
 {
     match found {
         Some((births, survivals)) if births < 32 && survivals < 32 => Some((births, survivals)),
@@ -137,7 +143,8 @@ fn begins_with_b(text: &[u8]) -> bool
 
 /// The births and the survivals of a text of a von Neumann rule.
 fn four_sets(alloc: Global, text: &[u8]) -> Result<Option<(u16, u16)>, Kind>
-    ensures ok { IfOk result (λ found. option_map (λ p. record { births = p.0; survivals = p.1 }) found ≡ four_sets text.now) }
+    ensures ok { IfOk result (λ found. option_map (λ p. record { births = p.0; survivals = p.1 })
+        found ≡ four_sets text.now) }
     ensures bounds { IfOk result (λ found. IfSome found (λ p. (p.0 < 32) × (p.1 < 32))) }
     ensures err { IfErr result (λ kind. kind ≡ Memory) }
 {

@@ -27,7 +27,8 @@ pub fn write_text<W: Sink>(writer: &mut W, text: &[u8]) -> Result<(), Kind>
 /// Writes the texts, one after another, as `write_text` writes one.
 pub fn write_texts<W: Sink>(writer: &mut W, texts: &[&[u8]]) -> Result<(), Kind>
     requires { W.failures writer.old ≡ 0 }
-    ensures text { WritesText (W.contents writer.old) (W.contents writer.new) (flat_map (λ text. text.now) texts.now) result }
+    ensures text { WritesText (W.contents writer.old) (W.contents writer.new)
+        (flat_map (λ text. text.now) texts.now) result }
     ensures sink { LeavesSink W.failures W.stalled writer.old writer.new result }
 {
     for text in texts {

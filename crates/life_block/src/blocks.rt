@@ -25,17 +25,23 @@ fn next_of<S: Squares>(
     level: u8,
     nine: &Nine,
 ) -> Result<Id, Kind>
-    requires remembers { Remembers (S.knows squares.old) (S.content squares.old) rule.now memory.old }
+    requires remembers { Remembers (S.knows squares.old) (S.content squares.old) rule.now
+        memory.old }
     requires known { InNine (IsAt (S.knows squares.old) (S.content squares.old) level) nine.now }
     requires low { 3 ≤ level }
     requires high { level ≤ MAX_LEVEL }
     requires quiet { has_digit rule.now.sets.births 0 ≡ false }
     ensures at { IfOk result (IsAt (S.knows squares.new) (S.content squares.new) level) }
-    ensures next { IfOk result (λ r. (cells : ℤ → ℤ → ℕ) (x y : ℤ) → IsBinary cells → AreNine (S.content squares.old) cells (2 ^ level) x y nine.now → IsPiece (next_life rule.now cells) x y (S.content squares.new r)) }
-    ensures remembers { IfOk result (λ _. Remembers (S.knows squares.new) (S.content squares.new) rule.now memory.new) }
+    ensures next { IfOk result (λ r. (cells : ℤ → ℤ → ℕ) (x y : ℤ) → IsBinary cells
+        → AreNine (S.content squares.old) cells (2 ^ level) x y nine.now
+        → IsPiece (next_life rule.now cells) x y (S.content squares.new r)) }
+    ensures remembers { IfOk result
+        (λ _. Remembers (S.knows squares.new) (S.content squares.new) rule.now memory.new) }
     ensures keeps { KeepsSquares S.knows S.content S.stored S.most squares.old squares.new }
     ensures refusals { IfErr result (IsWantKind (S.stored squares.new) (S.most squares.new)) }
-    ensures needed { OnErr result ((cells : ℤ → ℤ → ℕ) (x y : ℤ) → IsBinary cells → AreNine (S.content squares.old) cells (2 ^ level) x y nine.now → SomePart (S.needs_node squares.new) (square_from (next_life rule.now cells) level x y)) }
+    ensures needed { OnErr result ((cells : ℤ → ℤ → ℕ) (x y : ℤ) → IsBinary cells
+        → AreNine (S.content squares.old) cells (2 ^ level) x y nine.now
+        → SomePart (S.needs_node squares.new) (square_from (next_life rule.now cells) level x y)) }
 {
     let blank = squares.empty(level);
     if nine.are_all(blank) {
@@ -59,17 +65,25 @@ fn next_of_middle<S: Squares>(
     level: u8,
     sixteen: &Sixteen,
 ) -> Result<Id, Kind>
-    requires remembers { Remembers (S.knows squares.old) (S.content squares.old) rule.now memory.old }
-    requires known { InSixteen (IsAt (S.knows squares.old) (S.content squares.old) level) sixteen.now }
+    requires remembers { Remembers (S.knows squares.old) (S.content squares.old) rule.now
+        memory.old }
+    requires known { InSixteen (IsAt (S.knows squares.old) (S.content squares.old) level)
+        sixteen.now }
     requires low { 2 ≤ level }
     requires high { level < MAX_LEVEL }
     requires quiet { has_digit rule.now.sets.births 0 ≡ false }
     ensures at { IfOk result (IsAt (S.knows squares.new) (S.content squares.new) (level + 1)) }
-    ensures next { IfOk result (λ r. (cells : ℤ → ℤ → ℕ) (x y : ℤ) → IsBinary cells → AreSixteen (S.content squares.old) cells (2 ^ level) x y sixteen.now → IsPiece (next_life rule.now cells) x y (S.content squares.new r)) }
-    ensures remembers { IfOk result (λ _. Remembers (S.knows squares.new) (S.content squares.new) rule.now memory.new) }
+    ensures next { IfOk result (λ r. (cells : ℤ → ℤ → ℕ) (x y : ℤ) → IsBinary cells
+        → AreSixteen (S.content squares.old) cells (2 ^ level) x y sixteen.now
+        → IsPiece (next_life rule.now cells) x y (S.content squares.new r)) }
+    ensures remembers { IfOk result
+        (λ _. Remembers (S.knows squares.new) (S.content squares.new) rule.now memory.new) }
     ensures keeps { KeepsSquares S.knows S.content S.stored S.most squares.old squares.new }
     ensures refusals { IfErr result (IsWantKind (S.stored squares.new) (S.most squares.new)) }
-    ensures needed { OnErr result ((cells : ℤ → ℤ → ℕ) (x y : ℤ) → IsBinary cells → AreSixteen (S.content squares.old) cells (2 ^ level) x y sixteen.now → SomePart (S.needs_node squares.new) (square_from (next_life rule.now cells) (suc level) x y)) }
+    ensures needed { OnErr result ((cells : ℤ → ℤ → ℕ) (x y : ℤ) → IsBinary cells
+        → AreSixteen (S.content squares.old) cells (2 ^ level) x y sixteen.now
+        → SomePart (S.needs_node squares.new)
+        (square_from (next_life rule.now cells) (suc level) x y)) }
 {
     if level == 2 {
         return next_of_leaf(squares, rule, sixteen);
@@ -98,11 +112,15 @@ pub fn next_life_square<S: SharedSquares>(
     requires low { depth (S.content squares.old id) < MAX_LEVEL }
     requires states { (x y : ℤ) → tree_cell (S.content squares.old id) x y < 2 }
     ensures known { IfOk result (S.knows squares.new) }
-    ensures level { IfOk result (λ r. depth (S.content squares.new r) ≡ depth (S.content squares.old id) + 1) }
-    ensures next { IfOk result (λ r. (x y : ℤ) → tree_cell (S.content squares.new r) x y ≡ next_life rule.now (tree_cell (S.content squares.old id)) x y) }
+    ensures level { IfOk result
+        (λ r. depth (S.content squares.new r) ≡ depth (S.content squares.old id) + 1) }
+    ensures next { IfOk result (λ r. (x y : ℤ)
+        → tree_cell (S.content squares.new r) x y
+        ≡ next_life rule.now (tree_cell (S.content squares.old id)) x y) }
     ensures keeps { KeepsSquares S.knows S.content S.stored S.most squares.old squares.new }
     ensures refusals { IfErr result (IsWantKind (S.stored squares.new) (S.most squares.new)) }
-    ensures needed { OnErr result (SomePart (S.needs_node squares.new) (next_square rule.now (S.content squares.old id))) }
+    ensures needed { OnErr result
+        (SomePart (S.needs_node squares.new) (next_square rule.now (S.content squares.old id))) }
 {
     // To read a field opens the invariant to the proof: no cell is born without live neighbours.
     let _ = &rule.births;
@@ -145,10 +163,13 @@ pub(crate) fn next_life_plane<S: SharedSquares>(
     ensures quiet { has_digit rule.now.sets.births 0 ≡ false }
     ensures known { IfOk result (S.knows squares.new) }
     ensures level { IfOk result (λ r. depth (S.content squares.new r) ≡ MAX_LEVEL) }
-    ensures next { IfOk result (λ r. (x y : ℤ) → tree_cell (S.content squares.new r) x y ≡ next_life rule.now (tree_cell (S.content squares.old id)) x y) }
+    ensures next { IfOk result (λ r. (x y : ℤ)
+        → tree_cell (S.content squares.new r) x y
+        ≡ next_life rule.now (tree_cell (S.content squares.old id)) x y) }
     ensures keeps { KeepsSquares S.knows S.content S.stored S.most squares.old squares.new }
     ensures refusals { IfErr result (IsWantKind (S.stored squares.new) (S.most squares.new)) }
-    ensures needed { OnErr result (SomePart (S.needs_node squares.new) (next_plane rule.now (S.content squares.old id))) }
+    ensures needed { OnErr result
+        (SomePart (S.needs_node squares.new) (next_plane rule.now (S.content squares.old id))) }
 {
     // To read a field opens the invariant to the proof: no cell is born without live neighbours.
     let _ = &rule.births;

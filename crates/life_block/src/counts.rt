@@ -22,7 +22,8 @@ pub(crate) struct Counts {
 
 // The sum of three bits in each column: its ones, and its twos.
 fn add(a: u64, b: u64, c: u64) -> (u64, u64)
-    ensures { (i : ℕ) → bit_at result.0 i + 2 * bit_at result.1 i ≡ bit_at a i + bit_at b i + bit_at c i }
+    ensures { (i : ℕ)
+        → bit_at result.0 i + 2 * bit_at result.1 i ≡ bit_at a i + bit_at b i + bit_at c i }
 {
     let odd = a ^ b;
     (odd ^ c, (a & b) | (odd & c))
@@ -74,7 +75,8 @@ fn live_counted(near: Near, words: &Words) -> Counts
 
 // The columns whose digit is 1, or those whose digit is 0.
 fn with_digit(digits: u64, one: bool) -> u64
-    ensures { (i : ℕ) → i < 64 → bit_at result i ≡ (if one then bit_at digits i else 1 - bit_at digits i) }
+    ensures { (i : ℕ) → i < 64
+        → bit_at result i ≡ (if one then bit_at digits i else 1 - bit_at digits i) }
 {
     if one { digits } else { !digits }
 }
@@ -84,7 +86,8 @@ impl Counts {
     fn columns_with(&self, count: u8) -> u64
         requires { count < 16 }
         ensures here { (i : ℕ) → i < 64 → count_at self.now i ≡ count → bit_at result i ≡ 1 }
-        ensures others { (i : ℕ) → i < 64 → (count_at self.now i ≡ count → ⊥) → bit_at result i ≡ 0 }
+        ensures others { (i : ℕ) → i < 64 → (count_at self.now i ≡ count → ⊥)
+            → bit_at result i ≡ 0 }
     {
         with_digit(self.ones, count % 2 == 1)
             & with_digit(self.twos, count / 2 % 2 == 1)
@@ -94,7 +97,8 @@ impl Counts {
 
     // The columns whose number is one of a set of digits from 0 to 8.
     fn columns_in(&self, set: u16) -> u64
-        ensures { (i : ℕ) → i < 64 → count_at self.now i ≤ 8 → bit_at result i ≡ bit_at set (count_at self.now i) }
+        ensures { (i : ℕ) → i < 64 → count_at self.now i ≤ 8
+            → bit_at result i ≡ bit_at set (count_at self.now i) }
     {
         let mut columns = 0;
         for count in 0..9 {
@@ -108,7 +112,9 @@ impl Counts {
 
 /// The next states of the 62 places between the first column and the last, under a B/S rule: bit i is that of place i.
 pub(crate) fn next_word(words: &Words, rule: &LifeRule) -> u64
-    ensures { (i : ℕ) → i < 62 → bit_at result i ≡ next_by_count rule.now.sets (bit_at words.now.here (i + 1)) (count_of 1 (counted_in rule.now.near words.now i)) }
+    ensures { (i : ℕ) → i < 62 → bit_at result i
+        ≡ next_by_count rule.now.sets (bit_at words.now.here (i + 1))
+        (count_of 1 (counted_in rule.now.near words.now i)) }
 {
     let counts = live_counted(rule.near, words);
     let alive = words.here >> 1;

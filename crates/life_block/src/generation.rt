@@ -41,8 +41,10 @@ fn is_off_edge(bounds: &Bounds) -> bool
 /// `Memory`, and nothing else.
 fn reaches_edge<S: SharedSquares>(alloc: Global, squares: &S, id: Id) -> Result<bool, Kind>
     requires known { S.knows squares.now id }
-    ensures whole { IfOk result (λ reaches. reaches ≡ true → depth (S.content squares.now id) ≡ MAX_LEVEL) }
-    ensures clear { IfOk result (λ reaches. reaches ≡ false → depth (S.content squares.now id) ≡ MAX_LEVEL → HasClearEdge (S.content squares.now id)) }
+    ensures whole { IfOk result
+        (λ reaches. reaches ≡ true → depth (S.content squares.now id) ≡ MAX_LEVEL) }
+    ensures clear { IfOk result (λ reaches. reaches ≡ false
+        → depth (S.content squares.now id) ≡ MAX_LEVEL → HasClearEdge (S.content squares.now id)) }
     ensures refusals { IfErr result (λ e. e ≡ Memory) }
 {
     if squares.level(id) != MAX_LEVEL {
@@ -75,11 +77,17 @@ pub fn next_life_generation<S: SharedSquares>(
     ensures known { IfOk result (S.knows squares.new) }
     ensures high { IfOk result (λ r. 3 ≤ depth (S.content squares.new r)) }
     ensures low { IfOk result (λ r. depth (S.content squares.new r) ≤ MAX_LEVEL) }
-    ensures level { IfOk result (λ r. depth (S.content squares.new r) ≡ level_behind (depth (S.content squares.old id))) }
-    ensures next { IfOk result (λ r. (x y : ℤ) → tree_cell (S.content squares.new r) x y ≡ next_life rule.now (tree_cell (S.content squares.old id)) x y) }
-    ensures accepted { IfOk result (λ _. GenerationRefusal (LifeAnswers rule.now) 2 most (S.content squares.old id) None) }
-    ensures refusals { IfErr result (λ f. IsWantFault (S.stored squares.new) (S.most squares.new) f ⊎ GenerationRefusal (LifeAnswers rule.now) 2 most (S.content squares.old id) (Some f)) }
-    ensures needed { result ≡ Err (fault_of Kind.Full) → SomeOfNext (S.needs_node squares.new) rule.now (S.content squares.old id) }
+    ensures level { IfOk result
+        (λ r. depth (S.content squares.new r) ≡ level_behind (depth (S.content squares.old id))) }
+    ensures next { IfOk result (λ r. (x y : ℤ)
+        → tree_cell (S.content squares.new r) x y
+        ≡ next_life rule.now (tree_cell (S.content squares.old id)) x y) }
+    ensures accepted { IfOk result
+        (λ _. GenerationRefusal (LifeAnswers rule.now) 2 most (S.content squares.old id) None) }
+    ensures refusals { IfErr result (λ f. IsWantFault (S.stored squares.new) (S.most squares.new)
+        f ⊎ GenerationRefusal (LifeAnswers rule.now) 2 most (S.content squares.old id) (Some f)) }
+    ensures needed { result ≡ Err (fault_of Kind.Full)
+        → SomeOfNext (S.needs_node squares.new) rule.now (S.content squares.old id) }
     ensures keeps { KeepsSquares S.knows S.content S.stored S.most squares.old squares.new }
 {
     life_answers_at();

@@ -52,11 +52,18 @@ impl Three<Id> {
     // Their northern halves, and their southern halves. Inlined, the generation of a soup takes a third less time.
     #[inline(always)]
     fn halves<S: Squares>(&self, squares: &S, level: u8) -> (Four<Id>, Four<Id>)
-        requires { InThree (IsAt (S.knows squares.now) (S.content squares.now) (level + 1)) self.now }
-        ensures northern { InFour (IsAt (S.knows squares.now) (S.content squares.now) level) result.0 }
-        ensures southern { InFour (IsAt (S.knows squares.now) (S.content squares.now) level) result.1 }
-        ensures north { (cells : ℤ → ℤ → ℕ) (x y : ℤ) → AreThree (S.content squares.now) cells (2 ^ (level + 1)) x y self.now → AreFour (S.content squares.now) cells (2 ^ level) x y result.0 }
-        ensures south { (cells : ℤ → ℤ → ℕ) (x y : ℤ) → AreThree (S.content squares.now) cells (2 ^ (level + 1)) x y self.now → AreFour (S.content squares.now) cells (2 ^ level) x (ahead y (2 ^ level)) result.1 }
+        requires { InThree (IsAt (S.knows squares.now) (S.content squares.now) (level + 1))
+            self.now }
+        ensures northern { InFour (IsAt (S.knows squares.now) (S.content squares.now) level)
+            result.0 }
+        ensures southern { InFour (IsAt (S.knows squares.now) (S.content squares.now) level)
+            result.1 }
+        ensures north { (cells : ℤ → ℤ → ℕ) (x y : ℤ)
+            → AreThree (S.content squares.now) cells (2 ^ (level + 1)) x y self.now
+            → AreFour (S.content squares.now) cells (2 ^ level) x y result.0 }
+        ensures south { (cells : ℤ → ℤ → ℕ) (x y : ℤ)
+            → AreThree (S.content squares.now) cells (2 ^ (level + 1)) x y self.now
+            → AreFour (S.content squares.now) cells (2 ^ level) x (ahead y (2 ^ level)) result.1 }
     {
         let west = divide(squares, self.before);
         let middle = divide(squares, self.here);
@@ -100,9 +107,13 @@ impl Nine {
 
     /// The four quarters of the square in the middle, and the twelve around them.
     pub(crate) fn quarters<S: Squares>(&self, squares: &S, level: u8) -> Sixteen
-        requires { InNine (IsAt (S.knows squares.now) (S.content squares.now) (level + 1)) self.now }
-        ensures known { InSixteen (IsAt (S.knows squares.now) (S.content squares.now) level) result }
-        ensures pieces { (cells : ℤ → ℤ → ℕ) (x y : ℤ) → AreNine (S.content squares.now) cells (2 ^ (level + 1)) x y self.now → AreSixteen (S.content squares.now) cells (2 ^ level) x y result }
+        requires { InNine (IsAt (S.knows squares.now) (S.content squares.now) (level + 1))
+            self.now }
+        ensures known { InSixteen (IsAt (S.knows squares.now) (S.content squares.now) level)
+            result }
+        ensures pieces { (cells : ℤ → ℤ → ℕ) (x y : ℤ)
+            → AreNine (S.content squares.now) cells (2 ^ (level + 1)) x y self.now
+            → AreSixteen (S.content squares.now) cells (2 ^ level) x y result }
     {
         let (_, far_north) = self.before.halves(squares, level);
         let (north, south) = self.here.halves(squares, level);

@@ -18,7 +18,8 @@ use life_quad::{Id, Quarters, Squares, divide};
 fn one_cell<S: Squares>(squares: &S, id: Id) -> u16
     requires { IsAt (S.knows squares.now) (S.content squares.now) 0 id }
     ensures small { result < 2 }
-    ensures square { (cells : ℤ → ℤ → ℕ) (x y : ℤ) → IsBinary cells → IsPiece cells x y (S.content squares.now id) → S.content squares.now id ≡ point result }
+    ensures square { (cells : ℤ → ℤ → ℕ) (x y : ℤ) → IsBinary cells
+        → IsPiece cells x y (S.content squares.now id) → S.content squares.now id ≡ point result }
 {
     match squares.state(id) {
         Some(state) => u16::from(state) % 2,
@@ -30,7 +31,8 @@ fn one_cell<S: Squares>(squares: &S, id: Id) -> u16
 fn two_by_two<S: Squares>(squares: &S, id: Id) -> u16
     requires { IsAt (S.knows squares.now) (S.content squares.now) 1 id }
     ensures small { result < 16 }
-    ensures square { (cells : ℤ → ℤ → ℕ) (x y : ℤ) → IsBinary cells → IsPiece cells x y (S.content squares.now id) → S.content squares.now id ≡ two result }
+    ensures square { (cells : ℤ → ℤ → ℕ) (x y : ℤ) → IsBinary cells
+        → IsPiece cells x y (S.content squares.now id) → S.content squares.now id ≡ two result }
 {
     let Quarters { nw, ne, sw, se } = divide(squares, id);
     one_cell(squares, nw) * 8
@@ -43,7 +45,8 @@ fn two_by_two<S: Squares>(squares: &S, id: Id) -> u16
 #[inline(never)]
 fn four_by_four<S: Squares>(squares: &S, id: Id) -> u16
     requires { IsAt (S.knows squares.now) (S.content squares.now) 2 id }
-    ensures { (cells : ℤ → ℤ → ℕ) (x y : ℤ) → IsBinary cells → IsPiece cells x y (S.content squares.now id) → S.content squares.now id ≡ four result }
+    ensures { (cells : ℤ → ℤ → ℕ) (x y : ℤ) → IsBinary cells
+        → IsPiece cells x y (S.content squares.now id) → S.content squares.now id ≡ four result }
 {
     let Quarters { nw, ne, sw, se } = divide(squares, id);
     two_by_two(squares, nw) * 4096
@@ -56,7 +59,8 @@ fn four_by_four<S: Squares>(squares: &S, id: Id) -> u16
 fn cells_in<S: Squares>(squares: &S, id: Id) -> u64
     requires { IsAt (S.knows squares.now) (S.content squares.now) 2 id }
     ensures small { result < 65536 }
-    ensures square { (cells : ℤ → ℤ → ℕ) (x y : ℤ) → IsBinary cells → IsPiece cells x y (S.content squares.now id) → S.content squares.now id ≡ four result }
+    ensures square { (cells : ℤ → ℤ → ℕ) (x y : ℤ) → IsBinary cells
+        → IsPiece cells x y (S.content squares.now id) → S.content squares.now id ≡ four result }
 {
     match squares.small_cells(id) {
         Some(cells) => u64::from(cells),
@@ -67,7 +71,8 @@ fn cells_in<S: Squares>(squares: &S, id: Id) -> u64
 // The four rows of sixteen cells of four squares of level 2.
 fn band<S: Squares>(squares: &S, four: &Four<Id>) -> u64
     requires { InFour (IsAt (S.knows squares.now) (S.content squares.now) 2) four.now }
-    ensures { (cells : ℤ → ℤ → ℕ) (x y : ℤ) → IsBinary cells → AreFour (S.content squares.now) cells 4 x y four.now → HasBand cells (back x 4) y result }
+    ensures { (cells : ℤ → ℤ → ℕ) (x y : ℤ) → IsBinary cells
+        → AreFour (S.content squares.now) cells 4 x y four.now → HasBand cells (back x 4) y result }
 {
     let a = cells_in(squares, four.first);
     let b = cells_in(squares, four.second);
@@ -83,10 +88,12 @@ fn next_of_bands<S: Squares>(
     bands: &Four<u64>,
 ) -> Result<Id, Kind>
     ensures at { IfOk result (IsAt (S.knows squares.new) (S.content squares.new) 3) }
-    ensures next { IfOk result (λ r. (cells : ℤ → ℤ → ℕ) (x y : ℤ) → AreBands cells x y bands.now → IsPiece (next_life rule.now cells) x y (S.content squares.new r)) }
+    ensures next { IfOk result (λ r. (cells : ℤ → ℤ → ℕ) (x y : ℤ) → AreBands cells x y bands.now
+        → IsPiece (next_life rule.now cells) x y (S.content squares.new r)) }
     ensures keeps { KeepsSquares S.knows S.content S.stored S.most squares.old squares.new }
     ensures refusals { IfErr result (IsWantKind (S.stored squares.new) (S.most squares.new)) }
-    ensures needed { OnErr result ((cells : ℤ → ℤ → ℕ) (x y : ℤ) → AreBands cells x y bands.now → SomePart (S.needs_node squares.new) (square_from (next_life rule.now cells) 3 x y)) }
+    ensures needed { OnErr result ((cells : ℤ → ℤ → ℕ) (x y : ℤ) → AreBands cells x y bands.now
+        → SomePart (S.needs_node squares.new) (square_from (next_life rule.now cells) 3 x y)) }
 {
     let north = next_squares(bands.first, bands.second, bands.third, rule);
     let south = next_squares(bands.second, bands.third, bands.fourth, rule);
@@ -105,10 +112,14 @@ pub(crate) fn next_of_leaf<S: Squares>(
 ) -> Result<Id, Kind>
     requires { InSixteen (IsAt (S.knows squares.old) (S.content squares.old) 2) sixteen.now }
     ensures at { IfOk result (IsAt (S.knows squares.new) (S.content squares.new) 3) }
-    ensures next { IfOk result (λ r. (cells : ℤ → ℤ → ℕ) (x y : ℤ) → IsBinary cells → AreSixteen (S.content squares.old) cells 4 x y sixteen.now → IsPiece (next_life rule.now cells) x y (S.content squares.new r)) }
+    ensures next { IfOk result (λ r. (cells : ℤ → ℤ → ℕ) (x y : ℤ) → IsBinary cells
+        → AreSixteen (S.content squares.old) cells 4 x y sixteen.now
+        → IsPiece (next_life rule.now cells) x y (S.content squares.new r)) }
     ensures keeps { KeepsSquares S.knows S.content S.stored S.most squares.old squares.new }
     ensures refusals { IfErr result (IsWantKind (S.stored squares.new) (S.most squares.new)) }
-    ensures needed { OnErr result ((cells : ℤ → ℤ → ℕ) (x y : ℤ) → IsBinary cells → AreSixteen (S.content squares.old) cells 4 x y sixteen.now → SomePart (S.needs_node squares.new) (square_from (next_life rule.now cells) 3 x y)) }
+    ensures needed { OnErr result ((cells : ℤ → ℤ → ℕ) (x y : ℤ) → IsBinary cells
+        → AreSixteen (S.content squares.old) cells 4 x y sixteen.now
+        → SomePart (S.needs_node squares.new) (square_from (next_life rule.now cells) 3 x y)) }
 {
     let bands = Four {
         first: band(squares, &sixteen.first),
@@ -128,10 +139,14 @@ pub(crate) fn next_of_least<S: Squares>(
     requires at { IsAt (S.knows squares.old) (S.content squares.old) 2 id }
     requires states { (x y : ℤ) → tree_cell (S.content squares.old id) x y < 2 }
     ensures at { IfOk result (IsAt (S.knows squares.new) (S.content squares.new) 3) }
-    ensures next { IfOk result (λ r. let corner = neg_ℤ (pos 4) in IsPiece (next_life rule.now (tree_cell (S.content squares.old id))) corner corner (S.content squares.new r)) }
+    ensures next { IfOk result (λ r. let corner = neg_ℤ (pos 4) in IsPiece
+        (next_life rule.now (tree_cell (S.content squares.old id))) corner corner
+        (S.content squares.new r)) }
     ensures keeps { KeepsSquares S.knows S.content S.stored S.most squares.old squares.new }
     ensures refusals { IfErr result (IsWantKind (S.stored squares.new) (S.most squares.new)) }
-    ensures needed { OnErr result (let corner = neg_ℤ (pos 4) in SomePart (S.needs_node squares.new) (square_from (next_life rule.now (tree_cell (S.content squares.old id))) 3 corner corner)) }
+    ensures needed { OnErr result (let corner = neg_ℤ (pos 4) in SomePart
+        (S.needs_node squares.new)
+        (square_from (next_life rule.now (tree_cell (S.content squares.old id))) 3 corner corner)) }
 {
     // Its rows begin in column 6 of sixteen.
     let rows = rows_of_squares(cells_in(squares, id) << 48) >> 6;

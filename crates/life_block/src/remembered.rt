@@ -9,7 +9,7 @@ use crate::grid::Nine;
 use life_quad::{Id, NeighbourhoodMemory};
 
 /// The least level of squares that are remembered: lower ones are told as fast anew.
-const LEAST_LEVEL: u8 = 4;
+const LEAST_LEVEL: u8 = 5;
 
 /// The answer that is remembered for a square of this level amid its neighbours.
 pub(crate) fn recalled(memory: &mut NeighbourhoodMemory, level: u8, nine: &Nine) -> Option<Id>
@@ -24,7 +24,8 @@ pub(crate) fn recalled(memory: &mut NeighbourhoodMemory, level: u8, nine: &Nine)
 
 /// Remembers the answer for a square of this level amid its neighbours.
 pub(crate) fn remember(memory: &mut NeighbourhoodMemory, level: u8, nine: &Nine, answer: Id)
-    ensures { (other : NineValue) (next : IdValue) → Recalls memory.new (ids_of other) next → Recalls memory.old (ids_of other) next ⊎ ((other ≡ nine.now) × (next ≡ answer)) }
+    ensures { (other : NineValue) (next : IdValue) → Recalls memory.new (ids_of other) next
+        → Recalls memory.old (ids_of other) next ⊎ ((other ≡ nine.now) × (next ≡ answer)) }
 {
     if level < LEAST_LEVEL {
         return;

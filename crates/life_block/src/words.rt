@@ -26,7 +26,9 @@ fn exchange(word: u64, mask: u64, distance: u32) -> u64
 
 /// The rows of four squares of level 2 side by side, from their cells as `Squares::small_cells` takes them, the western square the highest.
 pub(crate) fn rows_of_squares(squares: u64) -> u64
-    ensures { (r q i : ℕ) → r < 4 → q < 4 → i < 4 → bit_at result (63 - (16 * r + 4 * q + i)) ≡ bit_at squares (63 - (16 * q + place_in r i)) }
+    ensures { (r q i : ℕ) → r < 4 → q < 4 → i < 4
+        → bit_at result (63 - (16 * r + 4 * q + i))
+        ≡ bit_at squares (63 - (16 * q + place_in r i)) }
 {
     let pairs = exchange(squares, 0x0C0C_0C0C_0C0C_0C0C, 2);
     let halves = exchange(pairs, 0x0000_0000_FF00_FF00, 24);
@@ -35,7 +37,8 @@ pub(crate) fn rows_of_squares(squares: u64) -> u64
 
 // And back.
 fn squares_of_rows(rows: u64) -> u64
-    ensures { (r q i : ℕ) → r < 4 → q < 4 → i < 4 → bit_at result (63 - (16 * q + place_in r i)) ≡ bit_at rows (63 - (16 * r + 4 * q + i)) }
+    ensures { (r q i : ℕ) → r < 4 → q < 4 → i < 4
+        → bit_at result (63 - (16 * q + place_in r i)) ≡ bit_at rows (63 - (16 * r + 4 * q + i)) }
 {
     let halves = exchange(rows, 0x0000_F0F0_0000_F0F0, 12);
     let pairs = exchange(halves, 0x0000_0000_FF00_FF00, 24);
@@ -44,22 +47,28 @@ fn squares_of_rows(rows: u64) -> u64
 
 // The four rows that begin one row north of a word's, by the word of the four rows above.
 fn one_north(above: u64, here: u64) -> u64
-    ensures { (cells : ℤ → ℤ → ℕ) (x y : ℤ) → HasBand cells x (back y 4) above → HasBand cells x y here → HasBand cells x (before y) result }
+    ensures { (cells : ℤ → ℤ → ℕ) (x y : ℤ) → HasBand cells x (back y 4) above
+        → HasBand cells x y here → HasBand cells x (before y) result }
 {
     above % 0x1_0000 * 0x1_0000_0000_0000 + here / 0x1_0000
 }
 
 // Those that begin one row south, by the word of the four rows below.
 fn one_south(here: u64, below: u64) -> u64
-    ensures { (cells : ℤ → ℤ → ℕ) (x y : ℤ) → HasBand cells x y here → HasBand cells x (ahead y 4) below → HasBand cells x (after y) result }
+    ensures { (cells : ℤ → ℤ → ℕ) (x y : ℤ) → HasBand cells x y here
+        → HasBand cells x (ahead y 4) below → HasBand cells x (after y) result }
 {
     here % 0x1_0000_0000_0000 * 0x1_0000 + below / 0x1_0000_0000_0000
 }
 
 /// The cells of the two squares of level 2 in the middle of four rows of next states, from the rows and the four above and below.
 pub(crate) fn next_squares(above: u64, here: u64, below: u64, rule: &LifeRule) -> (u16, u16)
-    ensures west { (cells : ℤ → ℤ → ℕ) (x y : ℤ) → HasBand cells (back x 4) (back y 4) above → HasBand cells (back x 4) y here → HasBand cells (back x 4) (ahead y 4) below → four result.0 ≡ square_from (next_life rule.now cells) 2 x y }
-    ensures east { (cells : ℤ → ℤ → ℕ) (x y : ℤ) → HasBand cells (back x 4) (back y 4) above → HasBand cells (back x 4) y here → HasBand cells (back x 4) (ahead y 4) below → four result.1 ≡ square_from (next_life rule.now cells) 2 (ahead x 4) y }
+    ensures west { (cells : ℤ → ℤ → ℕ) (x y : ℤ) → HasBand cells (back x 4) (back y 4) above
+        → HasBand cells (back x 4) y here → HasBand cells (back x 4) (ahead y 4) below
+        → four result.0 ≡ square_from (next_life rule.now cells) 2 x y }
+    ensures east { (cells : ℤ → ℤ → ℕ) (x y : ℤ) → HasBand cells (back x 4) (back y 4) above
+        → HasBand cells (back x 4) y here → HasBand cells (back x 4) (ahead y 4) below
+        → four result.1 ≡ square_from (next_life rule.now cells) 2 (ahead x 4) y }
 {
     let words = Column {
         north: one_north(above, here),

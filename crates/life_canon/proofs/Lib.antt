@@ -36,4 +36,11 @@ mod PieceFacts
 mod WalkingFacts
 mod CountingFacts
 mod ShowFacts
+mod RoomLists
+mod RoomTrees
+mod RoomRuns
+mod RoomRoots
+mod RoomNodes
+mod RoomLaw
+mod RoomCount
 mod Rows

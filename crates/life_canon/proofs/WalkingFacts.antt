@@ -1,11 +1,13 @@
 -- What the walk that writes needs.
-use Rattle.std.proofs.Common.{◌≡◌, ℕ, suc, ◌+◌, ◌-◌, ◌<◌, ◌≤◌, true, false, ◌&&◌, List, [], ◌∷◌, ◌++◌, Option, Result, Ok, Err, OnErr, length, map, refl, ap, sym, ◌∙◌, subst, arith, ◌⊎◌, inl, inr, length-append}
-use Rattle.std.specs.Prelude.{◌==◌, Contains, flat_map, All, AllPairs, Some, None, ◌≢◌, slice_get, MatchOption, IfSome}
+use Rattle.std.proofs.Common.{◌≡◌, ℕ, suc, ◌+◌, ◌-◌, ◌<◌, ◌≤◌, true, false, ◌&&◌, List, [], ◌∷◌, ◌++◌, Option, Result, Ok, Err, length, map, refl, ap, sym, ◌∙◌, subst, arith, ◌⊎◌, inl, inr, length-append}
+use Rattle.std.specs.Prelude.{◌==◌, Contains, flat_map, All, AllPairs, Some, None, ◌≢◌, slice_get, MatchOption, IfSome, IsErrAnd}
 use Rattle.std.proofs.lemmas.Bool.Decides.{nat_tests}
+use Rattle.std.proofs.lemmas.List.Elements.{All-push}
 use Rattle.std.proofs.lemmas.List.{append_assoc, append-nil, map-append, length-map}
 use Rattle.std.proofs.lemmas.Grind.{flat_map-append}
 use Rattle.life_base.specs.Tree.{Tree, point, quad, depth, IsFull, is_blank_tree as is_blank}
 use Rattle.life_base.specs.Writing.{WritesPrefix}
+use Rattle.life_base.specs.declared.kind.Kind.{Kind}
 use Rattle.life_base.specs.declared.rule.Rule.{Rule}
 use Rattle.life_base.specs.declared.rule.Rule.TheVariants.{Life, Named}
 use Rattle.life_base.proofs.WritingLemmas.{prefix-grows}
@@ -16,12 +18,12 @@ use Rattle.life_mc.specs.declared.line.Line.TheVariants.{Leaf, Quad}
 use Rattle.life_canon.specs.Universe.{is_life, least_level}
 use Rattle.life_canon.specs.Listing.{is_small, is_in, with_new, with_all, walk, place, number_of, line_of, lines_for, quad_line, rows_of, listed}
 use Rattle.life_canon.specs.Closed.{IsClosed}
-use Rattle.life_canon.specs.Pieces.{WritesFront, WritesOn, WritesWalk, BreaksIn, lines_text}
+use Rattle.life_canon.specs.Pieces.{WritesFront, WritesOn, WritesWalk, Walked, BreaksIn, lines_text}
 use Rattle.life_canon.proofs.Trees.{bool_cases, true_false, same_tree-refl}
 use Rattle.life_canon.proofs.ListFacts.{with_all-from, with_all-append, with_new-known, with_new-fresh, place-append}
 use Rattle.life_canon.proofs.Walk.{walk-level, walk-big, walked, none-closed, IsKnown, IsWalked}
 use Rattle.std.proofs.KnownBytes.{Appends-nil}
-use Rattle.life_canon.proofs.Keys.{place-keys, in-keys, number-place_of, skip, step, least-step}
+use Rattle.life_canon.proofs.Keys.{place-keys, in-keys, number-place_of, skip, step, least-step, still-closed}
 use Rattle.std.proofs.lemmas.Option.{slice_get_within, get_or_from_slice_get}
 use Rattle.life_canon.proofs.Content.{not_small, number-blank, number-place, least-one}
 use Rattle.life_canon.proofs.Planes.{full-depth}
@@ -132,11 +134,6 @@ module _ (rule : Rule) {a b : Option (List ℕ)} {h l : List ℕ} (old mid : Lis
       (append_assoc begun (lines_text rule all mid) (lines_text rule all (p.0 ++ rest))
       ∙ ap (λ r. begun ++ r) (sym (lines-more rule all mid (p.0 ++ rest)) ∙ ap (lines_text rule all) (sym more)))
       (prefix-grows start c _ (lines_text rule all (p.0 ++ rest)) before)
-
--- what holds once a call broke holds of its error
-pub broken : {T E P : Type 0} (r : Result T E) → P → OnErr r P
-broken (Ok x) p = tt
-broken (Err e) p = p
 
 -- nothing is a prefix of every text
 pub none-written : (a : Option (List ℕ)) (text : List ℕ) → WritesPrefix a a text
@@ -379,6 +376,27 @@ module _ (content : Id → Tree) (rule : Rule) (id : Id) {nw ne sw se : Id} (squ
             (λ all rest q. quad-line rule (content id) (content nw) (content ne) (content sw) (content se) level na nb nc nd _ _ _ _ _ all rest square full
             (λ r. subst (λ n. 3 ≤ n) is (high r)) (no-leaf rule (content id) level is other) is closed u.walked v.walked w.walked x.walked ea eb ec ed q);
       }
+
+-- ---- what a walk leaves
+
+-- an error that is passed on, once a prefix of the text was written
+pub refused-walk : {knows : Id → Type 0} {content : Id → Tree} {rule : Rule} {q : Id} {a b : Option (List ℕ)} {held left : List ℕ} {old new : List Id}
+    (Q : Kind → Type 0) (r : Result ℕ Kind) → IsErrAnd r Q → Broke content rule q a b held old → Walked knows content rule q a b held left old new r
+refused-walk Q (Ok x) h p = absurd h
+refused-walk Q (Err e) h p = record { wrote = tt; number = tt; prefix = p; numbers = tt; closed = tt }
+
+-- a square that got the next number
+pub walked-on : {knows : Id → Type 0} (content : Id → Tree) (rule : Rule) (q : Id) {a b : Option (List ℕ)} {held left : List ℕ} {old new : List Id}
+    {n : ℕ} (mid : List Id) → All knows mid → knows q → IsClosed (least_level rule) (map content old)
+    → new ≡ mid ++ q ∷ [] → WritesWalk content rule q a b held left old new
+    → n ≡ number_of (map content new) (content q) → Walked knows content rule q a b held left old new (Ok n)
+walked-on {knows} content rule q {old = old} {new = new} mid all known closed added wrote number = record {
+  wrote = wrote;
+  number = number;
+  prefix = tt;
+  numbers = subst (All knows) (sym added) (All-push knows mid q all known);
+  closed = still-closed (content q) (least_level rule) (map content old) (map content new) (least-one rule) closed wrote.walked;
+}
 
 -- ---- a whole pattern, from no squares on
 

@@ -9,6 +9,7 @@ pub mod Texts
 pub mod Filling
 pub mod Building
 pub mod Needs
+pub mod Room
 pub mod Taking
 pub mod Feeding
 pub mod Running

@@ -1,15 +1,19 @@
 -- A text that is written in pieces.
-use Rattle.std.specs.Prelude.{◌≡◌, ◌⊎◌, ℕ, ◌<◌, Bool, true, List, Option, Result, OnOk, IfErr, ◌++◌, map, flat_map}
+use Rattle.std.specs.Prelude.{◌≡◌, ◌⊎◌, ℕ, ◌≤◌, Bool, true, false, List, Option, Result, OnOk, OnErr, IfOk, IfErr, All, ◌++◌, map, flat_map}
 use Rattle.std.specs.Io.KnownBytes.{Appends}
-use Rattle.life_base.specs.Tree.{Tree}
+use Rattle.life_base.specs.Tree.{Tree, depth, is_blank_tree}
 use Rattle.life_base.specs.Writing.{WritesPrefix}
 use Rattle.life_base.specs.declared.kind.Kind.{Kind}
 use Rattle.life_base.specs.declared.kind.Kind.TheVariants.{Memory, WriteFault}
 use Rattle.life_base.specs.declared.rule.Rule.{Rule}
 use Rattle.life_mc.specs.Writing.{node_text}
 use Rattle.life_quad.specs.declared.id.Id.{Id}
-use Rattle.life_canon.specs.Listing.{line_of, with_all, walk}
-use Rattle.life_canon.specs.Universe.{least_level}
+use Rattle.life_quad.specs.IdNumbers.{NumberRoom, HasNumberRoom}
+use Rattle.life_mc.specs.Macrocell.{largest_state}
+use Rattle.life_mc.specs.Squares.{HasStatesUpTo}
+use Rattle.life_canon.specs.Closed.{IsClosed}
+use Rattle.life_canon.specs.Listing.{line_of, number_of, with_all, walk}
+use Rattle.life_canon.specs.Universe.{is_life, least_level}
 
 -- a front of the text was written, and this rest of it was not yet
 pub record WritesFront (old new : Option (List ℕ)) (text rest : List ℕ) : Type 0 where
@@ -39,9 +43,31 @@ BreaksIn rule before after held old new =
     (start : Option (List ℕ)) (begun : List ℕ) (all rest : List Tree) → all ≡ new ++ rest
     → WritesFront start before (begun ++ lines_text rule all old) held → WritesPrefix start after (begun ++ lines_text rule all all)
 
--- some Id has no room for its number, where there is room for so many numbers of Ids
-abbrev pub LacksRoom : (Id → Type 0) → ℕ → Type 0
-LacksRoom knows bound = ¬ ((id : Id) → knows id → id.0 < bound)
+-- what a walk over the square of an Id, of level k, asks of it, and of the Ids that have numbers
+pub record MayWalk (knows : Id → Type 0) (content : Id → Tree) (rule : Rule) (k : ℕ) (q : Id) (ids : List Id) : Type 0 where
+  pub known : knows q
+  pub level : k ≡ depth (content q)
+  pub high : is_life rule ≡ true → 3 ≤ k
+  pub states : HasStatesUpTo (largest_state rule) (content q)
+  pub numbers : All knows ids
+  pub closed : IsClosed (least_level rule) (map content ids)
+
+-- What it leaves: at Ok the lines were written as above, and it answers the number that stands for the square. At Err a prefix was.
+pub record Walked (knows : Id → Type 0) (content : Id → Tree) (rule : Rule) (q : Id) (before after : Option (List ℕ)) (held left : List ℕ)
+    (old new : List Id) (result : Result ℕ Kind) : Type 0 where
+  pub wrote : OnOk result (WritesWalk content rule q before after held left old new)
+  pub number : IfOk result (λ n. n ≡ number_of (map content new) (content q))
+  pub prefix : OnErr result (BreaksIn rule before after held (map content old) (with_all (map content old) (walk (content q) (least_level rule))))
+  pub numbers : OnOk result (All knows new)
+  pub closed : OnOk result (IsClosed (least_level rule) (map content new))
+
+-- the Id of each square of this level or a higher one that isn't blank has room for its number
+abbrev pub HasRoomFrom : (Id → Type 0) → (Id → Tree) → ℕ → NumberRoom → Type 0
+HasRoomFrom knows content least room = (id : Id) → knows id → least ≤ depth (content id) → is_blank_tree (content id) ≡ false → HasNumberRoom room id
+
+-- not each of them has
+abbrev pub LacksRoom : (Id → Type 0) → (Id → Tree) → ℕ → NumberRoom → Type 0
+LacksRoom knows content least room = ¬ HasRoomFrom knows content least room
 
 -- What a call that gives numbers and writes leaves of its sink, as `LeavesSink` says it of a call that writes; but memory may be refused too, where
 -- room was lacking.

@@ -17,8 +17,8 @@ use life_quad::{Shared, cells};
 use life_rle::write_rle;
 use std::alloc::Global;
 
-/// The most nonzero cells of an RLE text.
-const MOST_CELLS: u64 = 1 << 20;
+/// The most nonzero cells of a pattern whose cells are listed: of one that is written as RLE, stepped, moved or turned.
+pub const MOST_CELLS: u64 = 1 << 20;
 
 /// The canonical text of the pattern of a file of either format.
 ///
@@ -44,10 +44,15 @@ pub fn canon(alloc: Global, store: &mut Shared, bytes: &[u8]) -> Result<Vec<u8>,
 /// `TooManyCells` where more than 2^20 cells aren't 0, and `Memory`, at no line.
 pub fn rle_of(alloc: Global, store: &Shared, pattern: &Pattern) -> Result<Vec<u8>, Fault>
     requires { IsOfFile MAX_LEVEL store.now pattern.now }
-    ensures text { IfOk result (λ text. (bytes : List ℕ) → IsRead MAX_LEVEL bytes store.now pattern.now → IsRleOf MAX_LEVEL (2 ^ 20) bytes text.items) }
-    ensures same { IfOk result (λ text. (bytes : List ℕ) → IsRead MAX_LEVEL bytes store.now pattern.now → Same MAX_LEVEL bytes text.items) }
+    ensures text { IfOk result (λ text. (bytes : List ℕ)
+        → IsRead MAX_LEVEL bytes store.now pattern.now
+        → IsRleOf MAX_LEVEL (2 ^ 20) bytes text.items) }
+    ensures same { IfOk result (λ text. (bytes : List ℕ)
+        → IsRead MAX_LEVEL bytes store.now pattern.now → Same MAX_LEVEL bytes text.items) }
     ensures fault { IfErr result (λ fault. (fault ≡ fault_of Memory)
-        ⊎ ((fault ≡ fault_of TooManyCells) × ((bytes : List ℕ) → IsRead MAX_LEVEL bytes store.now pattern.now → HasMoreCells MAX_LEVEL bytes (2 ^ 20)))) }
+        ⊎ ((fault ≡ fault_of TooManyCells)
+        × ((bytes : List ℕ) → IsRead MAX_LEVEL bytes store.now pattern.now
+        → HasMoreCells MAX_LEVEL bytes (2 ^ 20)))) }
 {
     let list = cells(alloc, store, pattern.root, MOST_CELLS)?;
     write_rle(alloc, &pattern.rule, pattern.generation, &list)
@@ -61,7 +66,8 @@ pub fn rle_of(alloc: Global, store: &Shared, pattern: &Pattern) -> Result<Vec<u8
 pub fn to_rle(alloc: Global, store: &mut Shared, bytes: &[u8]) -> Result<Vec<u8>, Fault>
     ensures text { IfOk result (λ text. IsRleOf MAX_LEVEL (2 ^ 20) bytes.now text.items) }
     ensures same { IfOk result (λ text. Same MAX_LEVEL bytes.now text.items) }
-    ensures fault { IfErr result (λ fault. RefusesIn MAX_LEVEL bytes.now store.new fault ⊎ ((fault ≡ fault_of TooManyCells) × HasMoreCells MAX_LEVEL bytes.now (2 ^ 20))) }
+    ensures fault { IfErr result (λ fault. RefusesIn MAX_LEVEL bytes.now store.new fault
+        ⊎ ((fault ≡ fault_of TooManyCells) × HasMoreCells MAX_LEVEL bytes.now (2 ^ 20))) }
     ensures needed { result ≡ Err (fault_of Full) → LacksFor MAX_LEVEL bytes.now store.new }
     ensures keeps { Keeps store.old store.new }
 {

@@ -1,6 +1,6 @@
 //! How many node lines and cells a square has, in one walk that writes nothing.
 
-ghost use Rattle.std.specs.Prelude.{◌≡◌, ◌-◌, ◌≤◌, false, length, map, slice_get, All, IfOk, IfErr, OnOk, IfSome, MatchOption, Some};
+ghost use Rattle.std.specs.Prelude.{◌≡◌, ◌-◌, ◌≤◌, [], false, length, map, slice_get, All, IfOk, IfErr, OnOk, IfSome, MatchOption, Some};
 ghost use Rattle.life_base.specs.declared.kind.Kind.TheVariants.{Memory};
 ghost use Rattle.life_base.specs.Tree.{depth, is_blank_tree};
 ghost use Rattle.life_quad.specs.Cells.{population};
@@ -27,7 +27,9 @@ pub(crate) struct Counts {
 fn number_in<S: SharedSquares>(squares: &S, numbers: &IdNumbers, id: Id) -> Option<u64>
     requires id { S.knows squares.now id }
     requires numbers { All (S.knows squares.now) numbers.now.ids }
-    ensures number { MatchOption result (is_in (map (S.content squares.now) numbers.now.ids) (S.content squares.now id) ≡ false) (λ number. slice_get numbers.now.ids (number - 1) ≡ Some id) }
+    ensures number { MatchOption result
+        (is_in (map (S.content squares.now) numbers.now.ids) (S.content squares.now id) ≡ false)
+        (λ number. slice_get numbers.now.ids (number - 1) ≡ Some id) }
     ensures counted { IfSome result (λ number. 1 ≤ number) }
 {
     let _ = squares;
@@ -36,7 +38,6 @@ fn number_in<S: SharedSquares>(squares: &S, numbers: &IdNumbers, id: Id) -> Opti
 
 /// How many cells of a square of a level have a state other than 0. The squares of the walk over it that have no number yet get one, each behind its
 /// quarters, and by its number each has its cells.
-#[cycle(walk)]
 fn count_square<S: SharedSquares>(
     squares: &S,
     least: u8,
@@ -53,10 +54,13 @@ fn count_square<S: SharedSquares>(
     requires closed { IsClosed least (map (S.content squares.now) numbers.old.ids) }
     requires cells { cells.old.items ≡ cells_in (S.content squares.now) numbers.old.ids }
     ensures number { IfOk result (λ n. n ≡ population (S.content squares.now id)) }
-    ensures walked { OnOk result (map (S.content squares.now) numbers.new.ids ≡ with_all (map (S.content squares.now) numbers.old.ids) (walk (S.content squares.now id) least)) }
+    ensures walked { OnOk result (map (S.content squares.now) numbers.new.ids
+        ≡ with_all (map (S.content squares.now) numbers.old.ids)
+        (walk (S.content squares.now id) least)) }
     ensures numbers { OnOk result (All (S.knows squares.now) numbers.new.ids) }
     ensures closed { OnOk result (IsClosed least (map (S.content squares.now) numbers.new.ids)) }
-    ensures cells { OnOk result (cells.new.items ≡ cells_in (S.content squares.now) numbers.new.ids) }
+    ensures cells { OnOk result
+        (cells.new.items ≡ cells_in (S.content squares.now) numbers.new.ids) }
     ensures kind { IfErr result (λ kind. kind ≡ Memory) }
 {
     if is_blank_at(squares, level, id) {
@@ -65,35 +69,6 @@ fn count_square<S: SharedSquares>(
     if let Some(number) = number_in(squares, numbers, id) {
         return Ok(cells[number as usize - 1]);
     }
-    count_new_square(squares, least, level, id, numbers, cells)
-}
-
-/// The same of a square that is not blank and has no number yet.
-#[cycle(walk)]
-fn count_new_square<S: SharedSquares>(
-    squares: &S,
-    least: u8,
-    level: u8,
-    id: Id,
-    numbers: &mut IdNumbers,
-    cells: &mut Vec<u128>,
-) -> Result<u128, Kind>
-    requires least { 1 ≤ least }
-    requires high { least ≤ level }
-    requires id { S.knows squares.now id }
-    requires level { level ≡ depth (S.content squares.now id) }
-    requires shown { is_blank_tree (S.content squares.now id) ≡ false }
-    requires new { is_in (map (S.content squares.now) numbers.old.ids) (S.content squares.now id) ≡ false }
-    requires numbers { All (S.knows squares.now) numbers.old.ids }
-    requires closed { IsClosed least (map (S.content squares.now) numbers.old.ids) }
-    requires cells { cells.old.items ≡ cells_in (S.content squares.now) numbers.old.ids }
-    ensures number { IfOk result (λ n. n ≡ population (S.content squares.now id)) }
-    ensures walked { OnOk result (map (S.content squares.now) numbers.new.ids ≡ with_all (map (S.content squares.now) numbers.old.ids) (walk (S.content squares.now id) least)) }
-    ensures numbers { OnOk result (All (S.knows squares.now) numbers.new.ids) }
-    ensures closed { OnOk result (IsClosed least (map (S.content squares.now) numbers.new.ids)) }
-    ensures cells { OnOk result (cells.new.items ≡ cells_in (S.content squares.now) numbers.new.ids) }
-    ensures kind { IfErr result (λ kind. kind ≡ Memory) }
-{
     if level == least {
         let count = leaf_population(squares, level, id);
         numbers.push(id)?;
@@ -117,15 +92,17 @@ pub(crate) fn count_all<S: SharedSquares>(
     squares: &S,
     least: u8,
     id: Id,
+    mut numbers: IdNumbers,
 ) -> Result<Counts, Kind>
     requires least { 1 ≤ least }
     requires high { least ≤ depth (S.content squares.now id) }
     requires id { S.knows squares.now id }
-    ensures squares { IfOk result (λ counts. counts.squares ≡ length (listed (S.content squares.now id) least)) }
+    requires none { numbers.ids ≡ [] }
+    ensures squares { IfOk result
+        (λ counts. counts.squares ≡ length (listed (S.content squares.now id) least)) }
     ensures cells { IfOk result (λ counts. counts.cells ≡ population (S.content squares.now id)) }
     ensures kind { IfErr result (λ kind. kind ≡ Memory) }
 {
-    let mut numbers = IdNumbers::growing(alloc);
     let mut known = Vec::new(alloc);
     let level = squares.level(id);
     let cells = count_square(squares, least, level, id, &mut numbers, &mut known)?;

@@ -45,11 +45,13 @@ pub(crate) enum Progress {
 fn add_runs<S: Squares>(squares: &mut S, builder: &mut Builder, runs: &[Run]) -> Result<(), Kind>
     requires filling { IsFilling (S.knows squares.old) (S.content squares.old) builder.old }
     requires next { AreNext builder.old.runs runs.now }
-    ensures filling { OnOk result (IsFilling (S.knows squares.new) (S.content squares.new) builder.new) }
+    ensures filling { OnOk result
+        (IsFilling (S.knows squares.new) (S.content squares.new) builder.new) }
     ensures runs { OnOk result (builder.new.runs ≡ builder.old.runs ++ runs.now) }
     ensures refusals { IfErr result (IsWantKind (S.stored squares.new) (S.most squares.new)) }
     ensures keeps { KeepsSquares S.knows S.content S.stored S.most squares.old squares.new }
-    ensures needed { result ≡ Err Full → SomeOfRuns (S.needs_node squares.new) (builder.old.runs ++ runs.now) }
+    ensures needed { result ≡ Err Full
+        → SomeOfRuns (S.needs_node squares.new) (builder.old.runs ++ runs.now) }
 {
     for run in runs {
         builder.add_run(squares, *run)?;
@@ -66,13 +68,18 @@ fn take_rle_line<S: Squares>(
     line: &[u8],
 ) -> Result<(), Kind>
     requires begun { lines.old.refused ≡ false }
-    requires built { IsBuilt (S.knows squares.old) (S.content squares.old) (HasRuns MAX_LEVEL lines.old.lines) builder.old }
-    ensures lines { OnOk result (lines.new ≡ record { lines = lines.old.lines ++ line.now ∷ []; refused = false }) }
+    requires built { IsBuilt (S.knows squares.old) (S.content squares.old)
+        (HasRuns MAX_LEVEL lines.old.lines) builder.old }
+    ensures lines { OnOk result
+        (lines.new ≡ record { lines = lines.old.lines ++ line.now ∷ []; refused = false }) }
     ensures front { OnOk result (Prefix (IsSomeRle MAX_LEVEL) lines.new.lines) }
-    ensures built { OnOk result (IsBuilt (S.knows squares.new) (S.content squares.new) (HasRuns MAX_LEVEL lines.new.lines) builder.new) }
-    ensures fault { IfErr result (λ kind. IsWantKind (S.stored squares.new) (S.most squares.new) kind ⊎ BreaksRle MAX_LEVEL lines.old.lines line.now kind) }
+    ensures built { OnOk result (IsBuilt (S.knows squares.new) (S.content squares.new)
+        (HasRuns MAX_LEVEL lines.new.lines) builder.new) }
+    ensures fault { IfErr result (λ kind. IsWantKind (S.stored squares.new) (S.most squares.new)
+        kind ⊎ BreaksRle MAX_LEVEL lines.old.lines line.now kind) }
     ensures keeps { KeepsSquares S.knows S.content S.stored S.most squares.old squares.new }
-    ensures needed { result ≡ Err Full → SomeOfLines MAX_LEVEL (S.needs_node squares.new) (lines.old.lines ++ line.now ∷ []) }
+    ensures needed { result ≡ Err Full
+        → SomeOfLines MAX_LEVEL (S.needs_node squares.new) (lines.old.lines ++ line.now ∷ []) }
 {
     runs.clear();
     lines.line_into(line, runs)?;
@@ -87,13 +94,18 @@ fn take_macrocell_line<S: Squares>(
     line: &[u8],
 ) -> Result<(), Kind>
     requires begun { lines.old.refused ≡ false }
-    requires squares { AreSquaresOf (S.knows squares.old) (S.content squares.old) (squares_of lines.old.lines) ids.old.items }
-    ensures lines { OnOk result (lines.new ≡ record { lines = lines.old.lines ++ line.now ∷ []; refused = false }) }
+    requires squares { AreSquaresOf (S.knows squares.old) (S.content squares.old)
+        (squares_of lines.old.lines) ids.old.items }
+    ensures lines { OnOk result
+        (lines.new ≡ record { lines = lines.old.lines ++ line.now ∷ []; refused = false }) }
     ensures front { OnOk result (Prefix (Accepts MAX_LEVEL) lines.new.lines) }
-    ensures squares { OnOk result (AreSquaresOf (S.knows squares.new) (S.content squares.new) (squares_of lines.new.lines) ids.new.items) }
-    ensures fault { IfErr result (λ kind. IsWantKind (S.stored squares.new) (S.most squares.new) kind ⊎ (broken MAX_LEVEL lines.old.lines line.now ≡ Some kind)) }
+    ensures squares { OnOk result (AreSquaresOf (S.knows squares.new) (S.content squares.new)
+        (squares_of lines.new.lines) ids.new.items) }
+    ensures fault { IfErr result (λ kind. IsWantKind (S.stored squares.new) (S.most squares.new)
+        kind ⊎ (broken MAX_LEVEL lines.old.lines line.now ≡ Some kind)) }
     ensures keeps { KeepsSquares S.knows S.content S.stored S.most squares.old squares.new }
-    ensures needed { result ≡ Err Full → SomeOfLines MAX_LEVEL (S.needs_node squares.new) (lines.old.lines ++ line.now ∷ []) }
+    ensures needed { result ≡ Err Full
+        → SomeOfLines MAX_LEVEL (S.needs_node squares.new) (lines.old.lines ++ line.now ∷ []) }
 {
     let Some(square) = lines.line(line)? else {
         return Ok(());
@@ -112,12 +124,17 @@ fn trimmed_pattern<S: Squares>(
 ) -> Result<Pattern, Kind>
     requires known { S.knows squares.old root }
     requires high { 1 ≤ depth (S.content squares.old root) }
-    ensures pattern { (universe : Universe) → universe.rule ≡ rule → universe.generation ≡ generation → ((x y : ℤ) → tree_cell (S.content squares.old root) x y ≡ universe.cell x y)
-        → IfOk result (IsPatternOf MAX_LEVEL (S.knows squares.new) (S.content squares.new) universe) }
+    ensures pattern { (universe : Universe) → universe.rule ≡ rule
+        → universe.generation ≡ generation
+        → ((x y : ℤ) → tree_cell (S.content squares.old root) x y ≡ universe.cell x y)
+        → IfOk result
+        (IsPatternOf MAX_LEVEL (S.knows squares.new) (S.content squares.new) universe) }
     ensures refusals { IfErr result (IsWantKind (S.stored squares.new) (S.most squares.new)) }
     ensures keeps { KeepsSquares S.knows S.content S.stored S.most squares.old squares.new }
-    ensures needed { result ≡ Err Full → (universe : Universe) → universe.rule ≡ rule → ((x y : ℤ) → tree_cell (S.content squares.old root) x y ≡ universe.cell x y)
-        → SomeRoot MAX_LEVEL (S.needs_node squares.new) universe (depth (S.content squares.old root)) }
+    ensures needed { result ≡ Err Full → (universe : Universe) → universe.rule ≡ rule
+        → ((x y : ℤ) → tree_cell (S.content squares.old root) x y ≡ universe.cell x y)
+        → SomeRoot MAX_LEVEL (S.needs_node squares.new) universe
+        (depth (S.content squares.old root)) }
 {
     let least = least_level(&rule);
     let root = grow_to(squares, root, least)?;
@@ -131,11 +148,15 @@ fn trimmed_pattern<S: Squares>(
 
 /// The square of the last node line, or a blank one.
 fn last_square<S: Squares>(squares: &S, ids: &[Id]) -> Id
-    requires { (file : Macrocell) × IsValid MAX_LEVEL file × AreSquaresOf (S.knows squares.now) (S.content squares.now) file.lines ids.now }
+    requires { (file : Macrocell) × IsValid MAX_LEVEL file
+        × AreSquaresOf (S.knows squares.now) (S.content squares.now) file.lines ids.now }
     ensures known { S.knows squares.now result }
     ensures high { 1 ≤ depth (S.content squares.now result) }
-    ensures level { (file : Macrocell) → IsValid MAX_LEVEL file → AreSquaresOf (S.knows squares.now) (S.content squares.now) file.lines ids.now → depth (S.content squares.now result) ≡ max 1 (root_level file.lines) }
-    ensures cells { (file : Macrocell) → IsValid MAX_LEVEL file → AreSquaresOf (S.knows squares.now) (S.content squares.now) file.lines ids.now
+    ensures level { (file : Macrocell) → IsValid MAX_LEVEL file
+        → AreSquaresOf (S.knows squares.now) (S.content squares.now) file.lines ids.now
+        → depth (S.content squares.now result) ≡ max 1 (root_level file.lines) }
+    ensures cells { (file : Macrocell) → IsValid MAX_LEVEL file
+        → AreSquaresOf (S.knows squares.now) (S.content squares.now) file.lines ids.now
         → (x y : ℤ) → tree_cell (S.content squares.now result) x y ≡ cell file x y }
 {
     match ids.last() {
@@ -163,7 +184,8 @@ impl Progress {
         requires { IsOpen self.old }
         ensures ready { IsReady line.now self.new }
         ensures lines { taken self.new ≡ taken self.old }
-        ensures stands { (store : Nodes) → StandsFor (IsKnown store) (content store) self.old → StandsFor (IsKnown store) (content store) self.new }
+        ensures stands { (store : Nodes) → StandsFor (IsKnown store) (content store) self.old
+            → StandsFor (IsKnown store) (content store) self.new }
     {
         if matches!(self, Progress::Undecided) {
             *self = Progress::begun(alloc, line);
@@ -193,8 +215,10 @@ impl Progress {
         ensures lines { OnOk result (taken self.new ≡ taken self.old ++ line.now ∷ []) }
         ensures begun { OnOk result (IsOpen self.new) }
         ensures stands { OnOk result (StandsFor (IsKnown store.new) (content store.new) self.new) }
-        ensures fault { IfErr result (λ kind. IsWantKind (held store.new) store.new.limit kind ⊎ Breaks MAX_LEVEL (taken self.old) line.now kind) }
-        ensures needed { result ≡ Err Full → SomeOfLines MAX_LEVEL (IsNew store.new) (taken self.old ++ line.now ∷ []) }
+        ensures fault { IfErr result (λ kind. IsWantKind (held store.new) store.new.limit kind
+            ⊎ Breaks MAX_LEVEL (taken self.old) line.now kind) }
+        ensures needed { result ≡ Err Full
+            → SomeOfLines MAX_LEVEL (IsNew store.new) (taken self.old ++ line.now ∷ []) }
         ensures keeps { Keeps store.old store.new }
     {
         self.begin(alloc, line);
@@ -211,8 +235,12 @@ impl Progress {
     pub(crate) fn end(self, store: &mut Shared) -> Result<Pattern, Kind>
         requires begun { IsOpen self }
         requires stands { StandsFor (IsKnown store.old) (content store.old) self }
-        ensures pattern { IfOk result (λ pattern. (universe : Universe) × Says MAX_LEVEL (taken self) universe × IsPatternOf MAX_LEVEL (IsKnown store.new) (content store.new) universe pattern) }
-        ensures fault { IfErr result (λ kind. IsWantKind (held store.new) store.new.limit kind ⊎ ((kind ≡ NoHeader) × LacksHeader MAX_LEVEL (taken self) × (is_macrocell (taken self) ≡ false))) }
+        ensures pattern { IfOk result (λ pattern. (universe : Universe)
+            × Says MAX_LEVEL (taken self) universe
+            × IsPatternOf MAX_LEVEL (IsKnown store.new) (content store.new) universe pattern) }
+        ensures fault { IfErr result (λ kind. IsWantKind (held store.new) store.new.limit kind
+            ⊎ ((kind ≡ NoHeader) × LacksHeader MAX_LEVEL (taken self)
+            × (is_macrocell (taken self) ≡ false))) }
         ensures needed { result ≡ Err Full → SomeAtEnd MAX_LEVEL (IsNew store.new) (taken self) }
         ensures keeps { Keeps store.old store.new }
     {

@@ -75,10 +75,14 @@ fn leaf_square<S: Squares>(squares: &mut S, rows: &[u8; 8]) -> Result<Id, Kind>
 /// earlier line.
 fn quarter<S: Squares>(squares: &S, ids: &[Id], level: u8, number: u64) -> Id
     requires level { level < MAX_LEVEL }
-    requires quarter { (lines : List LineValue) × ((rule : RuleValue) × (is_quarter rule (map level_of lines) (level + 1) number ≡ true)) × AreSquaresOf (S.knows squares.now) (S.content squares.now) lines ids.now }
+    requires quarter { (lines : List LineValue)
+        × ((rule : RuleValue) × (is_quarter rule (map level_of lines) (level + 1) number ≡ true))
+        × AreSquaresOf (S.knows squares.now) (S.content squares.now) lines ids.now }
     ensures known { S.knows squares.now result }
     ensures level { depth (S.content squares.now result) ≡ level }
-    ensures square { (lines : List LineValue) (rule : RuleValue) → is_quarter rule (map level_of lines) (level + 1) number ≡ true → AreSquaresOf (S.knows squares.now) (S.content squares.now) lines ids.now
+    ensures square { (lines : List LineValue) (rule : RuleValue)
+        → is_quarter rule (map level_of lines) (level + 1) number ≡ true
+        → AreSquaresOf (S.knows squares.now) (S.content squares.now) lines ids.now
         → S.content squares.now result ≡ tree_of lines level number }
 {
     if level == 0 {
@@ -92,13 +96,20 @@ fn quarter<S: Squares>(squares: &S, ids: &[Id], level: u8, number: u64) -> Id
 
 /// The square of a node line, where these are the squares of the lines before it.
 pub(crate) fn line_square<S: Squares>(squares: &mut S, ids: &[Id], line: Line) -> Result<Id, Kind>
-    requires line { (lines : List LineValue) × ((rule : RuleValue) × IsSquare MAX_LEVEL rule (map level_of lines) line) × AreSquaresOf (S.knows squares.old) (S.content squares.old) lines ids.now }
+    requires line { (lines : List LineValue)
+        × ((rule : RuleValue) × IsSquare MAX_LEVEL rule (map level_of lines) line)
+        × AreSquaresOf (S.knows squares.old) (S.content squares.old) lines ids.now }
     ensures known { IfOk result (S.knows squares.new) }
-    ensures square { (lines : List LineValue) (rule : RuleValue) → IsSquare MAX_LEVEL rule (map level_of lines) line → AreSquaresOf (S.knows squares.old) (S.content squares.old) lines ids.now
-        → IfOk result (λ id. S.content squares.new id ≡ line_tree (tree_of lines (level_of line - 1)) line) }
+    ensures square { (lines : List LineValue) (rule : RuleValue)
+        → IsSquare MAX_LEVEL rule (map level_of lines) line
+        → AreSquaresOf (S.knows squares.old) (S.content squares.old) lines ids.now
+        → IfOk result
+        (λ id. S.content squares.new id ≡ line_tree (tree_of lines (level_of line - 1)) line) }
     ensures keeps { KeepsSquares S.knows S.content S.stored S.most squares.old squares.new }
     ensures refusals { IfErr result (IsWantKind (S.stored squares.new) (S.most squares.new)) }
-    ensures needed { (lines : List LineValue) (rule : RuleValue) → IsSquare MAX_LEVEL rule (map level_of lines) line → AreSquaresOf (S.knows squares.old) (S.content squares.old) lines ids.now
+    ensures needed { (lines : List LineValue) (rule : RuleValue)
+        → IsSquare MAX_LEVEL rule (map level_of lines) line
+        → AreSquaresOf (S.knows squares.old) (S.content squares.old) lines ids.now
         → OnErr result (SomeOfLine (S.needs_node squares.new) lines line) }
 {
     match line {
@@ -119,11 +130,14 @@ pub(crate) fn grow_to<S: Squares>(squares: &mut S, id: Id, level: u8) -> Result<
     requires low { 1 ≤ depth (S.content squares.old id) }
     requires high { level ≤ MAX_LEVEL }
     ensures known { IfOk result (S.knows squares.new) }
-    ensures level { IfOk result (λ r. depth (S.content squares.new r) ≡ max level (depth (S.content squares.old id))) }
-    ensures cells { IfOk result (λ r. (x y : ℤ) → tree_cell (S.content squares.new r) x y ≡ tree_cell (S.content squares.old id) x y) }
+    ensures level { IfOk result
+        (λ r. depth (S.content squares.new r) ≡ max level (depth (S.content squares.old id))) }
+    ensures cells { IfOk result (λ r. (x y : ℤ)
+        → tree_cell (S.content squares.new r) x y ≡ tree_cell (S.content squares.old id) x y) }
     ensures keeps { KeepsSquares S.knows S.content S.stored S.most squares.old squares.new }
     ensures refusals { IfErr result (IsWantKind (S.stored squares.new) (S.most squares.new)) }
-    ensures needed { OnErr result (SomeGrown (S.needs_node squares.new) (S.content squares.old id) level) }
+    ensures needed { OnErr result
+        (SomeGrown (S.needs_node squares.new) (S.content squares.old id) level) }
 {
     if level <= squares.level(id) {
         return Ok(id);

@@ -35,7 +35,8 @@ impl Front {
     pub(crate) fn new(alloc: Global) -> Front
         ensures front { IsFrontOf result }
         ensures bytes { bytes_of result.pieces.lines ≡ [] }
-        ensures stands { (store : Nodes) → StandsFor (IsKnown store) (content store) result.progress }
+        ensures stands { (store : Nodes)
+            → StandsFor (IsKnown store) (content store) result.progress }
     {
         Front {
             alloc,
@@ -58,7 +59,8 @@ impl Front {
         requires { IsOpen self.now.progress }
         ensures going { IfSome result (λ _. IsOver self.now.progress → ⊥) }
         ensures end { IfSome result (λ end. position (λ b. b == byte "\n") bytes.now ≡ Some end) }
-        ensures none { result ≡ None → IsOver self.now.progress ⊎ (position (λ b. b == byte "\n") bytes.now ≡ None) }
+        ensures none { result ≡ None → IsOver self.now.progress
+            ⊎ (position (λ b. b == byte "\n") bytes.now ≡ None) }
     {
         if self.progress.is_over() {
             None
@@ -71,14 +73,18 @@ impl Front {
     fn take_line(&mut self, store: &mut Shared, line: &[u8]) -> Result<(), Fault>
         requires begun { IsOpen self.old.progress }
         requires stands { StandsFor (IsKnown store.old) (content store.old) self.old.progress }
-        ensures lines { OnOk result (taken self.new.progress ≡ taken self.old.progress ++ line.now ∷ []) }
+        ensures lines { OnOk result
+            (taken self.new.progress ≡ taken self.old.progress ++ line.now ∷ []) }
         ensures begun { OnOk result (IsOpen self.new.progress) }
-        ensures stands { OnOk result (StandsFor (IsKnown store.new) (content store.new) self.new.progress) }
+        ensures stands { OnOk result
+            (StandsFor (IsKnown store.new) (content store.new) self.new.progress) }
         ensures count { OnOk result (self.new.ended ≡ min (self.old.ended + 1) (2 ^ 64 - 1)) }
         ensures kept { self.new.kept ≡ self.old.kept }
         ensures pieces { self.new.pieces ≡ self.old.pieces }
-        ensures fault { IfErr result (λ fault. IsWant store.new fault ⊎ IsLineFault MAX_LEVEL (taken self.old.progress) line.now self.old.ended fault) }
-        ensures needed { result ≡ Err (fault_of Full) → SomeOfLines MAX_LEVEL (IsNew store.new) (taken self.old.progress ++ line.now ∷ []) }
+        ensures fault { IfErr result (λ fault. IsWant store.new fault
+            ⊎ IsLineFault MAX_LEVEL (taken self.old.progress) line.now self.old.ended fault) }
+        ensures needed { result ≡ Err (fault_of Full)
+            → SomeOfLines MAX_LEVEL (IsNew store.new) (taken self.old.progress ++ line.now ∷ []) }
         ensures keeps { Keeps store.old store.new }
     {
         match self.progress.take_line(self.alloc, store, line) {
@@ -92,13 +98,15 @@ impl Front {
 
     /// Keeps more bytes of the line that isn't whole.
     fn keep(&mut self, more: &[u8]) -> Result<(), Fault>
-        ensures kept { OnOk result ((self.new.kept.items ≡ self.old.kept.items ++ more.now) × (length self.old.kept.items + length more.now ≤ 2 ^ 20)) }
+        ensures kept { OnOk result ((self.new.kept.items ≡ self.old.kept.items ++ more.now)
+            × (length self.old.kept.items + length more.now ≤ 2 ^ 20)) }
         ensures short { length self.old.kept.items ≤ 2 ^ 20 → length self.new.kept.items ≤ 2 ^ 20 }
         ensures progress { self.new.progress ≡ self.old.progress }
         ensures count { self.new.ended ≡ self.old.ended }
         ensures pieces { self.new.pieces ≡ self.old.pieces }
         ensures fault { IfErr result (λ fault. (fault ≡ fault_of Memory)
-            ⊎ ((fault ≡ fault_at (min (self.old.ended + 1) (2 ^ 64 - 1)) Kind.LineTooLong) × (2 ^ 20 < length self.old.kept.items + length more.now))) }
+            ⊎ ((fault ≡ fault_at (min (self.old.ended + 1) (2 ^ 64 - 1)) Kind.LineTooLong)
+            × (2 ^ 20 < length self.old.kept.items + length more.now))) }
     {
         if !line_fits(self.kept.len() as u64, more.len() as u64) {
             return Err(self.fault_here(Kind::LineTooLong));
@@ -111,14 +119,20 @@ impl Front {
     fn take_kept(&mut self, store: &mut Shared) -> Result<(), Fault>
         requires begun { IsOpen self.old.progress }
         requires stands { StandsFor (IsKnown store.old) (content store.old) self.old.progress }
-        ensures lines { OnOk result (taken self.new.progress ≡ taken self.old.progress ++ self.old.kept.items ∷ []) }
+        ensures lines { OnOk result
+            (taken self.new.progress ≡ taken self.old.progress ++ self.old.kept.items ∷ []) }
         ensures begun { OnOk result (IsOpen self.new.progress) }
-        ensures stands { OnOk result (StandsFor (IsKnown store.new) (content store.new) self.new.progress) }
+        ensures stands { OnOk result
+            (StandsFor (IsKnown store.new) (content store.new) self.new.progress) }
         ensures count { OnOk result (self.new.ended ≡ min (self.old.ended + 1) (2 ^ 64 - 1)) }
         ensures kept { self.new.kept.items ≡ [] }
         ensures pieces { self.new.pieces ≡ self.old.pieces }
-        ensures fault { IfErr result (λ fault. IsWant store.new fault ⊎ IsLineFault MAX_LEVEL (taken self.old.progress) self.old.kept.items self.old.ended fault) }
-        ensures needed { result ≡ Err (fault_of Full) → SomeOfLines MAX_LEVEL (IsNew store.new) (taken self.old.progress ++ self.old.kept.items ∷ []) }
+        ensures fault { IfErr result (λ fault. IsWant store.new fault
+            ⊎ IsLineFault MAX_LEVEL (taken self.old.progress) self.old.kept.items self.old.ended
+            fault) }
+        ensures needed { result ≡ Err (fault_of Full)
+            → SomeOfLines MAX_LEVEL (IsNew store.new)
+            (taken self.old.progress ++ self.old.kept.items ∷ []) }
         ensures keeps { Keeps store.old store.new }
     {
         let line = mem::replace(&mut self.kept, Vec::new(self.alloc));
@@ -131,15 +145,21 @@ impl Front {
         requires begun { IsOpen self.old.progress }
         requires stands { StandsFor (IsKnown store.old) (content store.old) self.old.progress }
         requires short { length self.old.kept.items ≤ 2 ^ 20 }
-        ensures lines { OnOk result (taken self.new.progress ≡ taken self.old.progress ++ (self.old.kept.items ++ end.now) ∷ []) }
+        ensures lines { OnOk result (taken self.new.progress
+            ≡ taken self.old.progress ++ (self.old.kept.items ++ end.now) ∷ []) }
         ensures begun { OnOk result (IsOpen self.new.progress) }
-        ensures stands { OnOk result (StandsFor (IsKnown store.new) (content store.new) self.new.progress) }
+        ensures stands { OnOk result
+            (StandsFor (IsKnown store.new) (content store.new) self.new.progress) }
         ensures count { OnOk result (self.new.ended ≡ min (self.old.ended + 1) (2 ^ 64 - 1)) }
         ensures kept { OnOk result (self.new.kept.items ≡ []) }
         ensures short { length self.new.kept.items ≤ 2 ^ 20 }
         ensures pieces { self.new.pieces ≡ self.old.pieces }
-        ensures fault { IfErr result (λ fault. IsWant store.new fault ⊎ IsLineFault MAX_LEVEL (taken self.old.progress) (self.old.kept.items ++ end.now) self.old.ended fault) }
-        ensures needed { result ≡ Err (fault_of Full) → SomeOfLines MAX_LEVEL (IsNew store.new) (taken self.old.progress ++ (self.old.kept.items ++ end.now) ∷ []) }
+        ensures fault { IfErr result (λ fault. IsWant store.new fault
+            ⊎ IsLineFault MAX_LEVEL (taken self.old.progress) (self.old.kept.items ++ end.now)
+            self.old.ended fault) }
+        ensures needed { result ≡ Err (fault_of Full)
+            → SomeOfLines MAX_LEVEL (IsNew store.new)
+            (taken self.old.progress ++ (self.old.kept.items ++ end.now) ∷ []) }
         ensures keeps { Keeps store.old store.new }
     {
         if self.kept.is_empty() {
@@ -156,12 +176,17 @@ impl Front {
         requires going { IsOver self.old.progress → ⊥ }
         requires no_feed { has_no_feed end.now ≡ true }
         ensures front { OnOk result (IsFrontOf self.new) }
-        ensures bytes { OnOk result (bytes_of self.new.pieces.lines ≡ bytes_of self.old.pieces.lines ++ end.now ++ codes "\n") }
-        ensures stands { OnOk result (StandsFor (IsKnown store.new) (content store.new) self.new.progress) }
+        ensures bytes { OnOk result (bytes_of self.new.pieces.lines
+            ≡ bytes_of self.old.pieces.lines ++ end.now ++ codes "\n") }
+        ensures stands { OnOk result
+            (StandsFor (IsKnown store.new) (content store.new) self.new.progress) }
         ensures short { length self.new.kept.items ≤ 2 ^ 20 }
         ensures fault { IfErr result (λ fault. IsWant store.new fault
-            ⊎ ((rest : List ℕ) → RefusesFront MAX_LEVEL (bytes_of self.old.pieces.lines ++ end.now ++ codes "\n" ++ rest) fault)) }
-        ensures needed { result ≡ Err (fault_of Full) → (rest : List ℕ) → LacksForFront MAX_LEVEL (bytes_of self.old.pieces.lines ++ end.now ++ codes "\n" ++ rest) store.new }
+            ⊎ ((rest : List ℕ) → RefusesFront MAX_LEVEL
+            (bytes_of self.old.pieces.lines ++ end.now ++ codes "\n" ++ rest) fault)) }
+        ensures needed { result ≡ Err (fault_of Full) → (rest : List ℕ)
+            → LacksForFront MAX_LEVEL
+            (bytes_of self.old.pieces.lines ++ end.now ++ codes "\n" ++ rest) store.new }
         ensures keeps { Keeps store.old store.new }
     {
         self.take_ended(store, end)?;
@@ -174,10 +199,12 @@ impl Front {
         requires front { IsFrontOf self.old }
         requires last { IsOver self.old.progress ⊎ (has_no_feed rest.now ≡ true) }
         ensures front { OnOk result (IsFrontOf self.new) }
-        ensures bytes { OnOk result (bytes_of self.new.pieces.lines ≡ bytes_of self.old.pieces.lines ++ rest.now) }
+        ensures bytes { OnOk result
+            (bytes_of self.new.pieces.lines ≡ bytes_of self.old.pieces.lines ++ rest.now) }
         ensures progress { self.new.progress ≡ self.old.progress }
         ensures short { length self.new.kept.items ≤ 2 ^ 20 }
-        ensures fault { IfErr result (λ fault. (fault ≡ fault_of Memory) ⊎ RefusesFront MAX_LEVEL (bytes_of self.old.pieces.lines ++ rest.now) fault) }
+        ensures fault { IfErr result (λ fault. (fault ≡ fault_of Memory)
+            ⊎ RefusesFront MAX_LEVEL (bytes_of self.old.pieces.lines ++ rest.now) fault) }
     {
         if !self.progress.is_over() {
             self.keep(rest)?;
@@ -191,11 +218,15 @@ impl Front {
         requires front { IsFrontOf self.old }
         requires stands { StandsFor (IsKnown store.old) (content store.old) self.old.progress }
         ensures front { OnOk result (IsFrontOf self.new) }
-        ensures bytes { OnOk result (bytes_of self.new.pieces.lines ≡ bytes_of self.old.pieces.lines ++ piece.now) }
-        ensures stands { OnOk result (StandsFor (IsKnown store.new) (content store.new) self.new.progress) }
+        ensures bytes { OnOk result
+            (bytes_of self.new.pieces.lines ≡ bytes_of self.old.pieces.lines ++ piece.now) }
+        ensures stands { OnOk result
+            (StandsFor (IsKnown store.new) (content store.new) self.new.progress) }
         ensures short { length self.new.kept.items ≤ 2 ^ 20 }
-        ensures fault { IfErr result (λ fault. IsWant store.new fault ⊎ RefusesFront MAX_LEVEL (bytes_of self.old.pieces.lines ++ piece.now) fault) }
-        ensures needed { result ≡ Err (fault_of Full) → LacksForFront MAX_LEVEL (bytes_of self.old.pieces.lines ++ piece.now) store.new }
+        ensures fault { IfErr result (λ fault. IsWant store.new fault
+            ⊎ RefusesFront MAX_LEVEL (bytes_of self.old.pieces.lines ++ piece.now) fault) }
+        ensures needed { result ≡ Err (fault_of Full)
+            → LacksForFront MAX_LEVEL (bytes_of self.old.pieces.lines ++ piece.now) store.new }
         ensures keeps { Keeps store.old store.new }
     {
         let mut rest = piece;
@@ -210,10 +241,14 @@ impl Front {
     fn take_rest(&mut self, store: &mut Shared) -> Result<(), Fault>
         requires front { IsFrontOf self.old }
         requires stands { StandsFor (IsKnown store.old) (content store.old) self.old.progress }
-        ensures end { OnOk result (IsEnd (bytes_of self.old.pieces.lines) self.new.ended self.new.progress) }
-        ensures stands { OnOk result (StandsFor (IsKnown store.new) (content store.new) self.new.progress) }
-        ensures fault { IfErr result (RefusesIn MAX_LEVEL (bytes_of self.old.pieces.lines) store.new) }
-        ensures needed { result ≡ Err (fault_of Full) → LacksFor MAX_LEVEL (bytes_of self.old.pieces.lines) store.new }
+        ensures end { OnOk result
+            (IsEnd (bytes_of self.old.pieces.lines) self.new.ended self.new.progress) }
+        ensures stands { OnOk result
+            (StandsFor (IsKnown store.new) (content store.new) self.new.progress) }
+        ensures fault { IfErr result
+            (RefusesIn MAX_LEVEL (bytes_of self.old.pieces.lines) store.new) }
+        ensures needed { result ≡ Err (fault_of Full)
+            → LacksFor MAX_LEVEL (bytes_of self.old.pieces.lines) store.new }
         ensures keeps { Keeps store.old store.new }
     {
         if self.kept.is_empty() {
@@ -228,7 +263,8 @@ impl Front {
         requires stands { StandsFor (IsKnown store.old) (content store.old) self.progress }
         ensures pattern { IfOk result (IsRead MAX_LEVEL (bytes_of self.pieces.lines) store.new) }
         ensures fault { IfErr result (RefusesIn MAX_LEVEL (bytes_of self.pieces.lines) store.new) }
-        ensures needed { result ≡ Err (fault_of Full) → LacksFor MAX_LEVEL (bytes_of self.pieces.lines) store.new }
+        ensures needed { result ≡ Err (fault_of Full)
+            → LacksFor MAX_LEVEL (bytes_of self.pieces.lines) store.new }
         ensures keeps { Keeps store.old store.new }
     {
         let mut front = self;

@@ -9,6 +9,7 @@ ghost use Rattle.life_canon.specs.Laws.{CanonicalIsLeast, SquaresHavePlaces, Wid
 ghost use Rattle.life_canon.specs.Laws.{SquaresAreCentred, CentredSquaresTellCells};
 ghost use Rattle.life_canon.specs.Laws.{PatternsFit, PatternsStay, PatternsTellFiles, ReadersStand};
 ghost use Rattle.life_canon.specs.Laws.{FaultsStay, LengthsStay, LengthHidesNoFault};
+ghost use Rattle.life_canon.specs.Room.{FewSquares, RoomSuffices};
 
 /// No lines are a file of both formats.
 pub fn formats_differ()
@@ -145,4 +146,15 @@ pub fn lengths_stay()
 /// of a line that ends in them can be told of them.
 pub fn length_hides_no_fault()
     ensures { LengthHidesNoFault MAX_LEVEL }
+{}
+
+/// A file of n bytes needs at most 14 n + 264 squares that aren't blank.
+pub fn few_squares()
+    ensures { FewSquares }
+{}
+
+/// A store that lacks a square of a file, and holds only squares of a list and squares of the file, each once, holds fewer than the list has and
+/// 14 n + 264 more: so it is not full, if its limit leaves room for these.
+pub fn room_suffices()
+    ensures { RoomSuffices }
 {}

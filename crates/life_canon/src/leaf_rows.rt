@@ -25,7 +25,8 @@ fn two_rows<S: Squares>(squares: &S, id: Id) -> [u8; 2]
     requires known { S.knows squares.now id }
     requires level { depth (S.content squares.now id) ≡ 1 }
     requires states { HasStatesUpTo 1 (S.content squares.now id) }
-    ensures rows { result ≡ row_of_two (S.content squares.now id) 0 ∷ row_of_two (S.content squares.now id) 1 ∷ [] }
+    ensures rows { result ≡ row_of_two (S.content squares.now id) 0
+        ∷ row_of_two (S.content squares.now id) 1 ∷ [] }
     ensures small { (y : ℕ) → slice_index result y < 4 }
 {
     let Quarters { nw, ne, sw, se } = divide(squares, id);
@@ -38,7 +39,8 @@ fn two_rows<S: Squares>(squares: &S, id: Id) -> [u8; 2]
 /// The four rows of the square of level 2 with these cells, as `Squares::small_cells` tells them.
 #[inline(always)]
 fn rows_of_cells(cells: u16) -> [u8; 4]
-    ensures rows { result ≡ row_of_four (four cells) 0 ∷ row_of_four (four cells) 1 ∷ row_of_four (four cells) 2 ∷ row_of_four (four cells) 3 ∷ [] }
+    ensures rows { result ≡ row_of_four (four cells) 0 ∷ row_of_four (four cells) 1
+        ∷ row_of_four (four cells) 2 ∷ row_of_four (four cells) 3 ∷ [] }
     ensures small { (y : ℕ) → slice_index result y < 16 }
 {
     let nw = (cells / 4096) as u8;
@@ -59,7 +61,9 @@ fn four_rows<S: Squares>(squares: &S, id: Id) -> [u8; 4]
     requires known { S.knows squares.now id }
     requires level { depth (S.content squares.now id) ≡ 2 }
     requires states { HasStatesUpTo 1 (S.content squares.now id) }
-    ensures rows { result ≡ row_of_four (S.content squares.now id) 0 ∷ row_of_four (S.content squares.now id) 1 ∷ row_of_four (S.content squares.now id) 2 ∷ row_of_four (S.content squares.now id) 3 ∷ [] }
+    ensures rows { result ≡ row_of_four (S.content squares.now id) 0
+        ∷ row_of_four (S.content squares.now id) 1 ∷ row_of_four (S.content squares.now id) 2
+        ∷ row_of_four (S.content squares.now id) 3 ∷ [] }
     ensures small { (y : ℕ) → slice_index result y < 16 }
 {
     if let Some(cells) = squares.small_cells(id) {
@@ -83,7 +87,10 @@ fn four_rows<S: Squares>(squares: &S, id: Id) -> [u8; 4]
 fn beside(west: [u8; 4], east: [u8; 4]) -> [u8; 4]
     requires west { (y : ℕ) → slice_index west y < 16 }
     requires east { (y : ℕ) → slice_index east y < 16 }
-    ensures { result ≡ (16 * slice_index west 0 + slice_index east 0) ∷ (16 * slice_index west 1 + slice_index east 1) ∷ (16 * slice_index west 2 + slice_index east 2) ∷ (16 * slice_index west 3 + slice_index east 3) ∷ [] }
+    ensures { result ≡ (16 * slice_index west 0 + slice_index east 0)
+        ∷ (16 * slice_index west 1 + slice_index east 1)
+        ∷ (16 * slice_index west 2 + slice_index east 2)
+        ∷ (16 * slice_index west 3 + slice_index east 3) ∷ [] }
 {
     [
         16 * west[0] + east[0],

@@ -21,9 +21,9 @@ mod walking;
 mod writing;
 
 pub use comparing::{are_same, same};
-pub use converting::{canon, rle_of, to_rle};
+pub use converting::{MOST_CELLS, canon, rle_of, to_rle};
 pub use numbering::number;
-pub use pattern::Pattern;
+pub use pattern::{Pattern, least_level};
 pub use reader::Reader;
 pub use reading::read;
 pub use running::{read_from, run_canon, run_canon_within};

@@ -33,7 +33,8 @@ fn holds<S: SharedSquares>(squares: &S, known: &IdList, id: Id) -> bool
 fn add<S: SharedSquares>(squares: &S, known: &mut IdList, id: Id) -> Result<(), Kind>
     requires id { S.knows squares.now id }
     requires known { All (S.knows squares.now) known.old }
-    ensures added { OnOk result (map (S.content squares.now) known.new ≡ with_new (map (S.content squares.now) known.old) (S.content squares.now id)) }
+    ensures added { OnOk result (map (S.content squares.now) known.new
+        ≡ with_new (map (S.content squares.now) known.old) (S.content squares.now id)) }
     ensures known { OnOk result (All (S.knows squares.now) known.new) }
     ensures kind { IfErr result (λ kind. kind ≡ Memory) }
 {
@@ -55,7 +56,9 @@ fn visit<S: SharedSquares>(
     requires level { level ≡ depth (S.content squares.now id) }
     requires known { All (S.knows squares.now) known.old }
     requires closed { IsClosed least (map (S.content squares.now) known.old) }
-    ensures walked { OnOk result (map (S.content squares.now) known.new ≡ with_all (map (S.content squares.now) known.old) (walk (S.content squares.now id) least)) }
+    ensures walked { OnOk result (map (S.content squares.now) known.new
+        ≡ with_all (map (S.content squares.now) known.old)
+        (walk (S.content squares.now id) least)) }
     ensures known { OnOk result (All (S.knows squares.now) known.new) }
     ensures closed { OnOk result (IsClosed least (map (S.content squares.now) known.new)) }
     ensures kind { IfErr result (λ kind. kind ≡ Memory) }
@@ -86,7 +89,8 @@ pub(crate) fn listed<S: SharedSquares>(
 ) -> Result<IdList, Kind>
     requires least { 1 ≤ least }
     requires id { S.knows squares.now id }
-    ensures listed { IfOk result (λ known. map (S.content squares.now) known ≡ listed (S.content squares.now id) least) }
+    ensures listed { IfOk result
+        (λ known. map (S.content squares.now) known ≡ listed (S.content squares.now id) least) }
     ensures known { IfOk result (λ known. All (S.knows squares.now) known) }
     ensures kind { IfErr result (λ kind. kind ≡ Memory) }
 {
@@ -99,7 +103,9 @@ pub(crate) fn listed<S: SharedSquares>(
 fn place_of<S: SharedSquares>(squares: &S, known: &IdList, id: Id) -> Option<usize>
     requires id { S.knows squares.now id }
     requires known { All (S.knows squares.now) known.now }
-    ensures place { is_in (map (S.content squares.now) known.now) (S.content squares.now id) ≡ true → result ≡ Some (place (map (S.content squares.now) known.now) (S.content squares.now id)) }
+    ensures place { is_in (map (S.content squares.now) known.now) (S.content squares.now id)
+        ≡ true
+        → result ≡ Some (place (map (S.content squares.now) known.now) (S.content squares.now id)) }
     ensures small { IfSome result (λ index. index < 2 ^ 32) }
 {
     let _ = squares;
@@ -112,8 +118,11 @@ pub(crate) fn number_of<S: SharedSquares>(squares: &S, known: &IdList, level: u8
     requires id { S.knows squares.now id }
     requires level { level ≡ depth (S.content squares.now id) }
     requires known { All (S.knows squares.now) known.now }
-    requires there { 1 ≤ depth (S.content squares.now id) → is_blank_tree (S.content squares.now id) ≡ false → is_in (map (S.content squares.now) known.now) (S.content squares.now id) ≡ true }
-    ensures { result ≡ number_of (map (S.content squares.now) known.now) (S.content squares.now id) }
+    requires there { 1 ≤ depth (S.content squares.now id)
+        → is_blank_tree (S.content squares.now id) ≡ false
+        → is_in (map (S.content squares.now) known.now) (S.content squares.now id) ≡ true }
+    ensures { result ≡ number_of (map (S.content squares.now) known.now)
+        (S.content squares.now id) }
 {
     if let Some(state) = squares.state(id) {
         return u64::from(state);

@@ -45,8 +45,10 @@ pub(crate) fn is_leaf(rule: &Rule, level: u8) -> bool
 pub(crate) fn line_of<S: SharedSquares>(squares: &S, rule: &Rule, known: &IdList, id: Id) -> Line
     requires id { S.knows squares.now id }
     requires known { All (S.knows squares.now) known.now }
-    requires listed { IsListed rule.now (map (S.content squares.now) known.now) (S.content squares.now id) }
-    ensures { result ≡ line_of rule.now (map (S.content squares.now) known.now) (S.content squares.now id) }
+    requires listed { IsListed rule.now (map (S.content squares.now) known.now)
+        (S.content squares.now id) }
+    ensures { result ≡ line_of rule.now (map (S.content squares.now) known.now)
+        (S.content squares.now id) }
 {
     let level = squares.level(id);
     if is_leaf(rule, level) {
@@ -70,8 +72,10 @@ fn lines_for<S: SharedSquares>(
     known: &IdList,
 ) -> Result<Vec<Line>, Kind>
     requires known { All (S.knows squares.now) known.now }
-    requires listed { (t : Tree) → Contains (map (S.content squares.now) known.now) t → IsListed rule.now (map (S.content squares.now) known.now) t }
-    ensures lines { IfOk result (λ lines. lines.items ≡ lines_for rule.now (map (S.content squares.now) known.now)) }
+    requires listed { (t : Tree) → Contains (map (S.content squares.now) known.now) t
+        → IsListed rule.now (map (S.content squares.now) known.now) t }
+    ensures lines { IfOk result
+        (λ lines. lines.items ≡ lines_for rule.now (map (S.content squares.now) known.now)) }
     ensures kind { IfErr result (λ kind. kind ≡ Memory) }
 {
     let mut lines = Vec::new(alloc);
@@ -84,9 +88,11 @@ fn lines_for<S: SharedSquares>(
 /// The macrocell file of a pattern, with one node line for each of its squares.
 fn numbered<S: SharedSquares>(alloc: Global, squares: &S, pattern: &Pattern) -> Result<McFile, Kind>
     requires known { S.knows squares.now pattern.now.root }
-    requires states { HasStatesUpTo (largest_state pattern.now.rule) (S.content squares.now pattern.now.root) }
+    requires states { HasStatesUpTo (largest_state pattern.now.rule)
+        (S.content squares.now pattern.now.root) }
     requires level { least_level pattern.now.rule ≤ depth (S.content squares.now pattern.now.root) }
-    ensures file { IfOk result (λ file. file ≡ square_file pattern.now.rule pattern.now.generation (S.content squares.now pattern.now.root)) }
+    ensures file { IfOk result (λ file. file ≡ square_file pattern.now.rule
+        pattern.now.generation (S.content squares.now pattern.now.root)) }
     ensures kind { IfErr result (λ kind. kind ≡ Memory) }
 {
     let known = listed(alloc, squares, least_level(&pattern.rule), pattern.root)?;
@@ -106,8 +112,10 @@ fn numbered<S: SharedSquares>(alloc: Global, squares: &S, pattern: &Pattern) -> 
 /// `Memory`, and nothing else.
 pub fn number(alloc: Global, store: &Shared, pattern: &Pattern) -> Result<McFile, Fault>
     requires { IsTrimmed store.now pattern.now }
-    ensures file { IfOk result (λ file. file ≡ canonical_file MAX_LEVEL (universe_in store.now pattern.now)) }
-    ensures least { IfOk result (λ file. IsLeast MAX_LEVEL (universe_in store.now pattern.now) (node_lines file)) }
+    ensures file { IfOk result
+        (λ file. file ≡ canonical_file MAX_LEVEL (universe_in store.now pattern.now)) }
+    ensures least { IfOk result
+        (λ file. IsLeast MAX_LEVEL (universe_in store.now pattern.now) (node_lines file)) }
     ensures memory { IfErr result (λ fault. fault ≡ fault_of Memory) }
 {
     Ok(numbered(alloc, store, pattern)?)

@@ -65,9 +65,13 @@ impl Reader {
         ensures stands { OnOk result (Stands store.new self.new) }
 
         // A line's fault is told by the call in which the line ends or grows too long, and by no later one.
-        ensures front { OnOk result ((fault : FaultValue) → RefusesFront MAX_LEVEL self.new.bytes fault → ⊥) }
-        ensures fault { self.old.spent ≡ false → IfErr result (λ fault. IsWant store.new fault ⊎ RefusesFront MAX_LEVEL (self.old.bytes ++ piece.now) fault) }
-        ensures needed { result ≡ Err (fault_of Full) → LacksForFront MAX_LEVEL (self.old.bytes ++ piece.now) store.new }
+        ensures front { OnOk result
+            ((fault : FaultValue) → RefusesFront MAX_LEVEL self.new.bytes fault → ⊥) }
+        ensures fault { self.old.spent ≡ false
+            → IfErr result (λ fault. IsWant store.new fault
+            ⊎ RefusesFront MAX_LEVEL (self.old.bytes ++ piece.now) fault) }
+        ensures needed { result ≡ Err (fault_of Full)
+            → LacksForFront MAX_LEVEL (self.old.bytes ++ piece.now) store.new }
         ensures refused { OnErr result (self.new.spent ≡ true) }
         ensures spent { self.old.spent ≡ true → IfErr result (λ fault. fault ≡ fault_of Spent) }
 
@@ -92,8 +96,10 @@ impl Reader {
     /// `Spent` after an error of `feed`. After an error too each Id of the store names the square that it named.
     pub fn finish(self, store: &mut Shared) -> Result<Pattern, Fault>
         requires { self.spent ≡ false → Stands store.old self }
-        ensures pattern { IfOk result (λ pattern. (self.spent ≡ false) × IsRead MAX_LEVEL self.bytes store.new pattern) }
-        ensures fault { self.spent ≡ false → IfErr result (λ fault. RefusesIn MAX_LEVEL self.bytes store.new fault) }
+        ensures pattern { IfOk result
+            (λ pattern. (self.spent ≡ false) × IsRead MAX_LEVEL self.bytes store.new pattern) }
+        ensures fault { self.spent ≡ false
+            → IfErr result (λ fault. RefusesIn MAX_LEVEL self.bytes store.new fault) }
         ensures needed { result ≡ Err (fault_of Full) → LacksFor MAX_LEVEL self.bytes store.new }
         ensures spent { self.spent ≡ true → IfErr result (λ fault. fault ≡ fault_of Spent) }
         ensures keeps { Keeps store.old store.new }

@@ -5,11 +5,11 @@ ghost use Rattle.std.specs.Prelude.{◌≡◌};
 use life_quad::Shared;
 
 /// How many bytes come before room is made for the first time.
-const SAMPLE: u64 = 1 << 20;
+const SAMPLE: u64 = 1 << 16;
 
 /// Room is made for no more than one node for so many bytes that are still to come, whatever the rate was: an input may be dense in its
 /// front alone.
-const LEAST_BYTES: u64 = 32;
+const LEAST_BYTES: u64 = 8;
 
 /// When room is made in a store for the squares of the rest of an input, and for how many: at the rate of the bytes before it. It changes
 /// nothing that can be seen.
@@ -32,7 +32,7 @@ impl Room {
         }
     }
 
-    /// Makes room, where it is time, behind so many bytes of the input: behind 1 MiB, and each time that they are twice as many.
+    /// Makes room, where it is time, behind so many bytes of the input: behind 64 KiB, and each time that they are twice as many.
     pub(crate) fn make(&mut self, store: &mut Shared, count: u64)
         ensures { store.new ≡ store.old }
     {

@@ -34,10 +34,14 @@ fn feed_piece(
     piece: &[u8],
 ) -> Result<Option<Fault>, Fault>
     requires { refused ≡ None → (reader.old.spent ≡ false) × Stands store.old reader.old }
-    ensures going { IfOk result (λ next. next ≡ None → (refused ≡ None) × (reader.new.spent ≡ false) × (reader.new.bytes ≡ reader.old.bytes ++ piece.now) × Stands store.new reader.new) }
-    ensures refused { IfOk result (λ next. IfSome next (λ fault. (refused ≡ Some fault) ⊎ ((refused ≡ None) × RefusesFront MAX_LEVEL (reader.old.bytes ++ piece.now) fault))) }
+    ensures going { IfOk result (λ next. next ≡ None → (refused ≡ None)
+        × (reader.new.spent ≡ false) × (reader.new.bytes ≡ reader.old.bytes ++ piece.now)
+        × Stands store.new reader.new) }
+    ensures refused { IfOk result (λ next. IfSome next (λ fault. (refused ≡ Some fault)
+        ⊎ ((refused ≡ None) × RefusesFront MAX_LEVEL (reader.old.bytes ++ piece.now) fault))) }
     ensures want { IfErr result (IsWant store.new) }
-    ensures needed { result ≡ Err (fault_of Kind.Full) → (refused ≡ None) × LacksForFront MAX_LEVEL (reader.old.bytes ++ piece.now) store.new }
+    ensures needed { result ≡ Err (fault_of Kind.Full)
+        → (refused ≡ None) × LacksForFront MAX_LEVEL (reader.old.bytes ++ piece.now) store.new }
     ensures keeps { Keeps store.old store.new }
 {
     match refused {
@@ -59,11 +63,16 @@ fn read_source<R: Source>(
 ) -> Result<Pattern, Fault>
     requires working { R.failures source.old ≡ 0 }
     requires bound { most ≤ 2 ^ 30 }
-    ensures pattern { IfOk result (λ pattern. HasRead MAX_LEVEL most store.new (source_run R.remaining R.failures source.old source.new) pattern) }
+    ensures pattern { IfOk result (λ pattern. HasRead MAX_LEVEL most store.new
+        (source_run R.remaining R.failures source.old source.new) pattern) }
     ensures works { OnOk result (R.failures source.new ≡ 0) }
-    ensures fault { IfErr result (λ fault. ReadRefuses MAX_LEVEL most store.new (source_run R.remaining R.failures source.old source.new) fault) }
-    ensures needed { result ≡ Err (fault_of Kind.Full) → LacksForRead MAX_LEVEL most store.new (source_run R.remaining R.failures source.old source.new) }
-    ensures told { R.failures source.new ≡ 1 → IsErrAnd result (λ fault. fault.kind ≡ Kind.ReadFault) }
+    ensures fault { IfErr result (λ fault. ReadRefuses MAX_LEVEL most store.new
+        (source_run R.remaining R.failures source.old source.new) fault) }
+    ensures needed { result ≡ Err (fault_of Kind.Full)
+        → LacksForRead MAX_LEVEL most store.new
+        (source_run R.remaining R.failures source.old source.new) }
+    ensures told { R.failures source.new ≡ 1
+        → IsErrAnd result (λ fault. fault.kind ≡ Kind.ReadFault) }
     ensures keeps { Keeps store.old store.new }
 {
     let mut reader = Reader::new(alloc);
@@ -107,11 +116,16 @@ pub fn read_from<R: Source>(
     source: &mut R,
 ) -> Result<Pattern, Fault>
     requires { R.failures source.old ≡ 0 }
-    ensures pattern { IfOk result (λ pattern. HasRead MAX_LEVEL (2 ^ 30) store.new (source_run R.remaining R.failures source.old source.new) pattern) }
+    ensures pattern { IfOk result (λ pattern. HasRead MAX_LEVEL (2 ^ 30) store.new
+        (source_run R.remaining R.failures source.old source.new) pattern) }
     ensures works { OnOk result (R.failures source.new ≡ 0) }
-    ensures fault { IfErr result (λ fault. ReadRefuses MAX_LEVEL (2 ^ 30) store.new (source_run R.remaining R.failures source.old source.new) fault) }
-    ensures needed { result ≡ Err (fault_of Kind.Full) → LacksForRead MAX_LEVEL (2 ^ 30) store.new (source_run R.remaining R.failures source.old source.new) }
-    ensures told { R.failures source.new ≡ 1 → IsErrAnd result (λ fault. fault.kind ≡ Kind.ReadFault) }
+    ensures fault { IfErr result (λ fault. ReadRefuses MAX_LEVEL (2 ^ 30) store.new
+        (source_run R.remaining R.failures source.old source.new) fault) }
+    ensures needed { result ≡ Err (fault_of Kind.Full)
+        → LacksForRead MAX_LEVEL (2 ^ 30) store.new
+        (source_run R.remaining R.failures source.old source.new) }
+    ensures told { R.failures source.new ≡ 1
+        → IsErrAnd result (λ fault. fault.kind ≡ Kind.ReadFault) }
     ensures keeps { Keeps store.old store.new }
 {
     read_source(alloc, store, source, LONGEST_INPUT)
@@ -136,15 +150,22 @@ pub fn run_canon_within<R: Source, W: Sink>(
     requires writes { W.failures writer.old ≡ 0 }
     requires takes { W.stalled writer.old ≡ false }
     requires bound { most ≤ 2 ^ 30 }
-    ensures ok { OnOk result (Ran MAX_LEVEL most (source_run R.remaining R.failures reader.old reader.new)
+    ensures ok { OnOk result (Ran MAX_LEVEL most
+        (source_run R.remaining R.failures reader.old reader.new)
         (sink_run W.contents W.failures W.stalled writer.old writer.new)) }
     ensures flushed { OnOk result (W.flushed writer.new ≡ true) }
-    ensures err { IfErr result (RunRefuses MAX_LEVEL most store.new (source_run R.remaining R.failures reader.old reader.new)
+    ensures err { IfErr result (RunRefuses MAX_LEVEL most store.new
+        (source_run R.remaining R.failures reader.old reader.new)
         (sink_run W.contents W.failures W.stalled writer.old writer.new)) }
-    ensures needed { result ≡ Err (fault_of Kind.Full) → LacksForRead MAX_LEVEL most store.new (source_run R.remaining R.failures reader.old reader.new) }
-    ensures unwritten { IfErr result (λ fault. fault.kind ≢ Kind.WriteFault → writer.new ≡ writer.old) }
-    ensures read_told { R.failures reader.new ≡ 1 → IsErrAnd result (λ fault. fault.kind ≡ Kind.ReadFault) }
-    ensures write_told { (W.failures writer.new ≡ 1) ⊎ (W.stalled writer.new ≡ true) → IsErrAnd result (λ fault. fault.kind ≡ Kind.WriteFault) }
+    ensures needed { result ≡ Err (fault_of Kind.Full)
+        → LacksForRead MAX_LEVEL most store.new
+        (source_run R.remaining R.failures reader.old reader.new) }
+    ensures unwritten { IfErr result
+        (λ fault. fault.kind ≢ Kind.WriteFault → writer.new ≡ writer.old) }
+    ensures read_told { R.failures reader.new ≡ 1
+        → IsErrAnd result (λ fault. fault.kind ≡ Kind.ReadFault) }
+    ensures write_told { (W.failures writer.new ≡ 1) ⊎ (W.stalled writer.new ≡ true)
+        → IsErrAnd result (λ fault. fault.kind ≡ Kind.WriteFault) }
     ensures keeps { Keeps store.old store.new }
 {
     let pattern = read_source(alloc, store, reader, most)?;
@@ -168,15 +189,22 @@ pub fn run_canon<R: Source, W: Sink>(
     requires reads { R.failures reader.old ≡ 0 }
     requires writes { W.failures writer.old ≡ 0 }
     requires takes { W.stalled writer.old ≡ false }
-    ensures ok { OnOk result (Ran MAX_LEVEL (2 ^ 30) (source_run R.remaining R.failures reader.old reader.new)
+    ensures ok { OnOk result (Ran MAX_LEVEL (2 ^ 30)
+        (source_run R.remaining R.failures reader.old reader.new)
         (sink_run W.contents W.failures W.stalled writer.old writer.new)) }
     ensures flushed { OnOk result (W.flushed writer.new ≡ true) }
-    ensures err { IfErr result (RunRefuses MAX_LEVEL (2 ^ 30) store.new (source_run R.remaining R.failures reader.old reader.new)
+    ensures err { IfErr result (RunRefuses MAX_LEVEL (2 ^ 30) store.new
+        (source_run R.remaining R.failures reader.old reader.new)
         (sink_run W.contents W.failures W.stalled writer.old writer.new)) }
-    ensures needed { result ≡ Err (fault_of Kind.Full) → LacksForRead MAX_LEVEL (2 ^ 30) store.new (source_run R.remaining R.failures reader.old reader.new) }
-    ensures unwritten { IfErr result (λ fault. fault.kind ≢ Kind.WriteFault → writer.new ≡ writer.old) }
-    ensures read_told { R.failures reader.new ≡ 1 → IsErrAnd result (λ fault. fault.kind ≡ Kind.ReadFault) }
-    ensures write_told { (W.failures writer.new ≡ 1) ⊎ (W.stalled writer.new ≡ true) → IsErrAnd result (λ fault. fault.kind ≡ Kind.WriteFault) }
+    ensures needed { result ≡ Err (fault_of Kind.Full)
+        → LacksForRead MAX_LEVEL (2 ^ 30) store.new
+        (source_run R.remaining R.failures reader.old reader.new) }
+    ensures unwritten { IfErr result
+        (λ fault. fault.kind ≢ Kind.WriteFault → writer.new ≡ writer.old) }
+    ensures read_told { R.failures reader.new ≡ 1
+        → IsErrAnd result (λ fault. fault.kind ≡ Kind.ReadFault) }
+    ensures write_told { (W.failures writer.new ≡ 1) ⊎ (W.stalled writer.new ≡ true)
+        → IsErrAnd result (λ fault. fault.kind ≡ Kind.WriteFault) }
     ensures keeps { Keeps store.old store.new }
 {
     run_canon_within(alloc, store, reader, writer, LONGEST_INPUT)

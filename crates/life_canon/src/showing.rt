@@ -19,13 +19,15 @@ ghost use Rattle.life_canon.specs.Texts.{IsShown, IsOrdered, AreOrdered, box_tex
 use crate::counting::{Counts, count_all};
 use crate::pattern::{Pattern, least_level};
 use crate::reading::read;
+use crate::writing::begin_numbers;
 use life_base::{Bounds, Fault, Kind, MAX_LEVEL, append, append_number};
 use life_quad::{Shared, bounds};
 use std::alloc::Global;
 
 /// Adds a word, the number behind it and a line feed at the end.
 fn append_line(out: &mut Vec<u8>, word: &[u8], number: u64) -> Result<(), Kind>
-    ensures ok { OnOk result (out.new.items ≡ out.old.items ++ word.now ++ decimal number ++ codes "\n") }
+    ensures ok { OnOk result
+        (out.new.items ≡ out.old.items ++ word.now ++ decimal number ++ codes "\n") }
     ensures kind { IfErr result (λ kind. kind ≡ Memory) }
 {
     append(out, word)?;
@@ -35,7 +37,8 @@ fn append_line(out: &mut Vec<u8>, word: &[u8], number: u64) -> Result<(), Kind>
 
 /// Adds a number of cells at the end.
 fn append_population(out: &mut Vec<u8>, number: u128) -> Result<(), Kind>
-    ensures ok { OnOk result (out.new.items ≡ out.old.items ++ codes "population " ++ decimal number ++ codes "\n") }
+    ensures ok { OnOk result
+        (out.new.items ≡ out.old.items ++ codes "population " ++ decimal number ++ codes "\n") }
     ensures kind { IfErr result (λ kind. kind ≡ Memory) }
 {
     append(out, b"population ")?;
@@ -80,7 +83,8 @@ fn append_box(out: &mut Vec<u8>, found: Option<Bounds>) -> Result<(), Kind>
 
 /// Adds the line of the rule at the end.
 fn append_rule(out: &mut Vec<u8>, pattern: &Pattern) -> Result<(), Kind>
-    ensures ok { OnOk result (out.new.items ≡ out.old.items ++ codes "rule " ++ rule_text pattern.now.rule ++ codes "\n") }
+    ensures ok { OnOk result (out.new.items ≡ out.old.items ++ codes "rule "
+        ++ rule_text pattern.now.rule ++ codes "\n") }
     ensures kind { IfErr result (λ kind. kind ≡ Memory) }
 {
     append(out, b"rule ")?;
@@ -91,19 +95,27 @@ fn append_rule(out: &mut Vec<u8>, pattern: &Pattern) -> Result<(), Kind>
 /// How many node lines the canonical file of a pattern has, one for each square of the walk, and how many cells aren't 0.
 fn counts_of(alloc: Global, store: &Shared, pattern: &Pattern) -> Result<Counts, Kind>
     requires { IsTrimmed store.now pattern.now }
-    ensures lines { IfOk result (λ counts. counts.squares ≡ node_lines (canonical_file MAX_LEVEL (universe_in store.now pattern.now))) }
-    ensures cells { IfOk result (λ counts. counts.cells ≡ population (content store.now pattern.now.root)) }
+    ensures lines { IfOk result (λ counts. counts.squares ≡ node_lines
+        (canonical_file MAX_LEVEL (universe_in store.now pattern.now))) }
+    ensures cells { IfOk result
+        (λ counts. counts.cells ≡ population (content store.now pattern.now.root)) }
     ensures kind { IfErr result (λ kind. kind ≡ Memory) }
 {
-    count_all(alloc, store, least_level(&pattern.rule), pattern.root)
+    let numbers = begin_numbers(alloc, store, pattern)?;
+    let least = least_level(&pattern.rule);
+    count_all(alloc, store, least, pattern.root, numbers)
 }
 
 /// The five lines of a pattern.
 fn five_lines(alloc: Global, store: &Shared, pattern: &Pattern) -> Result<Vec<u8>, Kind>
     requires trimmed { IsTrimmed store.now pattern.now }
     requires level { 1 ≤ depth (content store.now pattern.now.root) }
-    ensures text { IfOk result (λ text. (box : Option BoundsValue) × MatchOption box (is_blank_tree (content store.now pattern.now.root) ≡ true) (IsLeastBox (content store.now pattern.now.root))
-        × (text.items ≡ show_text pattern.now.rule pattern.now.generation (population (content store.now pattern.now.root)) box (node_lines (canonical_file MAX_LEVEL (universe_in store.now pattern.now))))) }
+    ensures text { IfOk result (λ text. (box : Option BoundsValue)
+        × MatchOption box (is_blank_tree (content store.now pattern.now.root) ≡ true)
+        (IsLeastBox (content store.now pattern.now.root))
+        × (text.items ≡ show_text pattern.now.rule pattern.now.generation
+        (population (content store.now pattern.now.root)) box
+        (node_lines (canonical_file MAX_LEVEL (universe_in store.now pattern.now))))) }
     ensures kind { IfErr result (λ kind. kind ≡ Memory) }
 {
     let counts = counts_of(alloc, store, pattern)?;
@@ -124,7 +136,8 @@ fn five_lines(alloc: Global, store: &Shared, pattern: &Pattern) -> Result<Vec<u8
 /// `Memory`, at no line.
 pub fn five_lines_of(alloc: Global, store: &Shared, pattern: &Pattern) -> Result<Vec<u8>, Fault>
     requires { IsOfFile MAX_LEVEL store.now pattern.now }
-    ensures text { IfOk result (λ text. (bytes : List ℕ) → IsRead MAX_LEVEL bytes store.now pattern.now → IsShown MAX_LEVEL bytes text.items) }
+    ensures text { IfOk result (λ text. (bytes : List ℕ)
+        → IsRead MAX_LEVEL bytes store.now pattern.now → IsShown MAX_LEVEL bytes text.items) }
     ensures memory { IfErr result (λ fault. fault ≡ fault_of Memory) }
 {
     Ok(five_lines(alloc, store, pattern)?)

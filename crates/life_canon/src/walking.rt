@@ -1,18 +1,15 @@
 //! The walk that numbers the squares of a square and writes their lines.
 
-ghost use Rattle.std.specs.Prelude.{◌≡◌, ◌⊎◌, ◌++◌, ◌≤◌, true, false, map, vec_capacity, All, OnOk, OnErr, IfOk, MatchOption};
+ghost use Rattle.std.specs.Prelude.{◌≡◌, ◌⊎◌, ◌++◌, ◌≤◌, true, false, map, vec_capacity, All, OnOk, OnErr, MatchOption};
 ghost use Rattle.life_base.specs.Writing.{WritesPrefix, LeavesSink};
 ghost use Rattle.life_base.specs.Tree.{depth, is_blank_tree};
-ghost use Rattle.life_mc.specs.Macrocell.{largest_state};
-ghost use Rattle.life_mc.specs.Squares.{HasStatesUpTo};
 ghost use Rattle.life_mc.specs.Writing.{node_text};
-ghost use Rattle.life_canon.specs.Universe.{is_life, least_level};
-ghost use Rattle.life_canon.specs.Listing.{is_small, is_in, with_all, walk, number_of};
-ghost use Rattle.life_canon.specs.Closed.{IsClosed};
-ghost use Rattle.life_canon.specs.Pieces.{WritesFront, WritesWalk, BreaksIn, LacksRoom, LeavesNumbered};
+ghost use Rattle.life_canon.specs.Universe.{least_level};
+ghost use Rattle.life_canon.specs.Listing.{is_small, is_in, number_of};
+ghost use Rattle.life_canon.specs.Pieces.{WritesFront, MayWalk, Walked, LacksRoom, LeavesNumbered};
 
 use crate::numbering::{is_leaf, leaf};
-use crate::writing::make_way;
+use crate::writing::{has_way, write_piece};
 use life_base::{Kind, Rule, Sink};
 use life_mc::{Line, append_line};
 use life_quad::{Id, IdNumbers, Quarters, SharedSquares, Squares, divide, is_blank_at};
@@ -28,8 +25,14 @@ fn known_number<S: SharedSquares>(
     requires id { S.knows squares.now id }
     requires level { level ≡ depth (S.content squares.now id) }
     requires numbers { All (S.knows squares.now) numbers.now.ids }
-    ensures number { MatchOption result ((1 ≤ depth (S.content squares.now id)) × (is_blank_tree (S.content squares.now id) ≡ false)) (λ number. number ≡ number_of (map (S.content squares.now) numbers.now.ids) (S.content squares.now id)) }
-    ensures there { MatchOption result (is_in (map (S.content squares.now) numbers.now.ids) (S.content squares.now id) ≡ false) (λ _. (is_small 1 (S.content squares.now id) ≡ true) ⊎ (is_in (map (S.content squares.now) numbers.now.ids) (S.content squares.now id) ≡ true)) }
+    ensures number { MatchOption result ((1 ≤ depth (S.content squares.now id))
+        × (is_blank_tree (S.content squares.now id) ≡ false))
+        (λ number. number ≡ number_of (map (S.content squares.now) numbers.now.ids)
+        (S.content squares.now id)) }
+    ensures there { MatchOption result
+        (is_in (map (S.content squares.now) numbers.now.ids) (S.content squares.now id) ≡ false)
+        (λ _. (is_small 1 (S.content squares.now id) ≡ true)
+        ⊎ (is_in (map (S.content squares.now) numbers.now.ids) (S.content squares.now id) ≡ true)) }
 {
     if let Some(state) = squares.state(id) {
         return Some(u64::from(state));
@@ -44,14 +47,18 @@ fn known_number<S: SharedSquares>(
 fn write_line<W: Sink>(line: &Line, piece: &mut Vec<u8>, writer: &mut W) -> Result<(), Kind>
     requires room { 65536 ≤ vec_capacity piece.old }
     requires works { W.failures writer.old ≡ 0 }
-    ensures front { OnOk result (WritesFront (W.contents writer.old) (W.contents writer.new) (piece.old.items ++ node_text line.now) piece.new.items) }
-    ensures prefix { OnErr result (WritesPrefix (W.contents writer.old) (W.contents writer.new) piece.old.items) }
+    ensures front { OnOk result (WritesFront (W.contents writer.old) (W.contents writer.new)
+        (piece.old.items ++ node_text line.now) piece.new.items) }
+    ensures prefix { OnErr result
+        (WritesPrefix (W.contents writer.old) (W.contents writer.new) piece.old.items) }
     ensures room { 65536 ≤ vec_capacity piece.new }
     ensures sink { LeavesSink W.failures W.stalled writer.old writer.new result }
 {
-    make_way(piece, writer)?;
-    append_line(piece, line)?;
-    Ok(())
+    if has_way(piece) {
+        return append_line(piece, line);
+    }
+    write_piece(piece, writer)?;
+    append_line(piece, line)
 }
 
 /// Writes the lines of the squares of the walk over a square of a level that have no number yet, each behind those of its quarters, and gives
@@ -68,22 +75,17 @@ pub(crate) fn write_square<S: SharedSquares, W: Sink>(
     piece: &mut Vec<u8>,
     writer: &mut W,
 ) -> Result<u64, Kind>
-    requires id { S.knows squares.now id }
-    requires level { level ≡ depth (S.content squares.now id) }
-    requires high { is_life rule.now ≡ true → 3 ≤ level }
-    requires states { HasStatesUpTo (largest_state rule.now) (S.content squares.now id) }
-    requires numbers { All (S.knows squares.now) numbers.old.ids }
-    requires closed { IsClosed (least_level rule.now) (map (S.content squares.now) numbers.old.ids) }
+    requires square { MayWalk (S.knows squares.now) (S.content squares.now) rule.now level id
+        numbers.old.ids }
     requires room { 65536 ≤ vec_capacity piece.old }
     requires works { W.failures writer.old ≡ 0 }
-    ensures wrote { OnOk result (WritesWalk (S.content squares.now) rule.now id (W.contents writer.old) (W.contents writer.new) piece.old.items piece.new.items numbers.old.ids numbers.new.ids) }
-    ensures number { IfOk result (λ number. number ≡ number_of (map (S.content squares.now) numbers.new.ids) (S.content squares.now id)) }
-    ensures prefix { OnErr result (BreaksIn rule.now (W.contents writer.old) (W.contents writer.new) piece.old.items (map (S.content squares.now) numbers.old.ids) (with_all (map (S.content squares.now) numbers.old.ids) (walk (S.content squares.now id) (least_level rule.now)))) }
-    ensures numbers { OnOk result (All (S.knows squares.now) numbers.new.ids) }
-    ensures closed { OnOk result (IsClosed (least_level rule.now) (map (S.content squares.now) numbers.new.ids)) }
-    ensures bound { OnOk result (numbers.new.bound ≡ numbers.old.bound) }
+    ensures walked { Walked (S.knows squares.now) (S.content squares.now) rule.now id
+        (W.contents writer.old) (W.contents writer.new) piece.old.items piece.new.items
+        numbers.old.ids numbers.new.ids result }
+    ensures places { OnOk result (numbers.new.room ≡ numbers.old.room) }
     ensures room { 65536 ≤ vec_capacity piece.new }
-    ensures sink { LeavesNumbered (LacksRoom (S.knows squares.now) numbers.old.bound) W.failures W.stalled writer.old writer.new result }
+    ensures sink { LeavesNumbered (LacksRoom (S.knows squares.now) (S.content squares.now)
+        (least_level rule.now) numbers.old.room) W.failures W.stalled writer.old writer.new result }
 {
     if let Some(number) = known_number(squares, level, numbers, id) {
         return Ok(number);
@@ -103,24 +105,21 @@ fn write_new_square<S: SharedSquares, W: Sink>(
     piece: &mut Vec<u8>,
     writer: &mut W,
 ) -> Result<u64, Kind>
-    requires id { S.knows squares.now id }
-    requires level { level ≡ depth (S.content squares.now id) }
-    requires high { is_life rule.now ≡ true → 3 ≤ level }
-    requires states { HasStatesUpTo (largest_state rule.now) (S.content squares.now id) }
-    requires numbers { All (S.knows squares.now) numbers.old.ids }
-    requires more { (1 ≤ depth (S.content squares.now id)) × (is_blank_tree (S.content squares.now id) ≡ false) }
-    requires new { is_in (map (S.content squares.now) numbers.old.ids) (S.content squares.now id) ≡ false }
-    requires closed { IsClosed (least_level rule.now) (map (S.content squares.now) numbers.old.ids) }
+    requires square { MayWalk (S.knows squares.now) (S.content squares.now) rule.now level id
+        numbers.old.ids }
+    requires more { (1 ≤ depth (S.content squares.now id))
+        × (is_blank_tree (S.content squares.now id) ≡ false) }
+    requires new { is_in (map (S.content squares.now) numbers.old.ids) (S.content squares.now id)
+        ≡ false }
     requires room { 65536 ≤ vec_capacity piece.old }
     requires works { W.failures writer.old ≡ 0 }
-    ensures wrote { OnOk result (WritesWalk (S.content squares.now) rule.now id (W.contents writer.old) (W.contents writer.new) piece.old.items piece.new.items numbers.old.ids numbers.new.ids) }
-    ensures number { IfOk result (λ number. number ≡ number_of (map (S.content squares.now) numbers.new.ids) (S.content squares.now id)) }
-    ensures prefix { OnErr result (BreaksIn rule.now (W.contents writer.old) (W.contents writer.new) piece.old.items (map (S.content squares.now) numbers.old.ids) (with_all (map (S.content squares.now) numbers.old.ids) (walk (S.content squares.now id) (least_level rule.now)))) }
-    ensures numbers { OnOk result (All (S.knows squares.now) numbers.new.ids) }
-    ensures closed { OnOk result (IsClosed (least_level rule.now) (map (S.content squares.now) numbers.new.ids)) }
-    ensures bound { OnOk result (numbers.new.bound ≡ numbers.old.bound) }
+    ensures walked { Walked (S.knows squares.now) (S.content squares.now) rule.now id
+        (W.contents writer.old) (W.contents writer.new) piece.old.items piece.new.items
+        numbers.old.ids numbers.new.ids result }
+    ensures places { OnOk result (numbers.new.room ≡ numbers.old.room) }
     ensures room { 65536 ≤ vec_capacity piece.new }
-    ensures sink { LeavesNumbered (LacksRoom (S.knows squares.now) numbers.old.bound) W.failures W.stalled writer.old writer.new result }
+    ensures sink { LeavesNumbered (LacksRoom (S.knows squares.now) (S.content squares.now)
+        (least_level rule.now) numbers.old.room) W.failures W.stalled writer.old writer.new result }
 {
     if is_leaf(rule, level) {
         let number = numbers.push(id)?;

@@ -1,9 +1,6 @@
 -- The keys of files.
-use Rattle.std.proofs.Common.{◌≡◌, ℕ, ◌^◌, ◌++◌, ◌⊎◌, inl, inr, List, [], Option, Some, Result, Ok, Err, IfErr, IfOk, OnOk, refl, sym, ap, ◌∙◌, true, false}
-use Rattle.std.specs.Io.KnownBytes.{Appends}
+use Rattle.std.proofs.Common.{◌≡◌, ℕ, ◌^◌, inl, inr, List, refl, sym, ◌∙◌, true, false}
 use Rattle.sha2.specs.Sha256.{sha256}
-use Rattle.key_sink.specs.Told.{told_by}
-use Rattle.key_sink.specs.declared.sink.KeySink.{KeySink}
 use Rattle.life_base.specs.DeviceRuns.{SourceRun, SinkRun}
 use Rattle.life_base.specs.Refusal.{fault_of}
 use Rattle.life_base.specs.declared.cell.TheConstants.{MAX_LEVEL}

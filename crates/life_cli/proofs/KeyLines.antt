@@ -1,5 +1,5 @@
 -- Names as they are written, and lists of names.
-use Rattle.std.proofs.Common.{◌≡◌, ℕ, suc, zero, ◌+◌, ◌-◌, ◌<◌, ◌≤◌, List, [], ◌∷◌, ◌++◌, length, take, drop, Bool, true, false, cond, Option, Result, Ok, Err, refl, ap, ap₂, sym, subst, ◌∙◌, arith, rules, slice_index}
+use Rattle.std.proofs.Common.{◌≡◌, ℕ, suc, zero, ◌<◌, ◌≤◌, List, [], ◌∷◌, ◌++◌, length, take, drop, Bool, true, false, cond, Option, Result, Ok, Err, refl, ap, ap₂, sym, subst, ◌∙◌, arith, rules, slice_index}
 use Rattle.std.specs.List.{list_any}
 use Rattle.std.specs.Prelude.{◌==◌, ◌||◌, nat_lt}
 use Rattle.std.proofs.lemmas.List.{append_assoc, take-append-drop}

@@ -7,3 +7,4 @@ pub mod Opening
 pub mod Usages
 pub mod Sentences
 pub mod Keys
+pub mod KeyRuns

@@ -22,10 +22,13 @@ use std::alloc::Global;
 /// The canonical text of a pattern's moved form.
 fn moved_text(alloc: Global, store: &mut Shared, pattern: &Pattern) -> Result<Vec<u8>, Fault>
     requires { IsTrimmed store.old pattern.now }
-    ensures text { IfOk result (λ text. IsMovedText MAX_LEVEL (universe_in store.old pattern.now) text.items) }
+    ensures text { IfOk result
+        (λ text. IsMovedText MAX_LEVEL (universe_in store.old pattern.now) text.items) }
     ensures few { OnOk result (population (content store.old pattern.now.root) ≤ 2 ^ 20) }
-    ensures fault { IfErr result (λ fault. ((fault ≡ fault_of Kind.TooManyCells) × (2 ^ 20 < population (content store.old pattern.now.root))) ⊎ IsWant store.new fault) }
-    ensures needed { result ≡ Err (fault_of Kind.Full) → LacksForMoved (universe_in store.old pattern.now) store.new }
+    ensures fault { IfErr result (λ fault. ((fault ≡ fault_of Kind.TooManyCells)
+        × (2 ^ 20 < population (content store.old pattern.now.root))) ⊎ IsWant store.new fault) }
+    ensures needed { result ≡ Err (fault_of Kind.Full)
+        → LacksForMoved (universe_in store.old pattern.now) store.new }
     ensures keeps { Keeps store.old store.new }
 {
     let moved = moved_of(alloc, store, pattern)?;
@@ -41,8 +44,11 @@ fn text_in(
 ) -> Result<Vec<u8>, Fault>
     requires read { IsOfFile MAX_LEVEL store.old pattern.now }
     requires limit { store.old.limit ≡ 2 ^ 31 }
-    ensures text { IfOk result (λ text. (bytes : List ℕ) → IsRead MAX_LEVEL bytes store.old pattern.now → IsTextIn form MAX_LEVEL bytes text.items) }
-    ensures fault { IfErr result (λ fault. (fault ≡ fault_of Kind.Memory) ⊎ ((bytes : List ℕ) → IsRead MAX_LEVEL bytes store.old pattern.now → RefusesIn form bytes fault)) }
+    ensures text { IfOk result (λ text. (bytes : List ℕ)
+        → IsRead MAX_LEVEL bytes store.old pattern.now → IsTextIn form MAX_LEVEL bytes text.items) }
+    ensures fault { IfErr result (λ fault. (fault ≡ fault_of Kind.Memory)
+        ⊎ ((bytes : List ℕ) → IsRead MAX_LEVEL bytes store.old pattern.now
+        → RefusesIn form bytes fault)) }
 {
     patterns_fit();
     files_are_unique();
@@ -61,9 +67,12 @@ pub(crate) fn text_of_source<A: Source>(
     first: &mut A,
 ) -> Result<Vec<u8>, Fault>
     requires { A.failures first.old ≡ 0 }
-    ensures ok { IfOk result (λ text. HasText (IsTextIn form MAX_LEVEL) (source_run A.remaining A.failures first.old first.new) text.items) }
-    ensures err { IfErr result (HasNoText (RefusesIn form) (source_run A.remaining A.failures first.old first.new)) }
-    ensures told { A.failures first.new ≡ 1 → IsErrAnd result (λ fault. fault.kind ≡ Kind.ReadFault) }
+    ensures ok { IfOk result (λ text. HasText (IsTextIn form MAX_LEVEL)
+        (source_run A.remaining A.failures first.old first.new) text.items) }
+    ensures err { IfErr result
+        (HasNoText (RefusesIn form) (source_run A.remaining A.failures first.old first.new)) }
+    ensures told { A.failures first.new ≡ 1
+        → IsErrAnd result (λ fault. fault.kind ≡ Kind.ReadFault) }
 {
     let mut store = Shared::new(alloc, seeds.squares, MOST_SQUARES);
     let pattern = read_from(alloc, &mut store, first)?;
@@ -81,9 +90,14 @@ pub(crate) fn are_same_in(
     requires a { IsOfFile MAX_LEVEL store.old a.now }
     requires b { IsOfFile MAX_LEVEL store.old b.now }
     requires limit { store.old.limit ≡ 2 ^ 31 }
-    ensures answer { IfOk result (λ answer. (first second : List ℕ) → IsRead MAX_LEVEL first store.old a.now → IsRead MAX_LEVEL second store.old b.now → IsTrue answer ↔ AreSameIn form MAX_LEVEL first second) }
-    ensures few { OnOk result ((first second : List ℕ) → IsRead MAX_LEVEL first store.old a.now → IsRead MAX_LEVEL second store.old b.now → ¬ HasTooMany form MAX_LEVEL first second) }
-    ensures fault { IfErr result (λ fault. (fault ≡ fault_of Kind.Memory) ⊎ ((first second : List ℕ) → IsRead MAX_LEVEL first store.old a.now → IsRead MAX_LEVEL second store.old b.now → RefusesSame form first second fault)) }
+    ensures answer { IfOk result (λ answer. (first second : List ℕ)
+        → IsRead MAX_LEVEL first store.old a.now → IsRead MAX_LEVEL second store.old b.now
+        → IsTrue answer ↔ AreSameIn form MAX_LEVEL first second) }
+    ensures few { OnOk result ((first second : List ℕ) → IsRead MAX_LEVEL first store.old a.now
+        → IsRead MAX_LEVEL second store.old b.now → ¬ HasTooMany form MAX_LEVEL first second) }
+    ensures fault { IfErr result (λ fault. (fault ≡ fault_of Kind.Memory)
+        ⊎ ((first second : List ℕ) → IsRead MAX_LEVEL first store.old a.now
+        → IsRead MAX_LEVEL second store.old b.now → RefusesSame form first second fault)) }
 {
     patterns_fit();
     patterns_tell_files();

@@ -16,8 +16,11 @@ use life_quad::Shared;
 use sha2::{Digest, Sha256};
 use std::alloc::Global;
 
+mod files;
 mod lines;
 mod listing;
+mod outcome;
+mod outputs;
 mod running;
 
 pub use running::write_keys;
@@ -25,9 +28,12 @@ pub use running::write_keys;
 /// The key of a source's pattern as it lies. Its text is hashed as it is made, and not held.
 fn placed_key<A: Source>(alloc: Global, seeds: &Seeds, source: &mut A) -> Result<[u8; 32], Fault>
     requires { A.failures source.old ≡ 0 }
-    ensures ok { IfOk result (HasText (IsKeyIn Form.Placed MAX_LEVEL) (source_run A.remaining A.failures source.old source.new)) }
-    ensures err { IfErr result (HasNoText (RefusesIn Form.Placed) (source_run A.remaining A.failures source.old source.new)) }
-    ensures told { A.failures source.new ≡ 1 → IsErrAnd result (λ fault. fault.kind ≡ Kind.ReadFault) }
+    ensures ok { IfOk result (HasText (IsKeyIn Form.Placed MAX_LEVEL)
+        (source_run A.remaining A.failures source.old source.new)) }
+    ensures err { IfErr result (HasNoText (RefusesIn Form.Placed)
+        (source_run A.remaining A.failures source.old source.new)) }
+    ensures told { A.failures source.new ≡ 1
+        → IsErrAnd result (λ fault. fault.kind ≡ Kind.ReadFault) }
 {
     let mut store = Shared::new(alloc, seeds.squares, MOST_SQUARES);
     let mut sink = KeySink::new();
@@ -43,9 +49,12 @@ fn key_of_text<A: Source>(
     source: &mut A,
 ) -> Result<[u8; 32], Fault>
     requires { A.failures source.old ≡ 0 }
-    ensures ok { IfOk result (HasText (IsKeyIn form MAX_LEVEL) (source_run A.remaining A.failures source.old source.new)) }
-    ensures err { IfErr result (HasNoText (RefusesIn form) (source_run A.remaining A.failures source.old source.new)) }
-    ensures told { A.failures source.new ≡ 1 → IsErrAnd result (λ fault. fault.kind ≡ Kind.ReadFault) }
+    ensures ok { IfOk result (HasText (IsKeyIn form MAX_LEVEL)
+        (source_run A.remaining A.failures source.old source.new)) }
+    ensures err { IfErr result
+        (HasNoText (RefusesIn form) (source_run A.remaining A.failures source.old source.new)) }
+    ensures told { A.failures source.new ≡ 1
+        → IsErrAnd result (λ fault. fault.kind ≡ Kind.ReadFault) }
 {
     match text_of_source(alloc, seeds, form, source) {
         Ok(text) => Ok(Sha256::digest(text.as_slice())),
@@ -61,9 +70,12 @@ pub(crate) fn key_of<A: Source>(
     source: &mut A,
 ) -> Result<[u8; 32], Fault>
     requires { A.failures source.old ≡ 0 }
-    ensures ok { IfOk result (HasText (IsKeyIn form MAX_LEVEL) (source_run A.remaining A.failures source.old source.new)) }
-    ensures err { IfErr result (HasNoText (RefusesIn form) (source_run A.remaining A.failures source.old source.new)) }
-    ensures told { A.failures source.new ≡ 1 → IsErrAnd result (λ fault. fault.kind ≡ Kind.ReadFault) }
+    ensures ok { IfOk result (HasText (IsKeyIn form MAX_LEVEL)
+        (source_run A.remaining A.failures source.old source.new)) }
+    ensures err { IfErr result
+        (HasNoText (RefusesIn form) (source_run A.remaining A.failures source.old source.new)) }
+    ensures told { A.failures source.new ≡ 1
+        → IsErrAnd result (λ fault. fault.kind ≡ Kind.ReadFault) }
 {
     match form {
         Form::Placed => placed_key(alloc, seeds, source),

@@ -47,7 +47,8 @@ pub fn open_files<R: Read + Drop, F: FnMut(Origin<'_>) -> IoResult<Opened<R>> + 
     requires { F.IsAlwaysCallable opener }
     ensures opened { IfOk result (OpensFiles F.step plan.now opener) }
     ensures given { IfOk result (λ files. IsSome files.1 ↔ IsSome plan.now.second) }
-    ensures fresh { IfOk result (λ files. (has_failed files.0 ≡ false) × IfSome files.1 (λ second. has_failed second ≡ false)) }
+    ensures fresh { IfOk result (λ files. (has_failed files.0 ≡ false)
+        × IfSome files.1 (λ second. has_failed second ≡ false)) }
     ensures failed { OnErr result (FailsToOpen F.step plan.now opener) }
     ensures kind { IfErr result (λ kind. kind ≡ Kind.ReadFault) }
 {

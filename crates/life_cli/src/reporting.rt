@@ -14,7 +14,8 @@ use life_base::{Fault, Kind, Sink, write_text};
 /// Writes the line of a fault that is none of a file's text, and answers its status.
 pub fn refuse<E: Sink>(err: &mut E, kind: Kind) -> u8
     requires { E.failures err.old ≡ 0 }
-    ensures told { Tells (sink_run E.contents E.failures E.stalled err.old err.new) (fault_line (refusal_of (fault_of kind))) }
+    ensures told { Tells (sink_run E.contents E.failures E.stalled err.old err.new)
+        (fault_line (refusal_of (fault_of kind))) }
     ensures status { result ≡ status_of kind }
 {
     tell(err, &Refusal::from(Fault::of(kind)));
@@ -44,7 +45,8 @@ fn is_asked(kind: ErrorKind) -> bool
 /// Writes what is to be told behind the text of `clap`, and answers the status.
 fn report_words<E: Sink>(err: &mut E, kind: ErrorKind, is_printed: bool) -> u8
     requires { E.failures err.old ≡ 0 }
-    ensures told { Tells (sink_run E.contents E.failures E.stalled err.old err.new) (words_line kind is_printed) }
+    ensures told { Tells (sink_run E.contents E.failures E.stalled err.old err.new)
+        (words_line kind is_printed) }
     ensures status { result ≡ words_status kind is_printed }
 {
     if !is_asked(kind) {
@@ -60,7 +62,8 @@ fn report_words<E: Sink>(err: &mut E, kind: ErrorKind, is_printed: bool) -> u8
 /// the status that the program ends with. `is_printed` tells whether all of that text was printed, where it has one.
 pub fn report<E: Sink>(err: &mut E, usage: &Usage, is_printed: bool) -> u8
     requires { E.failures err.old ≡ 0 }
-    ensures told { Tells (sink_run E.contents E.failures E.stalled err.old err.new) (usage_line usage.now is_printed) }
+    ensures told { Tells (sink_run E.contents E.failures E.stalled err.old err.new)
+        (usage_line usage.now is_printed) }
     ensures status { result ≡ usage_status usage.now is_printed }
 {
     match usage {

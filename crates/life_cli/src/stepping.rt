@@ -27,9 +27,12 @@ pub(crate) fn next_of<A: Source>(
     first: &mut A,
 ) -> Result<Vec<u8>, Fault>
     requires { A.failures first.old ≡ 0 }
-    ensures ok { IfOk result (λ text. HasText IsStepped (source_run A.remaining A.failures first.old first.new) text.items) }
-    ensures err { IfErr result (HasNoText RefusesStep (source_run A.remaining A.failures first.old first.new)) }
-    ensures told { A.failures first.new ≡ 1 → IsErrAnd result (λ fault. fault.kind ≡ Kind.ReadFault) }
+    ensures ok { IfOk result (λ text. HasText IsStepped
+        (source_run A.remaining A.failures first.old first.new) text.items) }
+    ensures err { IfErr result
+        (HasNoText RefusesStep (source_run A.remaining A.failures first.old first.new)) }
+    ensures told { A.failures first.new ≡ 1
+        → IsErrAnd result (λ fault. fault.kind ≡ Kind.ReadFault) }
 {
     let mut store = Shared::new(alloc, seeds.squares, MOST_SQUARES);
     let pattern = read_from(alloc, &mut store, first)?;
@@ -44,9 +47,12 @@ fn next_by<A: Source>(
     table: &Table,
 ) -> Result<Vec<u8>, Fault>
     requires { A.failures first.old ≡ 0 }
-    ensures ok { IfOk result (λ text. HasText (IsSteppedBy table.now) (source_run A.remaining A.failures first.old first.new) text.items) }
-    ensures err { IfErr result (HasNoText (RefusesStepBy table.now) (source_run A.remaining A.failures first.old first.new)) }
-    ensures told { A.failures first.new ≡ 1 → IsErrAnd result (λ fault. fault.kind ≡ Kind.ReadFault) }
+    ensures ok { IfOk result (λ text. HasText (IsSteppedBy table.now)
+        (source_run A.remaining A.failures first.old first.new) text.items) }
+    ensures err { IfErr result (HasNoText (RefusesStepBy table.now)
+        (source_run A.remaining A.failures first.old first.new)) }
+    ensures told { A.failures first.new ≡ 1
+        → IsErrAnd result (λ fault. fault.kind ≡ Kind.ReadFault) }
 {
     let mut store = Shared::new(alloc, seeds.squares, MOST_SQUARES);
     let pattern = read_from(alloc, &mut store, first)?;
@@ -56,9 +62,13 @@ fn next_by<A: Source>(
 /// The bytes of a source, read to its end.
 fn read_whole<R: Source>(alloc: Global, reader: &mut R) -> Result<Vec<u8>, Fault>
     requires { R.failures reader.old ≡ 0 }
-    ensures ok { IfOk result (λ bytes. ReadAll (2 ^ 30) (R.remaining reader.old) (R.remaining reader.new) bytes.items) }
-    ensures err { IfErr result (λ fault. InputRefuses (source_run R.remaining R.failures reader.old reader.new) fault ⊎ (fault ≡ fault_of Kind.Memory)) }
-    ensures told { R.failures reader.new ≡ 1 → IsErrAnd result (λ fault. fault.kind ≡ Kind.ReadFault) }
+    ensures ok { IfOk result
+        (λ bytes. ReadAll (2 ^ 30) (R.remaining reader.old) (R.remaining reader.new) bytes.items) }
+    ensures err { IfErr result (λ fault. InputRefuses
+        (source_run R.remaining R.failures reader.old reader.new) fault
+        ⊎ (fault ≡ fault_of Kind.Memory)) }
+    ensures told { R.failures reader.new ≡ 1
+        → IsErrAnd result (λ fault. fault.kind ≡ Kind.ReadFault) }
 {
     Ok(read_within(alloc, reader, LONGEST_TABLE)?)
 }
@@ -67,8 +77,10 @@ fn read_whole<R: Source>(alloc: Global, reader: &mut R) -> Result<Vec<u8>, Fault
 fn table_in<B: Source>(alloc: Global, seeds: &Seeds, source: &mut B) -> Result<Table, Fault>
     requires { B.failures source.old ≡ 0 }
     ensures ok { IfOk result (HasTable (source_run B.remaining B.failures source.old source.new)) }
-    ensures err { IfErr result (HasNoTable (source_run B.remaining B.failures source.old source.new)) }
-    ensures told { B.failures source.new ≡ 1 → IsErrAnd result (λ fault. fault.kind ≡ Kind.ReadFault) }
+    ensures err { IfErr result
+        (HasNoTable (source_run B.remaining B.failures source.old source.new)) }
+    ensures told { B.failures source.new ≡ 1
+        → IsErrAnd result (λ fault. fault.kind ≡ Kind.ReadFault) }
 {
     let bytes = read_whole(alloc, source)?;
     read_table(alloc, seeds.names, bytes.as_slice())
@@ -78,8 +90,10 @@ fn table_in<B: Source>(alloc: Global, seeds: &Seeds, source: &mut B) -> Result<T
 fn table_of<B: Source>(alloc: Global, seeds: &Seeds, source: &mut B) -> Result<Table, Refusal>
     requires { B.failures source.old ≡ 0 }
     ensures ok { IfOk result (HasTable (source_run B.remaining B.failures source.old source.new)) }
-    ensures err { IfErr result (OfTable (HasNoTable (source_run B.remaining B.failures source.old source.new))) }
-    ensures told { B.failures source.new ≡ 1 → IsErrAnd result (λ refusal. refusal.fault.kind ≡ Kind.ReadFault) }
+    ensures err { IfErr result
+        (OfTable (HasNoTable (source_run B.remaining B.failures source.old source.new))) }
+    ensures told { B.failures source.new ≡ 1
+        → IsErrAnd result (λ refusal. refusal.fault.kind ≡ Kind.ReadFault) }
 {
     match table_in(alloc, seeds, source) {
         Ok(table) => Ok(table),
@@ -99,9 +113,14 @@ pub(crate) fn next_by_table_of<A: Source, B: Source>(
 ) -> Result<Vec<u8>, Refusal>
     requires first_reads { A.failures first.old ≡ 0 }
     requires second_reads { B.failures second.old ≡ 0 }
-    ensures ok { IfOk result (λ text. HasTextByTable (source_run A.remaining A.failures first.old first.new) (source_run B.remaining B.failures second.old second.new) text.items) }
-    ensures err { IfErr result (HasNoTextByTable (source_run A.remaining A.failures first.old first.new) (source_run B.remaining B.failures second.old second.new)) }
-    ensures told { (A.failures first.new ≡ 1) ⊎ (B.failures second.new ≡ 1) → IsErrAnd result (λ refusal. refusal.fault.kind ≡ Kind.ReadFault) }
+    ensures ok { IfOk result (λ text. HasTextByTable
+        (source_run A.remaining A.failures first.old first.new)
+        (source_run B.remaining B.failures second.old second.new) text.items) }
+    ensures err { IfErr result (HasNoTextByTable
+        (source_run A.remaining A.failures first.old first.new)
+        (source_run B.remaining B.failures second.old second.new)) }
+    ensures told { (A.failures first.new ≡ 1) ⊎ (B.failures second.new ≡ 1)
+        → IsErrAnd result (λ refusal. refusal.fault.kind ≡ Kind.ReadFault) }
 {
     let table = table_of(alloc, seeds, second)?;
     Ok(next_by(alloc, seeds, first, &table)?)

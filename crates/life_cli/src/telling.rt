@@ -61,7 +61,8 @@ fn word_of(of_table: bool) -> &'static [u8]
 /// Writes the line of a fault: `line N: NAME`, `table line N: NAME` where the line is one of a table, or `NAME` where it names no line.
 fn write_refusal<E: Sink>(err: &mut E, refusal: &Refusal) -> Result<(), Kind>
     requires { E.failures err.old ≡ 0 }
-    ensures text { WritesText (E.contents err.old) (E.contents err.new) (fault_line refusal.now) result }
+    ensures text { WritesText (E.contents err.old) (E.contents err.new) (fault_line refusal.now)
+        result }
     ensures kind { IfErr result (λ kind. kind ≡ Kind.WriteFault) }
     ensures cause { OnErr result ((E.failures err.new ≡ 1) ⊎ (E.stalled err.new ≡ true)) }
 {
@@ -79,7 +80,8 @@ fn write_refusal<E: Sink>(err: &mut E, refusal: &Refusal) -> Result<(), Kind>
 /// Writes the line of a fault, as far as the sink takes it. It takes no memory.
 pub fn tell<E: Sink>(err: &mut E, refusal: &Refusal)
     requires { E.failures err.old ≡ 0 }
-    ensures { Tells (sink_run E.contents E.failures E.stalled err.old err.new) (fault_line refusal.now) }
+    ensures { Tells (sink_run E.contents E.failures E.stalled err.old err.new)
+        (fault_line refusal.now) }
 {
     let _ = write_refusal(err, refusal);
 }

@@ -63,8 +63,10 @@ fn write_whole<W: Sink>(writer: &mut W, text: &[u8]) -> Result<(), Refusal>
     requires takes { W.stalled writer.old ≡ false }
     ensures ok { OnOk result (Appends (W.contents writer.old) (W.contents writer.new) text.now) }
     ensures flushed { OnOk result (W.flushed writer.new ≡ true) }
-    ensures err { IfErr result (OfFile (Breaks (sink_run W.contents W.failures W.stalled writer.old writer.new) text.now)) }
-    ensures told { (W.failures writer.new ≡ 1) ⊎ (W.stalled writer.new ≡ true) → IsErrAnd result (λ refusal. refusal.fault.kind ≡ Kind.WriteFault) }
+    ensures err { IfErr result (OfFile
+        (Breaks (sink_run W.contents W.failures W.stalled writer.old writer.new) text.now)) }
+    ensures told { (W.failures writer.new ≡ 1) ⊎ (W.stalled writer.new ≡ true)
+        → IsErrAnd result (λ refusal. refusal.fault.kind ≡ Kind.WriteFault) }
 {
     match deliver(writer, text) {
         Ok(()) => Ok(()),
@@ -75,9 +77,12 @@ fn write_whole<W: Sink>(writer: &mut W, text: &[u8]) -> Result<(), Refusal>
 /// The text in extended RLE of a source's pattern.
 fn rle_of_source<A: Source>(alloc: Global, seeds: &Seeds, first: &mut A) -> Result<Vec<u8>, Fault>
     requires { A.failures first.old ≡ 0 }
-    ensures ok { IfOk result (λ text. HasText (IsRleOf MAX_LEVEL (2 ^ 20)) (source_run A.remaining A.failures first.old first.new) text.items) }
-    ensures err { IfErr result (HasNoText RefusesMany (source_run A.remaining A.failures first.old first.new)) }
-    ensures told { A.failures first.new ≡ 1 → IsErrAnd result (λ fault. fault.kind ≡ Kind.ReadFault) }
+    ensures ok { IfOk result (λ text. HasText (IsRleOf MAX_LEVEL (2 ^ 20))
+        (source_run A.remaining A.failures first.old first.new) text.items) }
+    ensures err { IfErr result
+        (HasNoText RefusesMany (source_run A.remaining A.failures first.old first.new)) }
+    ensures told { A.failures first.new ≡ 1
+        → IsErrAnd result (λ fault. fault.kind ≡ Kind.ReadFault) }
 {
     let mut store = Shared::new(alloc, seeds.squares, MOST_SQUARES);
     let pattern = read_from(alloc, &mut store, first)?;
@@ -91,9 +96,12 @@ fn five_lines_of_source<A: Source>(
     first: &mut A,
 ) -> Result<Vec<u8>, Fault>
     requires { A.failures first.old ≡ 0 }
-    ensures ok { IfOk result (λ text. HasText (IsShown MAX_LEVEL) (source_run A.remaining A.failures first.old first.new) text.items) }
-    ensures err { IfErr result (HasNoText (Refuses MAX_LEVEL) (source_run A.remaining A.failures first.old first.new)) }
-    ensures told { A.failures first.new ≡ 1 → IsErrAnd result (λ fault. fault.kind ≡ Kind.ReadFault) }
+    ensures ok { IfOk result (λ text. HasText (IsShown MAX_LEVEL)
+        (source_run A.remaining A.failures first.old first.new) text.items) }
+    ensures err { IfErr result
+        (HasNoText (Refuses MAX_LEVEL) (source_run A.remaining A.failures first.old first.new)) }
+    ensures told { A.failures first.new ≡ 1
+        → IsErrAnd result (λ fault. fault.kind ≡ Kind.ReadFault) }
 {
     let mut store = Shared::new(alloc, seeds.squares, MOST_SQUARES);
     let pattern = read_from(alloc, &mut store, first)?;
@@ -102,7 +110,8 @@ fn five_lines_of_source<A: Source>(
 
 /// Whether a fault of this kind is none of a file: the device failed, too much came, or room or memory is wanted.
 fn is_of_no_file(kind: Kind) -> bool
-    ensures { IsTrue result ↔ ((kind ≡ Kind.ReadFault) ⊎ ((kind ≡ Kind.InputTooLong) ⊎ ((kind ≡ Kind.Full) ⊎ (kind ≡ Kind.Memory)))) }
+    ensures { IsTrue result ↔ ((kind ≡ Kind.ReadFault)
+        ⊎ ((kind ≡ Kind.InputTooLong) ⊎ ((kind ≡ Kind.Full) ⊎ (kind ≡ Kind.Memory)))) }
 {
     matches!(
         kind,
@@ -117,9 +126,13 @@ fn held<A: Source>(
     source: &mut A,
 ) -> Result<Result<Pattern, Fault>, Fault>
     requires { A.failures source.old ≡ 0 }
-    ensures held { IfOk result (IsHeld store.new (source_run A.remaining A.failures source.old source.new)) }
-    ensures err { IfErr result (λ fault. InputRefuses (source_run A.remaining A.failures source.old source.new) fault ⊎ IsWantFor (source_run A.remaining A.failures source.old source.new) store.new fault) }
-    ensures told { A.failures source.new ≡ 1 → IsErrAnd result (λ fault. fault.kind ≡ Kind.ReadFault) }
+    ensures held { IfOk result
+        (IsHeld store.new (source_run A.remaining A.failures source.old source.new)) }
+    ensures err { IfErr result (λ fault. InputRefuses
+        (source_run A.remaining A.failures source.old source.new) fault
+        ⊎ IsWantFor (source_run A.remaining A.failures source.old source.new) store.new fault) }
+    ensures told { A.failures source.new ≡ 1
+        → IsErrAnd result (λ fault. fault.kind ≡ Kind.ReadFault) }
     ensures keeps { Keeps store.old store.new }
 {
     refusals_have_kinds();
@@ -140,9 +153,14 @@ fn compared<A: Source, B: Source>(
 ) -> Result<bool, Fault>
     requires one { A.failures one.old ≡ 0 }
     requires other { B.failures other.old ≡ 0 }
-    ensures ok { IfOk result (λ is_same. Makes (Job.Same form) (source_run A.remaining A.failures one.old one.new) (source_run B.remaining B.failures other.old other.new) (Made.Comparison is_same)) }
-    ensures err { IfErr result (AreUncompared form (source_run A.remaining A.failures one.old one.new) (source_run B.remaining B.failures other.old other.new)) }
-    ensures told { (A.failures one.new ≡ 1) ⊎ (B.failures other.new ≡ 1) → IsErrAnd result (λ fault. fault.kind ≡ Kind.ReadFault) }
+    ensures ok { IfOk result (λ is_same. Makes (Job.Same form)
+        (source_run A.remaining A.failures one.old one.new)
+        (source_run B.remaining B.failures other.old other.new) (Made.Comparison is_same)) }
+    ensures err { IfErr result (AreUncompared form
+        (source_run A.remaining A.failures one.old one.new)
+        (source_run B.remaining B.failures other.old other.new)) }
+    ensures told { (A.failures one.new ≡ 1) ⊎ (B.failures other.new ≡ 1)
+        → IsErrAnd result (λ fault. fault.kind ≡ Kind.ReadFault) }
 {
     patterns_stay();
     let mut store = Shared::new(alloc, seeds.squares, MOST_SQUARES);
@@ -163,11 +181,16 @@ fn make<A: Source, B: Source>(
     requires second_reads { IfSome second.old (λ b. B.failures b ≡ 0) }
     requires second_given { IsSome second.old ↔ HasSecond job.now }
     requires other { ¬ WritesCanonical job.now }
-    ensures ok { IfOk result (Makes job.now (source_run A.remaining A.failures first.old first.new) (optional_source_run B.remaining B.failures second.old second.new)) }
-    ensures err { IfErr result (λ refusal. (output : SinkRun) → JobRefuses job.now (source_run A.remaining A.failures first.old first.new)
+    ensures ok { IfOk result (Makes job.now
+        (source_run A.remaining A.failures first.old first.new)
+        (optional_source_run B.remaining B.failures second.old second.new)) }
+    ensures err { IfErr result (λ refusal. (output : SinkRun)
+        → JobRefuses job.now (source_run A.remaining A.failures first.old first.new)
         (optional_source_run B.remaining B.failures second.old second.new) output refusal) }
-    ensures first_told { A.failures first.new ≡ 1 → IsErrAnd result (λ refusal. refusal.fault.kind ≡ Kind.ReadFault) }
-    ensures second_told { IfSome second.new (λ b. B.failures b ≡ 1 → IsErrAnd result (λ refusal. refusal.fault.kind ≡ Kind.ReadFault)) }
+    ensures first_told { A.failures first.new ≡ 1
+        → IsErrAnd result (λ refusal. refusal.fault.kind ≡ Kind.ReadFault) }
+    ensures second_told { IfSome second.new
+        (λ b. B.failures b ≡ 1 → IsErrAnd result (λ refusal. refusal.fault.kind ≡ Kind.ReadFault)) }
 {
     Ok(match (job, second) {
         (Job::Canon(form), _) => Made::Text(text_of_source(alloc, seeds, *form, first)?),
@@ -203,14 +226,20 @@ fn run_canonical<A: Source, O: Sink>(
     requires writes { O.failures out.old ≡ 0 }
     requires takes { O.stalled out.old ≡ false }
     ensures done { IfOk result (λ status. status ≡ 0) }
-    ensures canon { OnOk result ((second : SourceRun) → Worked (Job.Canon Form.Placed) 0 (source_run A.remaining A.failures first.old first.new) second
+    ensures canon { OnOk result ((second : SourceRun)
+        → Worked (Job.Canon Form.Placed) 0
+        (source_run A.remaining A.failures first.old first.new) second
         (sink_run O.contents O.failures O.stalled out.old out.new)) }
     ensures flushed { OnOk result (O.flushed out.new ≡ true) }
-    ensures refused { IfErr result (OfFile (CanonRefuses (source_run A.remaining A.failures first.old first.new)
+    ensures refused { IfErr result (OfFile (CanonRefuses
+        (source_run A.remaining A.failures first.old first.new)
         (sink_run O.contents O.failures O.stalled out.old out.new))) }
-    ensures unwritten { IfErr result (λ refusal. refusal.fault.kind ≢ Kind.WriteFault → out.new ≡ out.old) }
-    ensures read_told { A.failures first.new ≡ 1 → IsErrAnd result (λ refusal. refusal.fault.kind ≡ Kind.ReadFault) }
-    ensures write_told { (O.failures out.new ≡ 1) ⊎ (O.stalled out.new ≡ true) → IsErrAnd result (λ refusal. refusal.fault.kind ≡ Kind.WriteFault) }
+    ensures unwritten { IfErr result
+        (λ refusal. refusal.fault.kind ≢ Kind.WriteFault → out.new ≡ out.old) }
+    ensures read_told { A.failures first.new ≡ 1
+        → IsErrAnd result (λ refusal. refusal.fault.kind ≡ Kind.ReadFault) }
+    ensures write_told { (O.failures out.new ≡ 1) ⊎ (O.stalled out.new ≡ true)
+        → IsErrAnd result (λ refusal. refusal.fault.kind ≡ Kind.WriteFault) }
 {
     let mut store = Shared::new(alloc, seeds.squares, MOST_SQUARES);
     run_canon(alloc, &mut store, first, out)?;
@@ -232,15 +261,23 @@ fn run<A: Source, B: Source, O: Sink>(
     requires writes { O.failures out.old ≡ 0 }
     requires takes { O.stalled out.old ≡ false }
     ensures done { IfOk result (λ status. status < 2) }
-    ensures worked { IfOk result (λ status. Worked job.now status (source_run A.remaining A.failures first.old first.new)
-        (optional_source_run B.remaining B.failures second.old second.new) (sink_run O.contents O.failures O.stalled out.old out.new)) }
+    ensures worked { IfOk result (λ status. Worked job.now status
+        (source_run A.remaining A.failures first.old first.new)
+        (optional_source_run B.remaining B.failures second.old second.new)
+        (sink_run O.contents O.failures O.stalled out.old out.new)) }
     ensures flushed { OnOk result (O.flushed out.new ≡ true) }
-    ensures refused { IfErr result (JobRefuses job.now (source_run A.remaining A.failures first.old first.new)
-        (optional_source_run B.remaining B.failures second.old second.new) (sink_run O.contents O.failures O.stalled out.old out.new)) }
-    ensures unwritten { IfErr result (λ refusal. refusal.fault.kind ≢ Kind.WriteFault → out.new ≡ out.old) }
-    ensures first_told { A.failures first.new ≡ 1 → IsErrAnd result (λ refusal. refusal.fault.kind ≡ Kind.ReadFault) }
-    ensures second_told { IfSome second.new (λ b. B.failures b ≡ 1 → IsErrAnd result (λ refusal. refusal.fault.kind ≡ Kind.ReadFault)) }
-    ensures write_told { (O.failures out.new ≡ 1) ⊎ (O.stalled out.new ≡ true) → IsErrAnd result (λ refusal. refusal.fault.kind ≡ Kind.WriteFault) }
+    ensures refused { IfErr result (JobRefuses job.now
+        (source_run A.remaining A.failures first.old first.new)
+        (optional_source_run B.remaining B.failures second.old second.new)
+        (sink_run O.contents O.failures O.stalled out.old out.new)) }
+    ensures unwritten { IfErr result
+        (λ refusal. refusal.fault.kind ≢ Kind.WriteFault → out.new ≡ out.old) }
+    ensures first_told { A.failures first.new ≡ 1
+        → IsErrAnd result (λ refusal. refusal.fault.kind ≡ Kind.ReadFault) }
+    ensures second_told { IfSome second.new
+        (λ b. B.failures b ≡ 1 → IsErrAnd result (λ refusal. refusal.fault.kind ≡ Kind.ReadFault)) }
+    ensures write_told { (O.failures out.new ≡ 1) ⊎ (O.stalled out.new ≡ true)
+        → IsErrAnd result (λ refusal. refusal.fault.kind ≡ Kind.WriteFault) }
 {
     if writes_canonical(job) {
         return run_canonical(alloc, seeds, first, out);
@@ -267,21 +304,27 @@ pub fn work<A: Source, B: Source, O: Sink, E: Sink>(
     requires takes { O.stalled out.old ≡ false }
     requires tells { E.failures err.old ≡ 0 }
     requires hears { E.stalled err.old ≡ false }
-    ensures done { result < 2 → Worked job.now result (source_run A.remaining A.failures first.old first.new)
-        (optional_source_run B.remaining B.failures second.old second.new) (sink_run O.contents O.failures O.stalled out.old out.new) }
+    ensures done { result < 2 → Worked job.now result
+        (source_run A.remaining A.failures first.old first.new)
+        (optional_source_run B.remaining B.failures second.old second.new)
+        (sink_run O.contents O.failures O.stalled out.old out.new) }
     ensures flushed { result < 2 → O.flushed out.new ≡ true }
     ensures quiet { result < 2 → err.new ≡ err.old }
     ensures refused { 1 < result → (refusal : Refusal) × (result ≡ status_of refusal.fault.kind)
         × JobRefuses job.now (source_run A.remaining A.failures first.old first.new)
-        (optional_source_run B.remaining B.failures second.old second.new) (sink_run O.contents O.failures O.stalled out.old out.new) refusal
+        (optional_source_run B.remaining B.failures second.old second.new)
+        (sink_run O.contents O.failures O.stalled out.old out.new) refusal
         × (refusal.fault.kind ≢ Kind.WriteFault → out.new ≡ out.old)
         × (A.failures first.new ≡ 1 → refusal.fault.kind ≡ Kind.ReadFault)
         × IfSome second.new (λ b. B.failures b ≡ 1 → refusal.fault.kind ≡ Kind.ReadFault)
-        × ((O.failures out.new ≡ 1) ⊎ (O.stalled out.new ≡ true) → refusal.fault.kind ≡ Kind.WriteFault)
+        × ((O.failures out.new ≡ 1) ⊎ (O.stalled out.new ≡ true)
+        → refusal.fault.kind ≡ Kind.WriteFault)
         × Tells (sink_run E.contents E.failures E.stalled err.old err.new) (fault_line refusal) }
     ensures first_told { A.failures first.new ≡ 1 → result ≡ status_of Kind.ReadFault }
-    ensures second_told { IfSome second.new (λ b. B.failures b ≡ 1 → result ≡ status_of Kind.ReadFault) }
-    ensures write_told { (O.failures out.new ≡ 1) ⊎ (O.stalled out.new ≡ true) → result ≡ status_of Kind.WriteFault }
+    ensures second_told { IfSome second.new
+        (λ b. B.failures b ≡ 1 → result ≡ status_of Kind.ReadFault) }
+    ensures write_told { (O.failures out.new ≡ 1) ⊎ (O.stalled out.new ≡ true)
+        → result ≡ status_of Kind.WriteFault }
 {
     match run(alloc, seeds, job, first, second, out) {
         Ok(status) => status,

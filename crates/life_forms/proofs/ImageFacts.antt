@@ -2,6 +2,7 @@
 use Rattle.std.proofs.Common.{◌≡◌, ◌==◌, ℕ, zero, suc, ◌+◌, ◌^◌, ◌≤◌, Bool, true, false, refl, sym, ap, ap₂, ◌∙◌, subst, ℤ, pos, neg_ℤ, ◌+ℤ◌, arith, if◌then◌else◌}
 use Rattle.std.proofs.lemmas.Bool.Decides.{nat_tests}
 use Rattle.std.proofs.lemmas.Int.{ints}
+use Rattle.std.proofs.lemmas.Bool.{and_parts}
 use Rattle.life_base.specs.Tree.{Tree, point, quad, depth, blank, is_blank_tree, tree_cell, IsFull}
 use Rattle.life_quad.specs.Cells.{population}
 use Rattle.life_canon.specs.Laws.{SquaresAreCentred, CentredSquaresTellCells}
@@ -9,7 +10,6 @@ use Rattle.life_canon.specs.Universe.{square, centred, corner, IsBlankOutside}
 use Rattle.life_forms.specs.Turns.{Turn, turn_of, counted, differ, column_of, row_of}
 use Rattle.life_forms.specs.Trees.{one_of_four, side_of, end_of, turned_tree}
 use Rattle.life_forms.proofs.TurnFacts.{backwards-is, pow_suc, image_cells, image-outside}
-use Rattle.life_forms.proofs.PlaneFacts.{both-true}
 
 -- a coordinate, or the one so many further
 abbrev stepped : Bool → ℕ → ℤ → ℤ
@@ -105,9 +105,9 @@ turned-blank turn (suc k) =
 pub full-blank : (t : Tree) → IsFull t → is_blank_tree t ≡ true → t ≡ blank (depth t)
 full-blank (point s) full e = ap point (zero-test s e)
 full-blank (quad a b c d) full e =
-    let one = both-true _ _ e in
-    let two = both-true _ _ one.0 in
-    let three = both-true _ _ two.0 in
+    let one = and_parts _ _ e in
+    let two = and_parts _ _ one.0 in
+    let three = and_parts _ _ two.0 in
     let p = full-blank a full.0 three.0 in
     let q = full-blank b full.1 three.1 ∙ ap blank full.4 in
     let r = full-blank c full.2 two.1 ∙ ap blank full.5 in

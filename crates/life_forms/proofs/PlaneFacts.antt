@@ -1,5 +1,5 @@
 -- The cells of a square of the plane, and their way into their place.
-use Rattle.std.proofs.Common.{◌≡◌, ◌≢◌, ℕ, ◌-◌, ◌<◌, ◌≤◌, ◌^◌, Bool, true, false, refl, sym, ap, ap₂, ◌∙◌, subst, ℤ, pos, neg_ℤ, ◌+ℤ◌, ◌≤ℤ◌, arith, pow_mono, List, Contains, get_or, ◌&&◌, if◌then◌else◌, to_z, of_z, w64, All, length, subst₂, SFits, to_z-of_z, true≢false}
+use Rattle.std.proofs.Common.{◌≡◌, ◌≢◌, ℕ, ◌-◌, ◌<◌, ◌≤◌, ◌^◌, Bool, true, false, refl, sym, ap, ap₂, ◌∙◌, subst, ℤ, pos, neg_ℤ, ◌+ℤ◌, ◌≤ℤ◌, arith, pow_mono, List, Contains, get_or, if◌then◌else◌, to_z, of_z, w64, All, length, subst₂, SFits, to_z-of_z}
 use Rattle.std.proofs.lemmas.Int.{ints}
 use Rattle.life_base.specs.Tree.{Tree, depth, tree_cell, half_side, is_blank_tree, state_at, point, quad}
 use Rattle.life_base.specs.declared.bounds.Bounds.{Bounds}
@@ -9,6 +9,7 @@ use Rattle.life_base.specs.declared.rule.Rule.{Rule}
 use Rattle.life_quad.specs.Cells as quad
 use Rattle.life_quad.proofs.LawLemmas.{cells_lie_inside}
 use Rattle.std.proofs.lemmas.Option.{slice_get-get_or, get_or_from_slice_get}
+use Rattle.std.proofs.lemmas.Bool.{and_parts}
 use Rattle.life_strip.specs.Given as strip
 use Rattle.life_strip.specs.Given.{state_by}
 use Rattle.life_canon.specs.Texts.{IsLeastBox, IsOrdered, AreCellsOf}
@@ -42,10 +43,6 @@ outside-blank t low x y out = zero-unless _ (λ some. out (lies-within t low x y
 
 -- ---- blank squares
 
-pub both-true : (a b : Bool) → (a && b) ≡ true → (a ≡ true) × (b ≡ true)
-both-true true b e = (refl, e)
-both-true false b e = absurd (true≢false (sym e))
-
 choice : (p q : Bool) (a b c d : ℕ) → a ≡ 0 → b ≡ 0 → c ≡ 0 → d ≡ 0 → (if p then (if q then a else b) else (if q then c else d)) ≡ 0
 choice true true a b c d e f g h = e
 choice true false a b c d e f g h = f
@@ -55,9 +52,9 @@ choice false false a b c d e f g h = h
 blank-state : (t : Tree) → is_blank_tree t ≡ true → (column row : ℕ) → state_at t column row ≡ 0
 blank-state (point s) e column row = grind (arith, e)
 blank-state (quad nw ne sw se) e column row =
-    let one = both-true _ _ e in
-    let two = both-true _ _ one.0 in
-    let three = both-true _ _ two.0 in
+    let one = and_parts _ _ e in
+    let two = and_parts _ _ one.0 in
+    let three = and_parts _ _ two.0 in
     choice _ _ _ _ _ _ (blank-state nw three.0 _ _) (blank-state ne three.1 _ _) (blank-state sw two.1 _ _) (blank-state se one.1 _ _)
 
 pick : (p : Bool) (n : ℕ) → n ≡ 0 → (if p then n else 0) ≡ 0

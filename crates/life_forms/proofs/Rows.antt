@@ -1,6 +1,6 @@
 -- Worked forms: the eight images of a glider at four places, a blank pattern, 256 states, wide sides. Lines are computed in a small square, which
 -- gives those of the whole plane.
-use Rattle.std.proofs.Common.{◌≡◌, ℕ, ◌-◌, ◌^◌, ◌&&◌, true, false, List, [], ◌∷◌, ◌++◌, map, refl, ℤ, pos, negsuc, neg_ℤ, ◌+ℤ◌, if◌then◌else◌, codes, nat_cmp, is_gt, arith}
+use Rattle.std.proofs.Common.{◌≡◌, ℕ, ◌-◌, ◌^◌, ◌&&◌, true, false, List, [], ◌∷◌, ◌++◌, map, fold, refl, ℤ, pos, negsuc, neg_ℤ, ◌+ℤ◌, if◌then◌else◌, codes, nat_cmp, is_gt, arith}
 use Rattle.std.proofs.lemmas.Int.{ints}
 use Rattle.std.specs.Ordering.{int_eq}
 use Rattle.std.specs.Int.{int_min}
@@ -67,18 +67,18 @@ canonical_lines top u = (canonical_file top u).lines
 abbrev eight_images : List Spot → List (List Spot)
 eight_images cells = map (λ t. moved_spots (map (turned_spot t) cells)) turns
 
+-- far east, at the middle, at the corner and at the edge
+abbrev places : List (ℤ × ℤ)
+places =
+    (pos 1000, negsuc 6) ∷
+    (negsuc 1, negsuc 0) ∷
+    (neg_ℤ (pos (2 ^ 61)), neg_ℤ (pos (2 ^ 61))) ∷
+    (pos (2 ^ 61 - 3), pos (2 ^ 61 - 3)) ∷
+    []
+
 -- at each place a glider has the same eight
-row_glider_far_east : eight_images (glider_at (pos 1000) (negsuc 6)) ≡ eight_images (glider_at (pos 0) (pos 0))
-row_glider_far_east = refl
-
-row_glider_at_the_middle : eight_images (glider_at (negsuc 1) (negsuc 0)) ≡ eight_images (glider_at (pos 0) (pos 0))
-row_glider_at_the_middle = refl
-
-row_glider_at_the_corner : eight_images (glider_at (neg_ℤ (pos (2 ^ 61))) (neg_ℤ (pos (2 ^ 61)))) ≡ eight_images (glider_at (pos 0) (pos 0))
-row_glider_at_the_corner = refl
-
-row_glider_at_the_edge : eight_images (glider_at (pos (2 ^ 61 - 3)) (pos (2 ^ 61 - 3))) ≡ eight_images (glider_at (pos 0) (pos 0))
-row_glider_at_the_edge = refl
+row_gliders : map (λ place. eight_images (glider_at place.0 place.1)) places ≡ map (λ place. eight_images (glider_at (pos 0) (pos 0))) places
+row_gliders = refl
 
 -- the eight of an image are the eight by its turn and one more: the same in another order
 row_image_of_a_glider : eight_images (map (turned_spot (turn_of false true false)) (glider_at (pos 0) (pos 0)))
@@ -104,39 +104,15 @@ image_lines t cells = canonical_lines 3 (pattern_of life (moved_spots (map (turn
 abbrev leaf_of : ℕ → ℕ → ℕ → List Line
 leaf_of a b c = Leaf (0 ∷ 0 ∷ 0 ∷ 0 ∷ a ∷ b ∷ c ∷ 0 ∷ []) ∷ []
 
-row_leaf_0 : image_lines (turn_of false false false) (glider_at (pos 5) (negsuc 8)) ≡ leaf_of 4 2 14
-unfolding canonical_file whole listed centred corner square rows_of
-row_leaf_0 = refl
+abbrev leaves : List (List Line)
+leaves =
+    leaf_of 4 2 14 ∷ leaf_of 4 8 14 ∷ leaf_of 6 10 2 ∷ leaf_of 12 10 8 ∷ leaf_of 14 8 4 ∷ leaf_of 14 2 4 ∷ leaf_of 8 10 12 ∷ leaf_of 2 10 6 ∷ []
 
-row_leaf_1 : image_lines (turn_of false true false) (glider_at (pos 5) (negsuc 8)) ≡ leaf_of 4 8 14
+row_leaves : map (λ t. image_lines t (glider_at (pos 5) (negsuc 8))) turns ≡ leaves
 unfolding canonical_file whole listed centred corner square rows_of
-row_leaf_1 = refl
+row_leaves = refl
 
-row_leaf_2 : image_lines (turn_of true true false) (glider_at (pos 5) (negsuc 8)) ≡ leaf_of 6 10 2
-unfolding canonical_file whole listed centred corner square rows_of
-row_leaf_2 = refl
-
-row_leaf_3 : image_lines (turn_of true true true) (glider_at (pos 5) (negsuc 8)) ≡ leaf_of 12 10 8
-unfolding canonical_file whole listed centred corner square rows_of
-row_leaf_3 = refl
-
-row_leaf_4 : image_lines (turn_of false true true) (glider_at (pos 5) (negsuc 8)) ≡ leaf_of 14 8 4
-unfolding canonical_file whole listed centred corner square rows_of
-row_leaf_4 = refl
-
-row_leaf_5 : image_lines (turn_of false false true) (glider_at (pos 5) (negsuc 8)) ≡ leaf_of 14 2 4
-unfolding canonical_file whole listed centred corner square rows_of
-row_leaf_5 = refl
-
-row_leaf_6 : image_lines (turn_of true false true) (glider_at (pos 5) (negsuc 8)) ≡ leaf_of 8 10 12
-unfolding canonical_file whole listed centred corner square rows_of
-row_leaf_6 = refl
-
-row_leaf_7 : image_lines (turn_of true false false) (glider_at (pos 5) (negsuc 8)) ≡ leaf_of 2 10 6
-unfolding canonical_file whole listed centred corner square rows_of
-row_leaf_7 = refl
-
--- the text of a leaf, and the lesser of two texts
+-- the text of a leaf, and the least of texts
 abbrev text_of : List Line → List ℕ
 text_of lines = mc_text (record { rule = life; generation = 0; lines = lines })
 
@@ -144,9 +120,7 @@ abbrev lesser : List ℕ → List ℕ → List ℕ
 lesser a b = if is_gt (slice_cmp nat_cmp a b) then b else a
 
 -- of the eight texts this one is the least: `....*$....*.*$....**$` behind four empty rows
-row_turned_glider : lesser (text_of (leaf_of 4 2 14)) (lesser (text_of (leaf_of 4 8 14)) (lesser (text_of (leaf_of 6 10 2)) (lesser (text_of (leaf_of 12 10 8))
-    (lesser (text_of (leaf_of 14 8 4)) (lesser (text_of (leaf_of 14 2 4)) (lesser (text_of (leaf_of 8 10 12)) (text_of (leaf_of 2 10 6))))))))
-    ≡ codes "[M2] (canonical 1)\n#R B3/S23\n$$$$....*$....*.*$....**$$\n"
+row_turned_glider : fold lesser (text_of (leaf_of 4 2 14)) (map text_of leaves) ≡ codes "[M2] (canonical 1)\n#R B3/S23\n$$$$....*$....*.*$....**$$\n"
 unfolding row_cells
 row_turned_glider = refl
 

@@ -31,10 +31,16 @@ pub fn are_shifts(
 ) -> Result<bool, Fault>
     requires a { IsTrimmed store.old a.now }
     requires b { IsTrimmed store.old b.now }
-    ensures answer { IfOk result (λ answer. IsTrue answer ↔ IsShift (universe_in store.old a.now) (universe_in store.old b.now)) }
-    ensures few { OnOk result ((population (content store.old a.now.root) ≤ 2 ^ 20) × (population (content store.old b.now.root) ≤ 2 ^ 20)) }
-    ensures fault { IfErr result (λ fault. ((fault ≡ fault_of TooManyCells) × ((2 ^ 20 < population (content store.old a.now.root)) ⊎ (2 ^ 20 < population (content store.old b.now.root)))) ⊎ IsWant store.new fault) }
-    ensures needed { result ≡ Err (fault_of Full) → LacksForMoved (universe_in store.old a.now) store.new ⊎ LacksForMoved (universe_in store.old b.now) store.new }
+    ensures answer { IfOk result (λ answer. IsTrue answer ↔ IsShift (universe_in store.old a.now)
+        (universe_in store.old b.now)) }
+    ensures few { OnOk result ((population (content store.old a.now.root) ≤ 2 ^ 20)
+        × (population (content store.old b.now.root) ≤ 2 ^ 20)) }
+    ensures fault { IfErr result (λ fault. ((fault ≡ fault_of TooManyCells)
+        × ((2 ^ 20 < population (content store.old a.now.root))
+        ⊎ (2 ^ 20 < population (content store.old b.now.root)))) ⊎ IsWant store.new fault) }
+    ensures needed { result ≡ Err (fault_of Full)
+        → LacksForMoved (universe_in store.old a.now) store.new
+        ⊎ LacksForMoved (universe_in store.old b.now) store.new }
     ensures keeps { Keeps store.old store.new }
 {
     let first = moved_of(alloc, store, a)?;
@@ -61,12 +67,15 @@ pub fn are_turns(alloc: Global, store: &Shared, a: &Pattern, b: &Pattern) -> Res
     requires b { IsTrimmed store.now b.now }
     requires a_rule { IsRule a.now.rule }
     requires b_rule { IsRule b.now.rule }
-    ensures answer { IfOk result (λ answer. IsTrue answer ↔ IsTurnedShift (universe_in store.now a.now) (universe_in store.now b.now)) }
+    ensures answer { IfOk result (λ answer. IsTrue answer ↔ IsTurnedShift
+        (universe_in store.now a.now) (universe_in store.now b.now)) }
     ensures few { OnOk result (a.now.generation ≡ b.now.generation
-        → (population (content store.now a.now.root) ≤ 2 ^ 20) × (population (content store.now b.now.root) ≤ 2 ^ 20)) }
+        → (population (content store.now a.now.root) ≤ 2 ^ 20)
+        × (population (content store.now b.now.root) ≤ 2 ^ 20)) }
     ensures fault { IfErr result (λ fault. (fault ≡ fault_of Memory)
         ⊎ ((fault ≡ fault_of TooManyCells) × (a.now.generation ≡ b.now.generation)
-        × ((2 ^ 20 < population (content store.now a.now.root)) ⊎ (2 ^ 20 < population (content store.now b.now.root))))) }
+        × ((2 ^ 20 < population (content store.now a.now.root))
+        ⊎ (2 ^ 20 < population (content store.now b.now.root))))) }
 {
     if a.generation != b.generation {
         return Ok(false);

@@ -14,13 +14,12 @@ ghost use Rattle.life_forms.specs.Images.{IsImageText, IsTurnedText, numbered};
 ghost use Rattle.life_forms.specs.Trees.{turned_tree};
 ghost use Rattle.life_forms.specs.Turns.{image};
 
-use crate::moving::MOST_CELLS;
 use crate::patterns::moved_pattern;
 use crate::turn::Turn;
 use crate::turning::placed;
 use life_base::{Fault, Kind};
 use life_canon::laws::{centred_squares_tell_cells, squares_are_centred};
-use life_canon::{Pattern, text_of};
+use life_canon::{MOST_CELLS, Pattern, text_of};
 use life_quad::{Id, Shared, SharedSquares, Squares, divide, is_blank_at, population};
 use std::alloc::Global;
 
@@ -34,55 +33,33 @@ const MOST_SQUARES: u64 = 1 << 62;
 /// `Full` where a square is new and the store holds its limit, and `Memory`. After either each Id has its square.
 fn image_of<S: Squares, T: Squares>(
     from: &S,
-    squares: &mut T,
+    to: &mut T,
     turn: Turn,
     level: u8,
     id: Id,
 ) -> Result<Id, Kind>
     requires known { S.knows from.now id }
     requires level { depth (S.content from.now id) ≡ level }
-    ensures known { IfOk result (T.knows squares.new) }
-    ensures level { IfOk result (λ image. depth (T.content squares.new image) ≡ level) }
-    ensures square { IfOk result (λ image. T.content squares.new image ≡ turned_tree turn (S.content from.now id)) }
-    ensures keeps { KeepsSquares T.knows T.content T.stored T.most squares.old squares.new }
-    ensures refusals { IfErr result (IsWantKind (T.stored squares.new) (T.most squares.new)) }
+    ensures known { IfOk result (T.knows to.new) }
+    ensures level { IfOk result (λ image. depth (T.content to.new image) ≡ level) }
+    ensures square { IfOk result
+        (λ image. T.content to.new image ≡ turned_tree turn (S.content from.now id)) }
+    ensures keeps { KeepsSquares T.knows T.content T.stored T.most to.old to.new }
+    ensures refusals { IfErr result (IsWantKind (T.stored to.new) (T.most to.new)) }
 {
     if let Some(state) = from.state(id) {
-        return Ok(squares.cell(state));
+        return Ok(to.cell(state));
     }
     if is_blank_at(from, level, id) {
-        return Ok(squares.empty(level));
+        return Ok(to.empty(level));
     }
     let parts = divide(from, id);
-    let nw = image_of(
-        from,
-        squares,
-        turn,
-        level - 1,
-        placed(turn, parts, false, false),
-    )?;
-    let ne = image_of(
-        from,
-        squares,
-        turn,
-        level - 1,
-        placed(turn, parts, true, false),
-    )?;
-    let sw = image_of(
-        from,
-        squares,
-        turn,
-        level - 1,
-        placed(turn, parts, false, true),
-    )?;
-    let se = image_of(
-        from,
-        squares,
-        turn,
-        level - 1,
-        placed(turn, parts, true, true),
-    )?;
-    squares.join(nw, ne, sw, se)
+    let below = level - 1;
+    let nw = image_of(from, to, turn, below, placed(turn, parts, false, false))?;
+    let ne = image_of(from, to, turn, below, placed(turn, parts, true, false))?;
+    let sw = image_of(from, to, turn, below, placed(turn, parts, false, true))?;
+    let se = image_of(from, to, turn, below, placed(turn, parts, true, true))?;
+    to.join(nw, ne, sw, se)
 }
 
 /// The turn with this number.
@@ -127,9 +104,12 @@ fn moved_image(
 ) -> Result<Pattern, Kind>
     requires { IsTrimmed store.now pattern.now }
     ensures trimmed { IfOk result (IsTrimmed squares.new) }
-    ensures moved { IfOk result (λ moved. IsMoved MAX_LEVEL (image turn (universe_in store.now pattern.now)) (universe_in squares.new moved)) }
-    ensures many { IfErr result (λ kind. kind ≡ TooManyCells → 2 ^ 20 < population (content store.now pattern.now.root)) }
-    ensures refusals { IfErr result (λ kind. (kind ≡ TooManyCells) ⊎ IsWantKind (held squares.new) squares.new.limit kind) }
+    ensures moved { IfOk result (λ moved. IsMoved MAX_LEVEL
+        (image turn (universe_in store.now pattern.now)) (universe_in squares.new moved)) }
+    ensures many { IfErr result
+        (λ kind. kind ≡ TooManyCells → 2 ^ 20 < population (content store.now pattern.now.root)) }
+    ensures refusals { IfErr result
+        (λ kind. (kind ≡ TooManyCells) ⊎ IsWantKind (held squares.new) squares.new.limit kind) }
 {
     squares_are_centred();
     centred_squares_tell_cells();
@@ -147,8 +127,11 @@ fn image_text(
     turn: Turn,
 ) -> Result<Vec<u8>, Fault>
     requires { IsTrimmed store.now pattern.now }
-    ensures text { IfOk result (λ text. IsImageText MAX_LEVEL (universe_in store.now pattern.now) turn text.items) }
-    ensures fault { IfErr result (λ fault. (fault ≡ fault_of Memory) ⊎ ((fault ≡ fault_of TooManyCells) × (2 ^ 20 < population (content store.now pattern.now.root)))) }
+    ensures text { IfOk result
+        (λ text. IsImageText MAX_LEVEL (universe_in store.now pattern.now) turn text.items) }
+    ensures fault { IfErr result (λ fault. (fault ≡ fault_of Memory)
+        ⊎ ((fault ≡ fault_of TooManyCells)
+        × (2 ^ 20 < population (content store.now pattern.now.root)))) }
 {
     let mut squares = Shared::new(alloc, store.seed(), MOST_SQUARES);
     match moved_image(alloc, &mut squares, store, pattern, turn) {
@@ -180,9 +163,12 @@ fn lesser(first: Vec<u8>, second: Vec<u8>) -> Vec<u8>
 /// it: each image is made in a store of its own.
 pub fn turned_text(alloc: Global, store: &Shared, pattern: &Pattern) -> Result<Vec<u8>, Fault>
     requires { IsTrimmed store.now pattern.now }
-    ensures text { IfOk result (λ text. IsTurnedText MAX_LEVEL (universe_in store.now pattern.now) text.items) }
+    ensures text { IfOk result
+        (λ text. IsTurnedText MAX_LEVEL (universe_in store.now pattern.now) text.items) }
     ensures few { OnOk result (population (content store.now pattern.now.root) ≤ 2 ^ 20) }
-    ensures fault { IfErr result (λ fault. (fault ≡ fault_of Memory) ⊎ ((fault ≡ fault_of TooManyCells) × (2 ^ 20 < population (content store.now pattern.now.root)))) }
+    ensures fault { IfErr result (λ fault. (fault ≡ fault_of Memory)
+        ⊎ ((fault ≡ fault_of TooManyCells)
+        × (2 ^ 20 < population (content store.now pattern.now.root)))) }
 {
     if population(alloc, store, pattern.root)? > u128::from(MOST_CELLS) {
         return Err(Fault::of(Kind::TooManyCells));

@@ -16,12 +16,10 @@ ghost use Rattle.life_forms.specs.Cells.{moved_run, moved_runs, LiesOnPlane, IsW
 ghost use Rattle.life_forms.specs.Needed.{SomeOfPlane, SomeOfMoved};
 
 use life_base::{Cell, Kind, MAX_LEVEL, Run};
+use life_canon::MOST_CELLS;
 use life_quad::{Id, SharedSquares, Squares, bounds, cells};
 use life_strip::Builder;
 use std::alloc::Global;
-
-/// The most nonzero cells of a pattern that is moved.
-pub(crate) const MOST_CELLS: u64 = 1 << 20;
 
 /// The first coordinate behind the plane.
 const EDGE: i64 = 1 << 61;
@@ -49,7 +47,8 @@ fn side_way(low: i64, high: i64) -> i64
 fn way_of<S: SharedSquares>(alloc: Global, squares: &S, root: Id) -> Result<Way, Kind>
     requires known { S.knows squares.now root }
     requires high { 1 ≤ depth (S.content squares.now root) }
-    ensures place { IfOk result (λ way. IsWay (tree_cell (S.content squares.now root)) way.columns way.rows) }
+    ensures place { IfOk result
+        (λ way. IsWay (tree_cell (S.content squares.now root)) way.columns way.rows) }
     ensures memory { IfErr result (λ kind. kind ≡ Memory) }
 {
     match bounds(alloc, squares, root)? {
@@ -93,10 +92,13 @@ fn moved_square<S: Squares>(
     requires inside { All (LiesOnPlane columns rows) cells.now }
     ensures known { IfOk result (S.knows squares.new) }
     ensures level { IfOk result (λ id. depth (S.content squares.new id) ≡ MAX_LEVEL) }
-    ensures cells { IfOk result (λ id. (x y : ℤ) → tree_cell (S.content squares.new id) x y ≡ state_by (moved_runs columns rows cells.now) x y) }
+    ensures cells { IfOk result (λ id. (x y : ℤ)
+        → tree_cell (S.content squares.new id) x y
+        ≡ state_by (moved_runs columns rows cells.now) x y) }
     ensures keeps { KeepsSquares S.knows S.content S.stored S.most squares.old squares.new }
     ensures refusals { IfErr result (IsWantKind (S.stored squares.new) (S.most squares.new)) }
-    ensures needed { result ≡ Err Full → SomeOfPlane (S.needs_node squares.new) (moved_runs columns rows cells.now) }
+    ensures needed { result ≡ Err Full
+        → SomeOfPlane (S.needs_node squares.new) (moved_runs columns rows cells.now) }
 {
     let mut builder = Builder::new(alloc);
     for cell in cells {
@@ -120,12 +122,17 @@ pub(crate) fn moved_plane<S: SharedSquares>(
     requires high { 1 ≤ depth (S.content squares.old root) }
     ensures known { IfOk result (S.knows squares.new) }
     ensures level { IfOk result (λ id. depth (S.content squares.new id) ≡ MAX_LEVEL) }
-    ensures moved { IfOk result (λ id. (rule : Rule) (generation : ℕ) → IsMoved MAX_LEVEL (square_universe rule generation (S.content squares.old root)) (square_universe rule generation (S.content squares.new id))) }
+    ensures moved { IfOk result (λ id. (rule : Rule) (generation : ℕ)
+        → IsMoved MAX_LEVEL (square_universe rule generation (S.content squares.old root))
+        (square_universe rule generation (S.content squares.new id))) }
     ensures few { OnOk result (population (S.content squares.old root) ≤ 2 ^ 20) }
-    ensures many { IfErr result (λ kind. kind ≡ TooManyCells → 2 ^ 20 < population (S.content squares.old root)) }
-    ensures refusals { IfErr result (λ kind. (kind ≡ TooManyCells) ⊎ IsWantKind (S.stored squares.new) (S.most squares.new) kind) }
+    ensures many { IfErr result
+        (λ kind. kind ≡ TooManyCells → 2 ^ 20 < population (S.content squares.old root)) }
+    ensures refusals { IfErr result (λ kind. (kind ≡ TooManyCells)
+        ⊎ IsWantKind (S.stored squares.new) (S.most squares.new) kind) }
     ensures room { result ≡ Err Full → population (S.content squares.old root) ≤ 2 ^ 20 }
-    ensures needed { result ≡ Err Full → SomeOfMoved (S.needs_node squares.new) (tree_cell (S.content squares.old root)) }
+    ensures needed { result ≡ Err Full
+        → SomeOfMoved (S.needs_node squares.new) (tree_cell (S.content squares.old root)) }
     ensures keeps { KeepsSquares S.knows S.content S.stored S.most squares.old squares.new }
 {
     let list = cells(alloc, squares, root, MOST_CELLS)?;

@@ -16,20 +16,10 @@ ghost use Rattle.life_forms.specs.Needed.{LacksForMoved};
 
 use crate::moving::moved_plane;
 use life_base::{Fault, Kind, Rule};
-use life_canon::Pattern;
 use life_canon::laws::squares_are_centred;
+use life_canon::{Pattern, least_level};
 use life_quad::{Id, Shared, trim};
 use std::alloc::Global;
-
-/// The least level of the root of a pattern with this rule.
-fn least_level(rule: &Rule) -> u8
-    ensures { result ≡ least_level rule.now }
-{
-    match rule {
-        Rule::Life(_) => 3,
-        Rule::Named(_) => 1,
-    }
-}
 
 /// The cells of a square, moved into their place, as a pattern under this rule and in this generation.
 pub(crate) fn moved_pattern(
@@ -43,11 +33,16 @@ pub(crate) fn moved_pattern(
     requires high { 1 ≤ depth (content store.old square) }
     requires states { (x y : ℤ) → tree_cell (content store.old square) x y ≤ largest_state rule }
     ensures trimmed { IfOk result (IsTrimmed store.new) }
-    ensures moved { IfOk result (λ moved. IsMoved MAX_LEVEL (square_universe rule generation (content store.old square)) (universe_in store.new moved)) }
+    ensures moved { IfOk result (λ moved. IsMoved MAX_LEVEL
+        (square_universe rule generation (content store.old square))
+        (universe_in store.new moved)) }
     ensures few { OnOk result (population (content store.old square) ≤ 2 ^ 20) }
-    ensures many { IfErr result (λ kind. kind ≡ TooManyCells → 2 ^ 20 < population (content store.old square)) }
-    ensures refusals { IfErr result (λ kind. (kind ≡ TooManyCells) ⊎ IsWantKind (held store.new) store.new.limit kind) }
-    ensures needed { result ≡ Err Full → LacksForMoved (square_universe rule generation (content store.old square)) store.new }
+    ensures many { IfErr result
+        (λ kind. kind ≡ TooManyCells → 2 ^ 20 < population (content store.old square)) }
+    ensures refusals { IfErr result
+        (λ kind. (kind ≡ TooManyCells) ⊎ IsWantKind (held store.new) store.new.limit kind) }
+    ensures needed { result ≡ Err Full
+        → LacksForMoved (square_universe rule generation (content store.old square)) store.new }
     ensures keeps { Keeps store.old store.new }
 {
     squares_are_centred();
@@ -72,10 +67,13 @@ pub(crate) fn moved_pattern(
 pub fn moved_of(alloc: Global, store: &mut Shared, pattern: &Pattern) -> Result<Pattern, Fault>
     requires { IsTrimmed store.old pattern.now }
     ensures trimmed { IfOk result (IsTrimmed store.new) }
-    ensures moved { IfOk result (λ moved. IsMoved MAX_LEVEL (universe_in store.old pattern.now) (universe_in store.new moved)) }
+    ensures moved { IfOk result (λ moved. IsMoved MAX_LEVEL (universe_in store.old pattern.now)
+        (universe_in store.new moved)) }
     ensures few { OnOk result (population (content store.old pattern.now.root) ≤ 2 ^ 20) }
-    ensures fault { IfErr result (λ fault. ((fault ≡ fault_of TooManyCells) × (2 ^ 20 < population (content store.old pattern.now.root))) ⊎ IsWant store.new fault) }
-    ensures needed { result ≡ Err (fault_of Full) → LacksForMoved (universe_in store.old pattern.now) store.new }
+    ensures fault { IfErr result (λ fault. ((fault ≡ fault_of TooManyCells)
+        × (2 ^ 20 < population (content store.old pattern.now.root))) ⊎ IsWant store.new fault) }
+    ensures needed { result ≡ Err (fault_of Full)
+        → LacksForMoved (universe_in store.old pattern.now) store.new }
     ensures keeps { Keeps store.old store.new }
 {
     let rule = pattern.rule.copy(alloc)?;

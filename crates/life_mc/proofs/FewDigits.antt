@@ -1,11 +1,13 @@
 -- Numbers of few digits in front of a text.
-use Rattle.std.proofs.Common.{◌≡◌, ℕ, zero, suc, ◌+◌, ◌-◌, ◌*◌, ◌^◌, ◌<◌, ◌≤◌, Bool, true, false, ◌&&◌, List, [], ◌∷◌, take, drop, get_or, length, refl, ap, sym, ◌∙◌, add-one, arith}
+use Rattle.std.proofs.Common.{◌≡◌, ℕ, zero, suc, ◌+◌, ◌-◌, ◌*◌, ◌^◌, ◌<◌, ◌≤◌, Bool, true, false, ◌&&◌, List, [], ◌∷◌, take, drop, get_or, length, length-drop, refl, ap, sym, ◌∙◌, add-one, arith}
 use Rattle.std.specs.Char.{is_ascii_digit, digit_value}
 use Rattle.std.specs.List.{list_all}
 use Rattle.std.proofs.Math.Nat.{pow-suc, pow-le-pow_right}
 use Rattle.std.proofs.lemmas.Bool.Decides.{nat_tests}
 use Rattle.std.proofs.lemmas.Int.Digits.{digits_value_more}
-use Rattle.life_base.proofs.LineEnds.{all_behind}
+use Rattle.std.proofs.Math.Seq.{drop-length}
+use Rattle.std.proofs.lemmas.List.{drop-drop, drop_more, get_or-drop}
+use Rattle.std.proofs.lemmas.List.Folds.{list_all_more}
 use Rattle.life_base.specs.Numbers.{capped}
 use Rattle.life_base.specs.Text.{is_blank, is_whitespace, is_digit_text, onto_first, value_of, words_of}
 
@@ -32,6 +34,42 @@ digit_small b h = grind (arith, nat_tests)
 pub one_more : (text : List ℕ) (i n : ℕ) → i < length text → is_ascii_digit (get_or text i 0) ≡ true → n ≡ value_of (take i text)
     → n * 10 + (get_or text i 0 - 48) ≡ value_of (take (i + 1) text)
 one_more text i n h d e = omega (arith, digits_value_more 10 text i h, digit_is (get_or text i 0) d, e)
+
+-- ---- behind a place
+
+-- the byte at a place behind another
+at_place : (text : List ℕ) (from i : ℕ) → from ≤ i → get_or (drop from text) (i - from) 0 ≡ get_or text i 0
+at_place text from i h =
+    let e : from + (i - from) ≡ i = omega (arith, h) in
+    get_or-drop from text (i - from) 0 ∙ ap (λ k. get_or text k 0) e
+
+within_rest : (text : List ℕ) (from i : ℕ) → from ≤ i → i < length text → i - from < length (drop from text)
+within_rest text from i h l = omega (arith, h, l, length-drop from text)
+
+next_place : (from i : ℕ) → from ≤ i → i - from + 1 ≡ i + 1 - from
+next_place from i h = omega (arith, h)
+
+pub digits_behind : (text : List ℕ) (from i : ℕ) → from ≤ i → i < length text → is_ascii_digit (get_or text i 0) ≡ true
+    → list_all is_ascii_digit (take (i - from) (drop from text)) ≡ true → list_all is_ascii_digit (take (i + 1 - from) (drop from text)) ≡ true
+digits_behind text from i h l d e =
+    let rest = drop from text in
+    ap (λ k. list_all is_ascii_digit (take k rest)) (sym (next_place from i h))
+    ∙ list_all_more is_ascii_digit rest (i - from) 0 (within_rest text from i h l)
+    ∙ ap (λ v. v && is_ascii_digit (get_or rest (i - from) 0)) e ∙ ap is_ascii_digit (at_place text from i h) ∙ d
+
+pub number_behind : (text : List ℕ) (from i n : ℕ) → from ≤ i → i < length text → is_ascii_digit (get_or text i 0) ≡ true
+    → n ≡ value_of (take (i - from) (drop from text)) → n * 10 + (get_or text i 0 - 48) ≡ value_of (take (i + 1 - from) (drop from text))
+number_behind text from i n h l d e =
+    let rest = drop from text in
+    let at = at_place text from i h in
+    ap (λ b. n * 10 + (b - 48)) (sym at) ∙ one_more rest (i - from) n (within_rest text from i h l) (ap is_ascii_digit at ∙ d) e
+    ∙ ap (λ k. value_of (take k rest)) (next_place from i h)
+
+pub size_behind : (n d from i : ℕ) → from ≤ i → n < 10 ^ (i - from) → d ≤ 9 → n * 10 + d < 10 ^ (i + 1 - from)
+size_behind n d from i h l m = ap_less (next_place from i h) (longer n d (i - from) l m)
+  where
+    ap_less : {j k : ℕ} → j ≡ k → n * 10 + d < 10 ^ j → n * 10 + d < 10 ^ k
+    ap_less e p = rw (sym e) p
 
 -- ---- the word that they are
 
@@ -60,12 +98,10 @@ word_in_front (suc (suc n)) (b ∷ a ∷ text) h l d e =
     let ih = word_in_front (suc n) (a ∷ text) (omega arith) (omega (arith, l)) (both _ _ d).1 e in
     goes_on b (a ∷ text) (digit_no_space b (both _ _ d).0) (no_blank a text (digit_no_space a (both _ _ (both _ _ d).1).0)) ∙ ap (onto_first b) ih
 
--- behind them stands nothing
-pub nothing_behind : (text rest : List ℕ) (n : ℕ) → rest ≡ drop n text → 0 < n → n ≤ length text → list_all is_ascii_digit (take n text) ≡ true
-    → length rest < 1 → words_of text ≡ take n text ∷ []
-nothing_behind text [] n e h l d s = word_in_front n text h l d (ap (λ (r : List ℕ). is_blank (take 1 r)) (sym e))
-    ∙ ap (λ (r : List ℕ). take n text ∷ words_of r) (sym e)
-nothing_behind text (b ∷ rest) n e h l d s = absurd (omega (arith, s))
+left_at : (text : List ℕ) (from end : ℕ) → from ≤ end → drop (end - from) (drop from text) ≡ drop end text
+left_at text from end h =
+    let e : from + (end - from) ≡ end = omega (arith, h) in
+    drop-drop (end - from) from text ∙ ap (λ n. drop n text) e
 
 passed : (b : ℕ) (rest : List ℕ) → is_whitespace b ≡ true → words_of (b ∷ rest) ≡ words_of rest
 passed b rest w = rw w refl
@@ -73,20 +109,38 @@ passed b rest w = rw w refl
 blank_first : (b : ℕ) (rest : List ℕ) → is_whitespace b ≡ true → is_blank (take 1 (b ∷ rest)) ≡ true
 blank_first b rest w = rw w refl
 
--- behind them stands whitespace, of which the first byte may be left out
-pub space_behind : (text rest : List ℕ) (n : ℕ) → rest ≡ drop n text → 0 < n → n ≤ length text → list_all is_ascii_digit (take n text) ≡ true
-    → is_whitespace (get_or rest 0 0) ≡ true → 1 ≤ length rest → words_of text ≡ take n text ∷ words_of (take (length rest - 1) (drop 1 rest))
-space_behind text [] n e h l d w s = absurd (omega (arith, s))
-space_behind text (b ∷ rest) n e h l d w s = word_in_front n text h l d (ap (λ (r : List ℕ). is_blank (take 1 r)) (sym e) ∙ blank_first b rest w)
-    ∙ ap (λ (r : List ℕ). take n text ∷ words_of r) (sym e)
-    ∙ ap (λ (words : List (List ℕ)). take n text ∷ words) (passed b rest w ∙ ap words_of (sym (all_behind (b ∷ rest) 1)))
-
 -- some digits are a digit text
 pub some_digits : (n : ℕ) (text : List ℕ) → 0 < n → n ≤ length text → list_all is_ascii_digit (take n text) ≡ true → is_digit_text (take n text) ≡ true
 some_digits zero text h l d = absurd (omega (arith, h))
 some_digits (suc n) [] h l d = absurd (omega (arith, l))
 some_digits (suc n) (b ∷ text) h l d = d
 
+-- digits between two places are a word, where a space is behind them
+pub spaced_word : (text : List ℕ) (from end : ℕ) → from < end → end < length text → list_all is_ascii_digit (take (end - from) (drop from text)) ≡ true
+    → get_or text end 0 ≡ 32 → words_of (drop from text) ≡ take (end - from) (drop from text) ∷ words_of (drop (end + 1) text)
+spaced_word text from end h l d s =
+    let rest = drop from text in
+    let word = take (end - from) rest in
+    let left : drop (end - from) rest ≡ get_or text end 0 ∷ drop (end + 1) text = left_at text from end (omega (arith, h)) ∙ drop_more text end 0 l in
+    let space : is_whitespace (get_or text end 0) ≡ true = rw s refl in
+    word_in_front (end - from) rest (omega (arith, h)) (omega (arith, h, l, length-drop from text)) d
+    (ap (λ (r : List ℕ). is_blank (take 1 r)) left ∙ blank_first (get_or text end 0) (drop (end + 1) text) space)
+    ∙ ap (λ (words : List (List ℕ)). word ∷ words) (ap words_of left ∙ passed (get_or text end 0) (drop (end + 1) text) space)
+
+-- and where nothing is behind them
+pub last_word : (text : List ℕ) (from end : ℕ) → from < end → end ≡ length text → list_all is_ascii_digit (take (end - from) (drop from text)) ≡ true
+    → words_of (drop from text) ≡ take (end - from) (drop from text) ∷ []
+last_word text from end h l d =
+    let rest = drop from text in
+    let word = take (end - from) rest in
+    let none : drop (end - from) rest ≡ [] = left_at text from end (omega (arith, h)) ∙ ap (λ n. drop n text) l ∙ drop-length text in
+    word_in_front (end - from) rest (omega (arith, h)) (omega (arith, h, l, length-drop from text)) d (ap (λ (r : List ℕ). is_blank (take 1 r)) none)
+    ∙ ap (λ (r : List ℕ). word ∷ words_of r) none
+
+pub digit_text_between : (text : List ℕ) (from end : ℕ) → from < end → end ≤ length text → list_all is_ascii_digit (take (end - from) (drop from text)) ≡ true
+    → is_digit_text (take (end - from) (drop from text)) ≡ true
+digit_text_between text from end h l d = some_digits (end - from) (drop from text) (omega (arith, h)) (omega (arith, h, l, length-drop from text)) d
+
 -- a number of the type stands as it is
-pub no_cap : (n value : ℕ) → value ≡ n → value < 18446744073709551616 → n ≡ capped n
-no_cap n value e h = omega (arith, e, h)
+pub no_cap : (n : ℕ) (word : List ℕ) → n ≡ value_of word → n < 18446744073709551616 → n ≡ capped (value_of word)
+no_cap n word e h = omega (arith, e, h)

@@ -14,7 +14,8 @@ use std::simd::prelude::*;
 /// It is computed without a branch on the state, which no processor can guess.
 fn cell_bit(cell: u8, bit: u8) -> Option<u8>
     ensures { MatchOption result ((is_cell cell && nat_lt 0 bit) ≡ false)
-        (λ added. ((is_cell cell && nat_lt 0 bit) ≡ true) × (added ≡ (if cell == byte "*" then bit else 0))) }
+        (λ added. ((is_cell cell && nat_lt 0 bit) ≡ true)
+        × (added ≡ (if cell == byte "*" then bit else 0))) }
 {
     if bit == 0 || (cell != b'*' && cell != b'.') {
         return None;
@@ -73,7 +74,8 @@ fn first_columns(row: u8, column: usize) -> u8
 fn whole_row(text: &[u8]) -> Option<(u8, usize)>
     requires { 8 < length text.now }
     ensures { MatchOption result (is_row (first_row text.now) ≡ false)
-        (λ p. (is_row (first_row text.now) ≡ true) × (p.0 ≡ row_byte (first_row text.now)) × (p.1 ≡ length (first_row text.now))) }
+        (λ p. (is_row (first_row text.now) ≡ true) × (p.0 ≡ row_byte (first_row text.now))
+        × (p.1 ≡ length (first_row text.now))) }
 {
     let end = cells_in_front(text);
     if text[end] != b'$' {
@@ -86,7 +88,8 @@ fn whole_row(text: &[u8]) -> Option<(u8, usize)>
 /// turn by turn.
 fn cells_row(text: &[u8]) -> Option<(u8, usize)>
     ensures { MatchOption result (is_row (first_row text.now) ≡ false)
-        (λ p. (is_row (first_row text.now) ≡ true) × (p.0 ≡ row_byte (first_row text.now)) × (p.1 ≡ length (first_row text.now))) }
+        (λ p. (is_row (first_row text.now) ≡ true) × (p.0 ≡ row_byte (first_row text.now))
+        × (p.1 ≡ length (first_row text.now))) }
 {
     let mut row = 0u8;
     let mut bit = 128u8;
@@ -107,7 +110,8 @@ fn cells_row(text: &[u8]) -> Option<(u8, usize)>
 /// The first row of a text, if it is one of a leaf, and how many bytes it has.
 fn read_row(text: &[u8]) -> Option<(u8, usize)>
     ensures { MatchOption result (is_row (first_row text.now) ≡ false)
-        (λ p. (is_row (first_row text.now) ≡ true) × (p.0 ≡ row_byte (first_row text.now)) × (p.1 ≡ length (first_row text.now))) }
+        (λ p. (is_row (first_row text.now) ≡ true) × (p.0 ≡ row_byte (first_row text.now))
+        × (p.1 ≡ length (first_row text.now))) }
 {
     if text.len() > 8 {
         whole_row(text)
@@ -126,7 +130,8 @@ fn behind_row(text: &[u8], end: usize) -> &[u8]
 
 /// The eight rows of a leaf line.
 pub(crate) fn read_leaf(text: &[u8]) -> Option<[u8; 8]>
-    ensures { MatchOption result (is_leaf text.now ≡ false) (λ rows. (is_leaf text.now ≡ true) × (rows ≡ leaf_bytes text.now)) }
+    ensures { MatchOption result (is_leaf text.now ≡ false)
+        (λ rows. (is_leaf text.now ≡ true) × (rows ≡ leaf_bytes text.now)) }
 {
     let mut rows = [0; 8];
     let mut rest = text;

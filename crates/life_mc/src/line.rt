@@ -1,11 +1,11 @@
 //! The lines of a macrocell file: what one is, and the square that a node line writes.
 
-ghost use Rattle.std.specs.Prelude.{◌≡◌, ◌<◌, ◌-◌, ◌^◌, length, None, Some, Err, MatchResult, ◌⊎◌, drop, IfErr};
+ghost use Rattle.std.specs.Prelude.{◌≡◌, ◌<◌, ◌-◌, ◌^◌, length, true, None, Some, Err, MatchOption, MatchResult, ◌⊎◌, drop, IfErr};
 ghost use Rattle.life_base.specs.Text.{trim, value_of};
 ghost use Rattle.life_base.specs.Numbers.{u64_of};
 ghost use Rattle.life_base.specs.declared.kind.Kind.TheVariants.{Memory};
 ghost use Rattle.std.specs.Result.{result_err};
-ghost use Rattle.life_mc.specs.Reading.{is_command, broken_after};
+ghost use Rattle.life_mc.specs.Reading.{is_command, is_node_line, broken_after};
 ghost use Rattle.life_mc.specs.Standing.{IsParsed};
 
 use crate::node::read_node;
@@ -45,10 +45,79 @@ fn is_command(letter: u8, line: &[u8]) -> bool
 
 /// The generation behind `#G`.
 fn read_generation(text: &[u8]) -> Result<u64, Kind>
-    ensures { MatchResult result (λ n. (n ≡ value_of (trim text.now)) × (result_err (u64_of (trim text.now)) ≡ None))
+    ensures { MatchResult result
+        (λ n. (n ≡ value_of (trim text.now)) × (result_err (u64_of (trim text.now)) ≡ None))
         (λ kind. result_err (u64_of (trim text.now)) ≡ Some kind) }
 {
     read_u64(trimmed(text))
+}
+
+/// Whether a line begins neither with whitespace nor with `#`.
+fn begins_as_node(line: &[u8]) -> bool
+    ensures { result ≡ true → is_node_line line.now ≡ true }
+{
+    match line {
+        [first, ..] => !is_whitespace(*first) && *first != b'#',
+        [] => false,
+    }
+}
+
+/// What a line behind the header is, if it is no node line, where this is the rule and these the levels so far.
+#[inline(always)]
+fn parse_command(
+    alloc: Global,
+    rule: &Rule,
+    levels: &[u8],
+    line: &[u8],
+) -> Result<Option<Directive>, Kind>
+    ensures { MatchResult result (λ found. MatchOption found (is_node_line line.now ≡ true)
+        (λ directive. IsParsed line.now directive
+        × (broken_after MAX_LEVEL rule.now levels.now line.now ≡ None)))
+        (λ kind. (kind ≡ Memory)
+        ⊎ (broken_after MAX_LEVEL rule.now levels.now line.now ≡ Some kind)) }
+{
+    if begins_as_node(line) {
+        return Ok(None);
+    }
+    parse_by_tests(alloc, rule, levels, line)
+}
+
+/// The same, by one test after another. It is never inlined: most lines are node lines, and begin as these.
+#[inline(never)]
+fn parse_by_tests(
+    alloc: Global,
+    rule: &Rule,
+    levels: &[u8],
+    line: &[u8],
+) -> Result<Option<Directive>, Kind>
+    ensures { MatchResult result (λ found. MatchOption found (is_node_line line.now ≡ true)
+        (λ directive. IsParsed line.now directive
+        × (broken_after MAX_LEVEL rule.now levels.now line.now ≡ None)))
+        (λ kind. (kind ≡ Memory)
+        ⊎ (broken_after MAX_LEVEL rule.now levels.now line.now ≡ Some kind)) }
+{
+    if is_blank(line) {
+        return Ok(Some(Directive::Nothing));
+    }
+    if begins_with(line, b"#FRAME") {
+        return Err(Kind::Timeline);
+    }
+    if is_command(b'R', line) {
+        if !levels.is_empty() {
+            return Err(Kind::LateHeader);
+        }
+        return Ok(Some(Directive::RuleLine(Rule::parse(alloc, &line[2..])?)));
+    }
+    if is_command(b'G', line) {
+        if !levels.is_empty() {
+            return Err(Kind::LateHeader);
+        }
+        return Ok(Some(Directive::GenerationLine(read_generation(&line[2..])?)));
+    }
+    if begins_with(line, b"#") {
+        return Ok(Some(Directive::Nothing));
+    }
+    Ok(None)
 }
 
 /// What a line behind the header is, where this is the rule and these the levels so far.
@@ -59,30 +128,13 @@ pub(crate) fn parse_line(
     line: &[u8],
 ) -> Result<Directive, Kind>
     requires { length levels.now < 2 ^ 64 - 1 }
-    ensures { MatchResult result
-        (λ directive. IsParsed line.now directive × (broken_after MAX_LEVEL rule.now levels.now line.now ≡ None))
-        (λ kind. (kind ≡ Memory) ⊎ (broken_after MAX_LEVEL rule.now levels.now line.now ≡ Some kind)) }
+    ensures { MatchResult result (λ directive. IsParsed line.now directive
+        × (broken_after MAX_LEVEL rule.now levels.now line.now ≡ None))
+        (λ kind. (kind ≡ Memory)
+        ⊎ (broken_after MAX_LEVEL rule.now levels.now line.now ≡ Some kind)) }
 {
-    if is_blank(line) {
-        return Ok(Directive::Nothing);
+    match parse_command(alloc, rule, levels, line)? {
+        Some(directive) => Ok(directive),
+        None => Ok(Directive::NodeLine(read_node(rule, levels, line)?)),
     }
-    if begins_with(line, b"#FRAME") {
-        return Err(Kind::Timeline);
-    }
-    if is_command(b'R', line) {
-        if !levels.is_empty() {
-            return Err(Kind::LateHeader);
-        }
-        return Ok(Directive::RuleLine(Rule::parse(alloc, &line[2..])?));
-    }
-    if is_command(b'G', line) {
-        if !levels.is_empty() {
-            return Err(Kind::LateHeader);
-        }
-        return Ok(Directive::GenerationLine(read_generation(&line[2..])?));
-    }
-    if begins_with(line, b"#") {
-        return Ok(Directive::Nothing);
-    }
-    Ok(Directive::NodeLine(read_node(rule, levels, trimmed(line))?))
 }

@@ -60,9 +60,11 @@ impl Kept {
     /// Takes the next line, and answers its square, if it has one.
     fn take(&mut self, line: &[u8]) -> Result<Option<Line>, Kind>
         ensures ok { (lines : List (List ℕ)) → StandsAfter MAX_LEVEL lines self.old
-            → IfOk result (λ square. (square ≡ square_behind lines line.now) × StandsAfter MAX_LEVEL (lines ++ line.now ∷ []) self.new) }
+            → IfOk result (λ square. (square ≡ square_behind lines line.now)
+            × StandsAfter MAX_LEVEL (lines ++ line.now ∷ []) self.new) }
         ensures err { (lines : List (List ℕ)) → StandsAfter MAX_LEVEL lines self.old
-            → IfErr result (λ kind. (kind ≡ Memory) ⊎ (broken MAX_LEVEL lines line.now ≡ Some kind)) }
+            → IfErr result
+            (λ kind. (kind ≡ Memory) ⊎ (broken MAX_LEVEL lines line.now ≡ Some kind)) }
     {
         if is_too_long(line) {
             return Err(Kind::LineTooLong);
@@ -81,9 +83,12 @@ impl Kept {
     /// Keeps what a line is, and answers its square.
     fn keep(&mut self, directive: Directive) -> Result<Option<Line>, Kind>
         ensures square { IfOk result (λ square. square ≡ form_square (form_of directive)) }
-        ensures rule { OnOk result (self.new.rule ≡ unwrap_or (form_rule (form_of directive)) self.old.rule) }
-        ensures generation { OnOk result (self.new.generation ≡ unwrap_or (form_generation (form_of directive)) self.old.generation) }
-        ensures levels { OnOk result (self.new.levels ≡ self.old.levels ++ level_in (form_square (form_of directive))) }
+        ensures rule { OnOk result
+            (self.new.rule ≡ unwrap_or (form_rule (form_of directive)) self.old.rule) }
+        ensures generation { OnOk result (self.new.generation
+            ≡ unwrap_or (form_generation (form_of directive)) self.old.generation) }
+        ensures levels { OnOk result
+            (self.new.levels ≡ self.old.levels ++ level_in (form_square (form_of directive))) }
         ensures started { self.new.started ≡ self.old.started }
         ensures err { IfErr result (λ kind. kind ≡ Memory) }
     {
@@ -106,7 +111,8 @@ impl Kept {
 
     /// The rule and the generation, if a line came.
     fn rule_and_generation(self) -> Option<(Rule, u64)>
-        ensures { MatchOption result (self.started ≡ false) (λ found. (self.started ≡ true) × (found.0 ≡ self.rule) × (found.1 ≡ self.generation)) }
+        ensures { MatchOption result (self.started ≡ false)
+            (λ found. (self.started ≡ true) × (found.0 ≡ self.rule) × (found.1 ≡ self.generation)) }
     {
         if self.started {
             Some((self.rule, self.generation))
@@ -164,17 +170,21 @@ impl McLines {
     ///
     /// The kind of the first rule that the line breaks, or `Memory`. After an error each later call answers `Spent`.
     pub fn line(&mut self, line: &[u8]) -> Result<Option<Line>, Kind>
-        ensures lines { OnOk result (self.new ≡ record { lines = self.old.lines ++ line.now ∷ []; refused = false }) }
+        ensures lines { OnOk result
+            (self.new ≡ record { lines = self.old.lines ++ line.now ∷ []; refused = false }) }
 
         // The lines so far are the front of a file, and the answer is the square of the line.
         ensures front { OnOk result (Prefix (Accepts MAX_LEVEL) self.new.lines) }
         ensures square { IfOk result (λ square. square ≡ square_behind self.old.lines line.now) }
-        ensures squares { IfOk result (λ square. squares_of self.new.lines ≡ squares_of self.old.lines ++ cons_option square []) }
+        ensures squares { IfOk result (λ square. squares_of self.new.lines
+            ≡ squares_of self.old.lines ++ cons_option square []) }
 
         // A refused line is the first that breaks a rule, and every later call answers Spent.
-        ensures fault { IfErr result (λ kind. (kind ≡ Memory) ⊎ (kind ≡ Spent) ⊎ (broken MAX_LEVEL self.old.lines line.now ≡ Some kind)) }
+        ensures fault { IfErr result (λ kind. (kind ≡ Memory) ⊎ (kind ≡ Spent)
+            ⊎ (broken MAX_LEVEL self.old.lines line.now ≡ Some kind)) }
         ensures spent { IsErrOf result Spent ↔ (self.old.refused ≡ true) }
-        ensures refused { OnErr result (self.new ≡ record { lines = self.old.lines; refused = true }) }
+        ensures refused { OnErr result
+            (self.new ≡ record { lines = self.old.lines; refused = true }) }
     {
         if self.refused {
             return Err(Kind::Spent);
@@ -192,7 +202,9 @@ impl McLines {
     ///
     /// `NoHeader` where no line came, and `Spent` after a refused line.
     pub fn end(self) -> Result<(Rule, u64), Kind>
-        ensures file { IfOk result (λ found. (file : Macrocell) × IsFile MAX_LEVEL self.lines file × (found.0 ≡ file.rule) × (found.1 ≡ file.generation)) }
+        ensures file { IfOk result (λ found. (file : Macrocell)
+            × IsFile MAX_LEVEL self.lines file × (found.0 ≡ file.rule)
+            × (found.1 ≡ file.generation)) }
         ensures whole { self.refused ≡ false → Accepts MAX_LEVEL self.lines → IsOk result }
         ensures missing { self.refused ≡ false → (IsErrOf result NoHeader ↔ (self.lines ≡ [])) }
         ensures spent { IsErrOf result Spent ↔ (self.refused ≡ true) }

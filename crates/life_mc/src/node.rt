@@ -5,11 +5,12 @@ ghost use Rattle.life_mc.specs.Macrocell.{largest_state, is_child, is_quarter};
 ghost use Rattle.life_mc.specs.Reading.{broken_by_square, broken_by_node, is_leaf_byte, square_of};
 ghost use Rattle.life_mc.specs.declared.line.Line.TheVariants.{Quad};
 ghost use Rattle.std.specs.List.{list_all};
+ghost use Rattle.life_base.specs.Text.{trim};
 
 use crate::leaf::read_leaf;
 use crate::line::Line;
 use crate::numbers::read_numbers;
-use life_base::{Kind, MAX_LEVEL, Rule};
+use life_base::{Kind, MAX_LEVEL, Rule, trimmed};
 
 /// The greatest state under a rule.
 fn largest_state(rule: &Rule) -> u64
@@ -64,9 +65,11 @@ fn square_of_numbers(
     levels: &[u8],
     numbers: (u64, u64, u64, u64, u64),
 ) -> Result<Line, Kind>
-    ensures { MatchResult result
-        (λ square. (square ≡ Quad numbers.0 numbers.1 numbers.2 numbers.3 numbers.4) × (broken_by_square MAX_LEVEL rule.now levels.now (Some square) ≡ None))
-        (λ kind. broken_by_square MAX_LEVEL rule.now levels.now (Some (Quad numbers.0 numbers.1 numbers.2 numbers.3 numbers.4)) ≡ Some kind) }
+    ensures { MatchResult result (λ square. (square ≡ Quad numbers.0 numbers.1 numbers.2
+        numbers.3 numbers.4)
+        × (broken_by_square MAX_LEVEL rule.now levels.now (Some square) ≡ None))
+        (λ kind. broken_by_square MAX_LEVEL rule.now levels.now
+        (Some (Quad numbers.0 numbers.1 numbers.2 numbers.3 numbers.4)) ≡ Some kind) }
 {
     let (level, nw, ne, sw, se) = numbers;
     if level < 1 || u64::from(MAX_LEVEL) < level {
@@ -93,20 +96,22 @@ fn is_leaf_line(text: &[u8]) -> bool
     }
 }
 
-/// The square of a node line, taken without whitespace at its ends.
-pub(crate) fn read_node(rule: &Rule, levels: &[u8], text: &[u8]) -> Result<Line, Kind>
+/// The square of a node line, without the whitespace at its ends.
+#[inline(always)]
+pub(crate) fn read_node(rule: &Rule, levels: &[u8], line: &[u8]) -> Result<Line, Kind>
     requires { length levels.now < 2 ^ 64 - 1 }
-    ensures { MatchResult result
-        (λ square. (square_of text.now ≡ Some square) × (broken_by_node MAX_LEVEL rule.now levels.now text.now ≡ None))
-        (λ kind. broken_by_node MAX_LEVEL rule.now levels.now text.now ≡ Some kind) }
+    ensures { MatchResult result (λ square. (square_of (trim line.now) ≡ Some square)
+        × (broken_by_node MAX_LEVEL rule.now levels.now (trim line.now) ≡ None))
+        (λ kind. broken_by_node MAX_LEVEL rule.now levels.now (trim line.now) ≡ Some kind) }
 {
+    let text = trimmed(line);
     if is_leaf_line(text) {
         return match read_leaf(text) {
             Some(rows) => Ok(Line::Leaf(rows)),
             None => Err(Kind::BadLeaf),
         };
     }
-    match read_numbers(text) {
+    match read_numbers(line) {
         Some(numbers) => square_of_numbers(rule, levels, numbers),
         None => Err(Kind::BadNode),
     }

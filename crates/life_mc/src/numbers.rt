@@ -1,6 +1,6 @@
 //! The numbers of a quarter line, of any length.
 
-ghost use Rattle.std.specs.Prelude.{◌≡◌, ◌∷◌, ◌<◌, ◌≤◌, ◌^◌, List, ℕ, true, false, length, take, IfSome, MatchOption};
+ghost use Rattle.std.specs.Prelude.{◌≡◌, ◌∷◌, ◌<◌, ◌≤◌, ◌+◌, ◌-◌, ◌^◌, List, ℕ, Some, true, false, length, take, drop, IfSome, MatchOption};
 ghost use Rattle.std.specs.Char.{is_ascii_digit};
 ghost use Rattle.std.specs.List.{list_all};
 ghost use Rattle.life_base.specs.Numbers.{capped};
@@ -24,16 +24,19 @@ fn is_word_end(text: &[u8]) -> bool
 /// The most digits of a number that is read without a look at its size: each number of so many is below 2^64.
 const FEW: usize = 19;
 
-/// The number that the first digits of a text write, at most `FEW`, and how many digits these are.
-fn few_digits(text: &[u8]) -> (u64, usize)
-    ensures digits { list_all is_ascii_digit (take result.1 text.now) ≡ true }
-    ensures number { result.0 ≡ value_of (take result.1 text.now) }
-    ensures small { result.0 < 2 ^ 64 }
+/// The number that the digits from a place on write, at most `FEW`, and where these end.
+#[inline(always)]
+fn few_digits(text: &[u8], from: usize) -> (u64, usize)
+    requires { from ≤ length text.now }
+    ensures from { from ≤ result.1 }
     ensures within { result.1 ≤ length text.now }
+    ensures digits { list_all is_ascii_digit (take (result.1 - from) (drop from text.now)) ≡ true }
+    ensures number { result.0 ≡ value_of (take (result.1 - from) (drop from text.now)) }
+    ensures small { result.0 < 2 ^ 64 }
 {
-    let most = text.len().min(FEW);
+    let most = text.len().min(from + FEW);
     let mut number = 0u64;
-    for i in 0..most {
+    for i in from..most {
         let byte = text[i];
         if !byte.is_ascii_digit() {
             return (number, i);
@@ -43,38 +46,28 @@ fn few_digits(text: &[u8]) -> (u64, usize)
     (number, most)
 }
 
-/// The number with which a text begins and what stands behind its word, the byte that ends it left out, if these are few digits.
-fn number_in_front(text: &[u8]) -> Option<(u64, &[u8])>
-    ensures { IfSome result
-        (λ p. (word : List ℕ) × (words_of text.now ≡ word ∷ words_of p.1.now) × (is_digit_text word ≡ true) × (p.0 ≡ capped (value_of word))) }
+/// Whether digits between two places are a word, and a space is behind it.
+#[inline(always)]
+fn is_spaced_word(text: &[u8], from: usize, end: usize) -> bool
+    requires from { from ≤ end }
+    requires within { end ≤ length text.now }
+    requires digits { list_all is_ascii_digit (take (end - from) (drop from text.now)) ≡ true }
+    ensures within { result ≡ true → end < length text.now }
+    ensures word { result ≡ true → words_of (drop from text.now)
+        ≡ take (end - from) (drop from text.now) ∷ words_of (drop (end + 1) text.now) }
+    ensures digits { result ≡ true → is_digit_text (take (end - from) (drop from text.now)) ≡ true }
 {
-    let (number, count) = few_digits(text);
-    if count == 0 {
-        return None;
-    }
-    match &text[count..] {
-        [] => Some((number, &[])),
-        [first, rest @ ..] if is_whitespace(*first) => Some((number, rest)),
-        _ => None,
+    match text.get(end) {
+        Some(byte) => from < end && *byte == b' ',
+        None => false,
     }
 }
 
 /// The first number of a text and what stands behind it, if the first word is a digit text.
 fn next_number(text: &[u8]) -> Option<(u64, &[u8])>
     ensures { MatchOption result (begins_with_number (words_of text.now) ≡ false)
-        (λ p. (word : List ℕ) × (words_of text.now ≡ word ∷ words_of p.1.now) × (is_digit_text word ≡ true) × (p.0 ≡ capped (value_of word))) }
-{
-    match number_in_front(text) {
-        Some(found) => Some(found),
-        None => number_behind(text),
-    }
-}
-
-/// The same where whitespace may stand before the number, and of any length. It is never inlined: few lines have such numbers.
-#[inline(never)]
-fn number_behind(text: &[u8]) -> Option<(u64, &[u8])>
-    ensures { MatchOption result (begins_with_number (words_of text.now) ≡ false)
-        (λ p. (word : List ℕ) × (words_of text.now ≡ word ∷ words_of p.1.now) × (is_digit_text word ≡ true) × (p.0 ≡ capped (value_of word))) }
+        (λ p. (word : List ℕ) × (words_of text.now ≡ word ∷ words_of p.1.now)
+        × (is_digit_text word ≡ true) × (p.0 ≡ capped (value_of word))) }
 {
     let text = trimmed_start(text);
     let (number, count) = leading_number(text);
@@ -95,11 +88,38 @@ fn has_no_word(text: &[u8]) -> bool
     trimmed_start(text).is_empty()
 }
 
-/// The five numbers of a quarter line as they are written, if it has exactly five and nothing else: the level, and the quarters in the
-/// north-west, north-east, south-west and south-east. One above the greatest of the type stands as that. It is never inlined, so that the
-/// numbers stay in the processor's words.
+/// The five numbers of a quarter line, if each has few digits and one space stands between two.
+#[inline(always)]
+fn few_numbers(text: &[u8]) -> Option<(u64, u64, u64, u64, u64)>
+    ensures { IfSome result
+        (λ n. quad_words (words_of text.now) ≡ Some (Quad n.0 n.1 n.2 n.3 n.4)) }
+{
+    let (level, level_end) = few_digits(text, 0);
+    if !is_spaced_word(text, 0, level_end) {
+        return None;
+    }
+    let (nw, nw_end) = few_digits(text, level_end + 1);
+    if !is_spaced_word(text, level_end + 1, nw_end) {
+        return None;
+    }
+    let (ne, ne_end) = few_digits(text, nw_end + 1);
+    if !is_spaced_word(text, nw_end + 1, ne_end) {
+        return None;
+    }
+    let (sw, sw_end) = few_digits(text, ne_end + 1);
+    if !is_spaced_word(text, ne_end + 1, sw_end) {
+        return None;
+    }
+    let (se, se_end) = few_digits(text, sw_end + 1);
+    if se_end == sw_end + 1 || se_end < text.len() {
+        return None;
+    }
+    Some((level, nw, ne, sw, se))
+}
+
+/// The five numbers of a quarter line in any spelling. It is never inlined: few lines have other spellings than `few_numbers` reads.
 #[inline(never)]
-pub(crate) fn read_numbers(text: &[u8]) -> Option<(u64, u64, u64, u64, u64)>
+fn spelled_numbers(text: &[u8]) -> Option<(u64, u64, u64, u64, u64)>
     ensures { option_map (λ n. Quad n.0 n.1 n.2 n.3 n.4) result ≡ quad_words (words_of text.now) }
 {
     let (level, rest) = next_number(text)?;
@@ -111,4 +131,16 @@ pub(crate) fn read_numbers(text: &[u8]) -> Option<(u64, u64, u64, u64, u64)>
         return None;
     }
     Some((level, nw, ne, sw, se))
+}
+
+/// The five numbers of a quarter line as they are written, if it has exactly five and nothing else: the level, and the quarters in the
+/// north-west, north-east, south-west and south-east. One above the greatest of the type stands as that.
+#[inline(always)]
+pub(crate) fn read_numbers(text: &[u8]) -> Option<(u64, u64, u64, u64, u64)>
+    ensures { option_map (λ n. Quad n.0 n.1 n.2 n.3 n.4) result ≡ quad_words (words_of text.now) }
+{
+    match few_numbers(text) {
+        Some(found) => Some(found),
+        None => spelled_numbers(text),
+    }
 }

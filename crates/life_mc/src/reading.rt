@@ -17,10 +17,13 @@ use std::alloc::Global;
 /// Takes the next line, and adds its square.
 fn take_line(reader: &mut McLines, squares: &mut Vec<Line>, line: &[u8]) -> Result<(), Kind>
     requires { reader.old.refused ≡ false }
-    ensures lines { OnOk result (reader.new ≡ record { lines = reader.old.lines ++ line.now ∷ []; refused = false }) }
+    ensures lines { OnOk result
+        (reader.new ≡ record { lines = reader.old.lines ++ line.now ∷ []; refused = false }) }
     ensures unbroken { OnOk result (AreUnbroken MAX_LEVEL reader.new.lines) }
-    ensures squares { OnOk result (squares.old.items ≡ squares_of reader.old.lines → squares.new.items ≡ squares_of reader.new.lines) }
-    ensures fault { IfErr result (λ kind. (kind ≡ Memory) ⊎ (broken MAX_LEVEL reader.old.lines line.now ≡ Some kind)) }
+    ensures squares { OnOk result (squares.old.items ≡ squares_of reader.old.lines
+        → squares.new.items ≡ squares_of reader.new.lines) }
+    ensures fault { IfErr result
+        (λ kind. (kind ≡ Memory) ⊎ (broken MAX_LEVEL reader.old.lines line.now ≡ Some kind)) }
 {
     if let Some(square) = reader.line(line)? {
         squares.push(square)?;
@@ -36,7 +39,8 @@ fn take_line(reader: &mut McLines, squares: &mut Vec<Line>, line: &[u8]) -> Resu
 /// the first rule which that line breaks. Where a growth of memory is refused the fault is `Memory`, which names no line.
 pub fn read_mc(alloc: Global, bytes: &[u8]) -> Result<McFile, Fault>
     ensures ok { IfOk result (λ file. IsFile MAX_LEVEL (lines_of bytes.now) file) }
-    ensures err { IfErr result (λ fault. OrMemory fault (Refuses MAX_LEVEL (lines_of bytes.now) fault)) }
+    ensures err { IfErr result
+        (λ fault. OrMemory fault (Refuses MAX_LEVEL (lines_of bytes.now) fault)) }
     ensures kinds { IfErr result (λ fault. OrMemory fault (is_macrocell_kind fault.kind ≡ true)) }
 {
     let mut reader = McLines::new(alloc);

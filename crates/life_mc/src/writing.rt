@@ -52,7 +52,8 @@ pub fn append_front(out: &mut Vec<u8>, rule: &Rule, generation: u64) -> Result<(
 
 /// Adds the text of a rule, a generation and squares at the end.
 fn append_parts(out: &mut Vec<u8>, rule: &Rule, generation: u64, lines: &[Line]) -> Result<(), Kind>
-    ensures ok { OnOk result (out.new.items ≡ out.old.items ++ file_text rule.now generation lines.now) }
+    ensures ok { OnOk result
+        (out.new.items ≡ out.old.items ++ file_text rule.now generation lines.now) }
     ensures err { IfErr result (λ kind. kind ≡ Memory) }
 {
     append_front(out, rule, generation)?;

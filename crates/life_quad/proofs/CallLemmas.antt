@@ -17,7 +17,8 @@ use Rattle.life_quad.specs.contracts.id.NodePartialEq.TheImpl.{eq-value}
 use Rattle.life_base.specs.Tree.{Tree, point, quad, depth, quarters, blank, is_blank_tree, IsFull}
 use Rattle.life_base.proofs.Squares.{depth-blank, is_blank-blank, blank_is, quad_nw, quad_ne, quad_sw, quad_se, point_state, point≢quad}
 use Rattle.life_quad.specs.Store.{Nodes, two, four, small_square, number_of, id_of, square_of, node_square, squares, levels_of, content, held, is_blank_id, IsNamed, IsEarlier, IsNode, IsSmall, IsSound, IsShared, Knows, IsIdOf, as_small, as_node, KeepsContents, Joined, was_there, is_new, Answers, HasSeen}
-use Rattle.life_quad.specs.Keeping.{KeepsSquares, IsWantKind}
+use Rattle.life_quad.specs.Keeping.{KeepsSquares, AddsOnly, IsWantKind}
+use Rattle.life_quad.specs.IdNumbers.{first_of}
 use Rattle.life_quad.proofs.SmallLemmas.{small_range, quarters_range}
 use Rattle.life_quad.specs.StoreLaws.{Kinds, a_state, a_blank, a_small, a_node, kind_of, Names, the_state, the_blank, the_node, names, same_id, same_ids, small_node, full_content}
 use Rattle.life_quad.proofs.StoreLemmas.{length-squares, squares-push, square_of-append, square_of-node, square_of-small, square_of-id, is_blank-content, slice_get-last, slice_get-push_cases, node_square-append}
@@ -124,6 +125,26 @@ small_level s id h l u = ap depth (square_of-small (squares s.nodes) id l u) ∙
     by : (b : Bool) → nat_lt id.0 528 ≡ b → depth (if nat_lt id.0 528 then two (id.0 - 512) else four (id.0 - 528)) ≡ (if nat_lt id.0 528 then 1 else 2)
     by true e = rw e refl
     by false e = rw e refl
+
+-- the Id of a square of a level or a higher one that isn't blank comes behind those of all small squares, unless the level may be that of one
+pub from_first : (s : Nodes) (level : ℕ) (id : Id) → Knows s id → level ≤ depth (content s id) → is_blank_tree (content s id) ≡ false → first_of level ≤ id.0
+from_first s level id h high shown = by (nat_lt 2 level) refl
+  where
+    node : 2 < level → Kinds (squares s.nodes) id → 66064 ≤ id.0
+    node lt (a_state m e) = let d : depth (content s id) ≡ 0 = ap depth (state_content s id h m) in absurd (omega (arith, lt, high, d))
+    node lt (a_blank m u e) =
+        let b : is_blank_tree (content s id) ≡ true = ap is_blank_tree (blank_content s id h m u) ∙ is_blank-blank (suc (id.0 - 256)) in
+        absurd (true≢false (sym b ∙ shown))
+    node lt (a_small m u e) = let d = small_level s id h m u in absurd (least (nat_lt id.0 528) d)
+      where
+        least : (b : Bool) → depth (content s id) ≡ (if b then 1 else 2) → ⊥
+        least true d = omega (arith, lt, high, d)
+        least false d = omega (arith, lt, high, d)
+    node lt (a_node m e) = m
+
+    by : (b : Bool) → nat_lt 2 level ≡ b → first_of level ≤ id.0
+    by true e = rw e (node (grind arith) (kind_of (squares s.nodes) id))
+    by false e = rw e (omega arith)
 
 -- two nodes are equal as values where their test says so
 pub same_node : (a b : Node) → eq-value.it a b ≡ true → a ≡ b
@@ -631,6 +652,14 @@ module _ (old new : Nodes) (t : Tree) (deep : 0 < depth t) (not_blank : is_blank
   join_needed (Ok id) a = tt
   join_needed (Err k) a = (not_blank, a.needed)
 
+  join_adds : (r : Result Id Kind) → Answers old new t r → AddsOnly held (λ P. P t) old new
+  join_adds (Ok id) a = record { each = λ u h. by u h a.joined }
+    where
+      by : (u : Tree) → Contains (held new) u → Joined old new t id → Contains (held old) u ⊎ (t ≡ u)
+      by u h (was_there same there known is) = inl (subst (λ s. Contains (held s) u) same h)
+      by u h (is_new absent keeps added known is) = Contains-push_cases (held old) t u (subst (λ l. Contains l u) added h)
+  join_adds (Err k) a = record { each = λ u h. inl (subst (λ s. Contains (held s) u) a.unchanged h) }
+
   pub join_answers : (r : Result Id Kind) → Answers old new t r
       → Joins (λ s id. Knows s id × IsShared s) content held (λ s. s.limit) (λ s u. (is_blank_tree u ≡ false) × ¬ Contains (held s) u) old new t r
   join_answers r a =
@@ -638,6 +667,7 @@ module _ (old new : Nodes) (t : Tree) (deep : 0 < depth t) (not_blank : is_blank
         known = join_known r a;
         square = join_square r a;
         keeps = join_keeps r a;
+        adds = join_adds r a;
         added = join_added r a;
         there = join_there r a;
         fresh = join_fresh r a;

@@ -2,7 +2,7 @@
 use Rattle.std.proofs.Common.{◌≡◌, ◌==◌, ℕ, suc, ◌+◌, ◌-◌, ◌^◌, ◌<◌, ◌≤◌, min, Bool, true, false, ◌⊎◌, inl, inr, Option, Some, None, refl, sym, ◌∙◌, ap, subst, arith, true≢false}
 use Rattle.std.specs.Prelude.{nat_le}
 use Rattle.life_base.specs.Tree.{Tree, point, quad, depth, is_blank_tree, IsFull}
-use Rattle.life_quad.specs.Distances.{IsNonzeroAt, distance, HasCellAt, IsLeast, IsLeastOf, Faces, lesser_of}
+use Rattle.life_quad.specs.Distances.{IsNonzeroAt, distance, HasCellAt, HasCellInTwo, IsLeast, IsLeastOf, Faces, lesser_of}
 use Rattle.life_quad.specs.declared.distances.Side.{Side}
 use Rattle.life_quad.specs.declared.distances.Side.TheVariants.{North, South, West, East}
 use Rattle.life_quad.proofs.NonzeroLemmas.{InQuarter, in_nw, in_ne, in_sw, in_se, Sides, sides, quarter_of, from_quarter, others_have_one, blank_has_none}
@@ -110,7 +110,7 @@ module _ (P Q : ℕ → Type 0) where
   Either n = P n ⊎ Q n
 
   -- the least number with either property
-  least_of_both : (x y : Option ℕ) → IsLeastOf P x → IsLeastOf Q y → IsLeastOf Either (lesser_of x y)
+  pub least_of_both : (x y : Option ℕ) → IsLeastOf P x → IsLeastOf Q y → IsLeastOf Either (lesser_of x y)
   least_of_both None None hp hq = λ n e. no n e
     where
       no : (n : ℕ) → Either n → ⊥
@@ -138,10 +138,10 @@ module _ (P Q : ℕ → Type 0) where
 
 module _ (side : Side) (t a b c d : Tree) (full : IsFull t) (is : Faces side t a b c d) (b_level : depth b ≡ depth a) where
   abbrev Near : ℕ → Type 0
-  Near n = HasCellAt side a n ⊎ HasCellAt side b n
+  Near = HasCellInTwo side a b
 
   abbrev Behind : ℕ → Type 0
-  Behind n = HasCellAt side c n ⊎ HasCellAt side d n
+  Behind = HasCellInTwo side c d
 
   near_within : (n : ℕ) → Near n → n < 2 ^ depth a
   near_within n (inl h) = distance_within side a n h
@@ -165,41 +165,41 @@ module _ (side : Side) (t a b c d : Tree) (full : IsFull t) (is : Faces side t a
       by (in_d m e k) = inr (m, e, inr k)
 
   -- the least distance is that of the quarters at the side, if these have cells
-  pub least_near : (x y : Option ℕ) (n : ℕ) → IsLeastOf (HasCellAt side a) x → IsLeastOf (HasCellAt side b) y → lesser_of x y ≡ Some n
-      → IsLeast (HasCellAt side t) n
-  least_near x y n hx hy e =
-      let k : IsLeastOf Near (Some n) = subst (IsLeastOf Near) e (least_of_both (HasCellAt side a) (HasCellAt side b) x y hx hy) in
+  pub least_near : (x : Option ℕ) (n : ℕ) → IsLeastOf Near x → x ≡ Some n → IsLeast (HasCellAt side t) n
+  least_near x n near e =
+      let k : IsLeastOf Near (Some n) = subst (IsLeastOf Near) e near in
       record { has = near_is n k.has; least = λ m h. least k m (either m h) }
     where
       least : IsLeast Near n → (m : ℕ) → Near m ⊎ ((j : ℕ) × (m ≡ j + 2 ^ depth a) × Behind j) → n ≤ m
       least k m (inl h) = k.least m h
       least k m (inr (j, f, h)) = let w = near_within n k.has in omega (arith, w, f)
 
-  none_near : (x y : Option ℕ) → IsLeastOf (HasCellAt side a) x → IsLeastOf (HasCellAt side b) y → lesser_of x y ≡ None → (n : ℕ) → Near n → ⊥
-  none_near x y hx hy e = subst (IsLeastOf Near) e (least_of_both (HasCellAt side a) (HasCellAt side b) x y hx hy)
-
   -- and else that of the quarters behind them and half a side more
-  pub least_behind : (x y z w : Option ℕ) (n : ℕ) → IsLeastOf (HasCellAt side a) x → IsLeastOf (HasCellAt side b) y → lesser_of x y ≡ None
-      → IsLeastOf (HasCellAt side c) z → IsLeastOf (HasCellAt side d) w → lesser_of z w ≡ Some n → IsLeast (HasCellAt side t) (n + 2 ^ depth a)
-  least_behind x y z w n hx hy none hz hw e =
-      let k : IsLeastOf Behind (Some n) = subst (IsLeastOf Behind) e (least_of_both (HasCellAt side c) (HasCellAt side d) z w hz hw) in
+  pub least_behind : (x y : Option ℕ) (n : ℕ) → IsLeastOf Near x → x ≡ None → IsLeastOf Behind y → y ≡ Some n → IsLeast (HasCellAt side t) (n + 2 ^ depth a)
+  least_behind x y n near none behind e =
+      let k : IsLeastOf Behind (Some n) = subst (IsLeastOf Behind) e behind in
       record { has = behind_is n k.has; least = λ m h. least k m (either m h) }
     where
+      no : IsLeastOf Near None
+      no = subst (IsLeastOf Near) none near
+
       least : IsLeast Behind n → (m : ℕ) → Near m ⊎ ((j : ℕ) × (m ≡ j + 2 ^ depth a) × Behind j) → n + 2 ^ depth a ≤ m
-      least k m (inl h) = absurd (none_near x y hx hy none m h)
+      least k m (inl h) = absurd (no m h)
       least k m (inr (j, f, h)) = let l = k.least j h in omega (arith, l, f)
 
   -- no quarter has a cell
-  pub least_nowhere : (x y z w : Option ℕ) → IsLeastOf (HasCellAt side a) x → IsLeastOf (HasCellAt side b) y → lesser_of x y ≡ None
-      → IsLeastOf (HasCellAt side c) z → IsLeastOf (HasCellAt side d) w → lesser_of z w ≡ None → IsLeastOf (HasCellAt side t) None
-  least_nowhere x y z w hx hy none hz hw e = λ n h. by n (either n h)
+  pub least_nowhere : (x y : Option ℕ) → IsLeastOf Near x → x ≡ None → IsLeastOf Behind y → y ≡ None → IsLeastOf (HasCellAt side t) None
+  least_nowhere x y near none behind e = λ n h. by n (either n h)
     where
-      behind : (n : ℕ) → Behind n → ⊥
-      behind = subst (IsLeastOf Behind) e (least_of_both (HasCellAt side c) (HasCellAt side d) z w hz hw)
+      no : IsLeastOf Near None
+      no = subst (IsLeastOf Near) none near
+
+      not : IsLeastOf Behind None
+      not = subst (IsLeastOf Behind) e behind
 
       by : (n : ℕ) → Near n ⊎ ((j : ℕ) × (n ≡ j + 2 ^ depth a) × Behind j) → ⊥
-      by n (inl h) = none_near x y hx hy none n h
-      by n (inr (j, f, h)) = behind j h
+      by n (inl h) = no n h
+      by n (inr (j, f, h)) = not j h
 
 -- a blank square has no cell at any distance, and each other square has one
 pub blank_nowhere : (side : Side) (t : Tree) → IsFull t → is_blank_tree t ≡ true → IsLeastOf (HasCellAt side t) None

@@ -5,8 +5,8 @@ use Rattle.life_base.specs.declared.kind.Kind.{Kind}
 use Rattle.life_base.specs.declared.kind.Kind.TheVariants.{Full, Memory}
 use Rattle.life_base.specs.Tree.{Tree}
 use Rattle.life_quad.specs.declared.id.Id.{Id}
-use Rattle.life_quad.specs.Keeping.{KeepsSquares, IsWantKind}
-use Rattle.life_quad.proofs.KeepingLemmas.{keeps-then}
+use Rattle.life_quad.specs.Keeping.{KeepsSquares, AddsOnly, IsWantKind}
+use Rattle.life_quad.proofs.KeepingLemmas.{keeps-then, adds-then}
 use Rattle.life_quad.proofs.RefusedLemmas.{error_is}
 
 module _ {S : Type 0} (knows : S → Id → Type 0) (content : S → Id → Tree) (stored : S → List Tree) (most : S → ℕ) where
@@ -22,6 +22,20 @@ module _ {S : Type 0} (knows : S → Id → Type 0) (content : S → Id → Tree
         needed : OnErr r needed;
       }
 
+  -- the same of a call that stores no squares but such as it needs, where `needs` says which squares need a node
+  abbrev pub MakesOnly : {T : Type 0} (needs : S → Tree → Type 0) (old new : S) (known square : T → Type 0) (Needs : (Tree → Type 0) → Type 0)
+      → Result T Kind → Type 0
+  MakesOnly needs old new known square Needs r =
+      record {
+        known : IfOk r known;
+        square : IfOk r square;
+        keeps : KeepsSquares knows content stored most old new;
+        adds : AddsOnly stored Needs old new;
+        refusals : IfErr r (IsWantKind (stored new) (most new));
+        room : r ≡ Err Memory → length (stored new) < most new;
+        needed : OnErr r (Needs (needs new));
+      }
+
   -- of a join that gives the square t, where `needs` says which squares need a node
   abbrev pub Joins : (needs : S → Tree → Type 0) (old new : S) (t : Tree) → Result Id Kind → Type 0
   Joins needs old new t r =
@@ -29,6 +43,7 @@ module _ {S : Type 0} (knows : S → Id → Type 0) (content : S → Id → Tree
         known : IfOk r (knows new);
         square : IfOk r (λ id. content new id ≡ t);
         keeps : KeepsSquares knows content stored most old new;
+        adds : AddsOnly stored (λ P. P t) old new;
         added : OnOk r (needs old t → stored new ≡ stored old ++ t ∷ []);
         there : OnOk r (¬ needs old t → stored new ≡ stored old);
         fresh : IfOk r (λ id. needs old t → ¬ knows old id);
@@ -93,3 +108,38 @@ module _ {S : Type 0} {knows : S → Id → Type 0} {content : S → Id → Tree
   join-refused {t = t} needs known square r told first join why =
       refused known square r told (keeps-then first join.keeps) join.refusals (λ f. join.room (ap Err f))
       (why (subst (λ s. needs s t) (sym join.unchanged) join.needed))
+
+  -- the same two of calls that store no squares but such as they need
+  pub joined-only : {old mid new : S} {t : Tree} (needs : S → Tree → Type 0) (square : Tree → Type 0) (Needs : (Tree → Type 0) → Type 0) (r : Result Id Kind)
+      → KeepsSquares knows content stored most old mid → AddsOnly stored Needs old mid
+      → Joins knows content stored most needs mid new t r → square t → ((P : Tree → Type 0) → P t → Needs P)
+      → MakesOnly knows content stored most needs old new (knows new) (λ id. square (content new id)) Needs r
+  joined-only {old = old} {new = new} needs square Needs r first before join is why =
+      let made : Makes knows content stored most old new (knows new) (λ id. square (content new id)) (Needs (needs new)) r =
+      joined-last needs square r first join is (why (needs new)) in
+      record {
+        known = made.known;
+        square = made.square;
+        keeps = made.keeps;
+        adds = adds-then Needs before join.adds (λ P a. a) why;
+        refusals = made.refusals;
+        room = made.room;
+        needed = made.needed;
+      }
+
+  pub refused-only : {T : Type 0} {old mid new : S} {t : Tree} {e : Kind} (needs : S → Tree → Type 0) (known square : T → Type 0)
+      (Needs : (Tree → Type 0) → Type 0) (r : Result T Kind) → IsErrAnd r (λ f. f ≡ e)
+      → KeepsSquares knows content stored most old mid → AddsOnly stored Needs old mid → Joins knows content stored most needs mid new t (Err e)
+      → ((P : Tree → Type 0) → P t → Needs P) → MakesOnly knows content stored most needs old new known square Needs r
+  refused-only {old = old} {new = new} needs known square Needs r told first before join why =
+      let made : Makes knows content stored most old new known square (Needs (needs new)) r = join-refused needs known square r told first join
+      (why (needs new)) in
+      record {
+        known = made.known;
+        square = made.square;
+        keeps = made.keeps;
+        adds = adds-then Needs before join.adds (λ P a. a) why;
+        refusals = made.refusals;
+        room = made.room;
+        needed = made.needed;
+      }

@@ -1,16 +1,17 @@
 -- The table of a list of Ids.
-use Rattle.std.proofs.Common.{◌≡◌, ◌≢◌, ◌↔◌, ℕ, zero, suc, ◌+◌, ◌-◌, ◌<◌, List, [], ◌∷◌, ◌++◌, length, get_or, Some, slice_get, ◌⊎◌, inl, inr, refl, ap, sym, ◌∙◌, arith, Contains, IsTrue, not, eqb, ◌≤◌, set, get_or-set_same, get_or-set_other, length-set, map}
+use Rattle.std.proofs.Common.{◌≡◌, ◌≢◌, ◌↔◌, ℕ, zero, suc, ◌+◌, ◌-◌, ◌<◌, List, [], ◌∷◌, ◌++◌, length, get_or, Some, slice_get, ◌⊎◌, inl, inr, refl, ap, sym, ◌∙◌, subst, arith, Contains, IsTrue, not, eqb, ◌≤◌, set, get_or-set_same, get_or-set_other, length-set, map, ◌^◌}
 use Rattle.std.specs.Prelude.{AllPairs}
-use Rattle.std.proofs.lemmas.List.{get_or_append_left, map-append}
+use Rattle.std.proofs.lemmas.List.{get_or_append_left, get_or_past, map-append}
 use Rattle.std.proofs.Math.Seq.{get_or-append_seam}
 use Rattle.std.proofs.lemmas.Bool.{false≢true}
+use Rattle.std.proofs.lemmas.Bool.Decides.{nat_tests}
 use Rattle.std.proofs.lemmas.Grind.{common_steps}
 use Rattle.std.proofs.lemmas.Option.{slice_get-get_or, slice_get_within, get_or_from_slice_get, same_Some}
 use Rattle.std.proofs.Common.{length-append}
 use Rattle.life_quad.specs.declared.id.Id.{Id}
 use Rattle.indexmap.proofs.IndexTableLemmas.Probe.{pigeonhole}
 use Rattle.life_quad.specs.IdList.{HasPlaces}
-use Rattle.life_quad.specs.IdNumbers.{number_at, number_by}
+use Rattle.life_quad.specs.IdNumbers.{NumberRoom, HasNumberRoom, number_at, number_by}
 use Rattle.life_quad.specs.Store.{id_of}
 use Rattle.life_quad.proofs.MapLemmas.{same_number}
 
@@ -84,35 +85,65 @@ one_more ids old new id place h set others absent is = record {
   ];
 }
 
--- ---- numbers that stand in a list at those of the Ids
+-- ---- numbers that stand in a list at those of the Ids, from one on
 
-beyond : (numbers : List ℕ) (k n : ℕ) → get_or numbers k 0 ≡ suc n → k < length numbers
-beyond [] k n e = absurd (omega (arith, e))
-beyond (x ∷ numbers) zero n e = omega arith
-beyond (x ∷ numbers) (suc k) n e = omega (arith, beyond numbers k n e)
+at_from : (first : ℕ) (numbers : List ℕ) (q : Id) → first ≤ q.0 → number_at first numbers q ≡ get_or numbers (q.0 - first) 0
+at_from first numbers q le = grind (arith, nat_tests)
+
+at_before : (first : ℕ) (numbers : List ℕ) (q : Id) → q.0 < first → number_at first numbers q ≡ 0
+at_before first numbers q lt = grind (arith, nat_tests)
+
+from-or-before : (first n : ℕ) → (first ≤ n) ⊎ (n < first)
+from-or-before first n = grind arith
+
+within : (numbers : List ℕ) (k n : ℕ) → get_or numbers k 0 ≡ suc n → k < length numbers
+within [] k n e = absurd (omega (arith, e))
+within (x ∷ numbers) zero n e = omega arith
+within (x ∷ numbers) (suc k) n e = omega (arith, within numbers k n e)
+
+-- an Id with a number has room for it
+numbered : (first : ℕ) (numbers : List ℕ) (q : Id) (n : ℕ) → number_at first numbers q ≡ suc n → (first ≤ q.0) × (q.0 - first < length numbers)
+numbered first numbers q n e = by (from-or-before first q.0)
+  where
+    by : (first ≤ q.0) ⊎ (q.0 < first) → (first ≤ q.0) × (q.0 - first < length numbers)
+    by (inl le) = (le, within numbers (q.0 - first) n (sym (at_from first numbers q le) ∙ e))
+    by (inr lt) = let z : 0 ≡ suc n = sym (at_before first numbers q lt) ∙ e in absurd (omega (arith, z))
 
 -- there are no more Ids than numbers that they may have
-pub few : (ids : List Id) (numbers : List ℕ) → HasPlaces ids (number_at numbers) → length ids ≤ length numbers
-few ids numbers h =
+few : (first : ℕ) (ids : List Id) (numbers : List ℕ) → HasPlaces ids (number_at first numbers) → length ids ≤ length numbers
+few first ids numbers h =
     let d : Id = record { 0 = 0 } in
-    let at : (i : ℕ) → i < length ids → number_at numbers (get_or ids i d) ≡ suc i = λ i l. h.listed i (get_or ids i d) (slice_get-get_or ids i d l) in
-    pigeonhole (length ids) (length numbers) (λ i. (get_or ids i d).0) (λ i l. beyond numbers (get_or ids i d).0 i (at i l))
-    (λ i j l m e. let g : suc i ≡ suc j = sym (at i l) ∙ ap (number_at numbers) (same_number (get_or ids i d) (get_or ids j d) e) ∙ at j m in omega arith)
+    let at : (i : ℕ) → i < length ids → number_at first numbers (get_or ids i d) ≡ suc i = λ i l. h.listed i (get_or ids i d) (slice_get-get_or ids i d l) in
+    pigeonhole (length ids) (length numbers) (λ i. (get_or ids i d).0 - first) (λ i l. (numbered first numbers (get_or ids i d) i (at i l)).1)
+    (λ i j l m e.
+    let k : first ≤ (get_or ids i d).0 = (numbered first numbers (get_or ids i d) i (at i l)).0 in
+    let o : first ≤ (get_or ids j d).0 = (numbered first numbers (get_or ids j d) j (at j m)).0 in
+    let same : (get_or ids i d).0 ≡ (get_or ids j d).0 = omega (arith, k, o, e) in
+    let g : suc i ≡ suc j = sym (at i l) ∙ ap (number_at first numbers) (same_number (get_or ids i d) (get_or ids j d) same) ∙ at j m in omega arith)
 
 -- one more Id, with the next number
-pub one_numbered : (ids : List Id) (numbers : List ℕ) (id : Id) (number : ℕ) → HasPlaces ids (number_at numbers) → ¬ Contains ids id → id.0 < length numbers
-    → number ≡ length ids + 1
-    → HasPlaces (ids ++ id ∷ []) (number_at (set numbers id.0 number))
-one_numbered ids numbers id number h absent room is =
-    one_more ids (number_at numbers) (number_at (set numbers id.0 number)) id number h (get_or-set_same numbers id.0 number 0 room)
-    (λ q o. get_or-set_other numbers id.0 q.0 number 0 (λ e. o (same_number q id e))) absent is
+one_numbered : (first : ℕ) (ids : List Id) (numbers : List ℕ) (id : Id) (number : ℕ) → HasPlaces ids (number_at first numbers) → ¬ Contains ids id
+    → first ≤ id.0 → id.0 - first < length numbers → number ≡ length ids + 1
+    → HasPlaces (ids ++ id ∷ []) (number_at first (set numbers (id.0 - first) number))
+one_numbered first ids numbers id number h absent from room is =
+    let new = set numbers (id.0 - first) number in
+    one_more ids (number_at first numbers) (number_at first new) id number h
+    (at_from first new id from ∙ get_or-set_same numbers (id.0 - first) number 0 room) (λ q o. others q o (from-or-before first q.0)) absent is
+  where
+    others : (q : Id) → q ≢ id → (first ≤ q.0) ⊎ (q.0 < first) → number_at first (set numbers (id.0 - first) number) q ≡ number_at first numbers q
+    others q o (inl le) =
+        let apart : (q.0 - first) ≢ (id.0 - first) = λ e. o (same_number q id (omega (arith, le, from, e))) in
+        at_from first (set numbers (id.0 - first) number) q le ∙ get_or-set_other numbers (id.0 - first) (q.0 - first) number 0 apart
+        ∙ sym (at_from first numbers q le)
+    others q o (inr lt) = at_before first (set numbers (id.0 - first) number) q lt ∙ sym (at_before first numbers q lt)
 
 -- there is a number for it
-pub number_left : (ids : List Id) (numbers : List ℕ) (id : Id) → HasPlaces ids (number_at numbers) → ¬ Contains ids id → id.0 < length numbers
-    → length ids < length numbers
-number_left ids numbers id h absent room =
-    let p = few (ids ++ id ∷ []) (set numbers id.0 (length ids + 1)) (one_numbered ids numbers id (length ids + 1) h absent room refl) in
-    omega (arith, p, length-append ids (id ∷ []), length-set numbers id.0 (length ids + 1))
+number_left : (first : ℕ) (ids : List Id) (numbers : List ℕ) (id : Id) → HasPlaces ids (number_at first numbers) → ¬ Contains ids id → first ≤ id.0
+    → id.0 - first < length numbers → length ids < length numbers
+number_left first ids numbers id h absent from room =
+    let p = few first (ids ++ id ∷ []) (set numbers (id.0 - first) (length ids + 1))
+    (one_numbered first ids numbers id (length ids + 1) h absent from room refl) in
+    omega (arith, p, length-append ids (id ∷ []), length-set numbers (id.0 - first) (length ids + 1))
 
 -- places that are the same for each Id
 pub same_places : (ids : List Id) (old new : Id → ℕ) → ((q : Id) → new q ≡ old q) → HasPlaces ids old → HasPlaces ids new
@@ -122,34 +153,81 @@ same_places ids old new same h = record {
 }
 
 -- pages have the numbers where the list has none
-pub in_pages : (numbers : List ℕ) (paged : Id → ℕ) → length numbers ≡ 0 → (q : Id) → number_by numbers paged q ≡ paged q
-in_pages [] paged none q = refl
-in_pages (n ∷ numbers) paged none q = absurd (omega arith)
+pub in_pages : (first : ℕ) (numbers : List ℕ) (paged : Id → ℕ) → length numbers ≡ 0 → (q : Id) → number_by first numbers paged q ≡ paged q
+in_pages first [] paged none q = refl
+in_pages first (n ∷ numbers) paged none q = absurd (omega arith)
 
 -- and else the list
-pub in_list : (numbers : List ℕ) (paged : Id → ℕ) → 0 < length numbers → (q : Id) → number_by numbers paged q ≡ number_at numbers q
-in_list [] paged some q = absurd (omega arith)
-in_list (n ∷ numbers) paged some q = refl
+pub in_list : (first : ℕ) (numbers : List ℕ) (paged : Id → ℕ) → 0 < length numbers → (q : Id) → number_by first numbers paged q ≡ number_at first numbers q
+in_list first [] paged some q = absurd (omega arith)
+in_list first (n ∷ numbers) paged some q = refl
 
-pub listed_places : (ids : List Id) (numbers : List ℕ) (paged : Id → ℕ) → 0 < length numbers → HasPlaces ids (number_by numbers paged)
-    → HasPlaces ids (number_at numbers)
-listed_places ids numbers paged some h = same_places ids (number_by numbers paged) (number_at numbers) (λ q. sym (in_list numbers paged some q)) h
+-- the list has the number at its place from the first Id on
+pub number_there : (first : ℕ) (numbers : List ℕ) (paged : Id → ℕ) (q : Id) (index : ℕ) → (first ≤ q.0 → index ≡ q.0 - first) → (q.0 < first → 2 ^ 32 ≤ index)
+    → length numbers < 2 ^ 32 → index < length numbers → number_by first numbers paged q ≡ get_or numbers index 0
+number_there first numbers paged q index from before short lt = by (from-or-before first q.0)
+  where
+    by : (first ≤ q.0) ⊎ (q.0 < first) → number_by first numbers paged q ≡ get_or numbers index 0
+    by (inl le) =
+        in_list first numbers paged (omega (arith, lt)) q ∙ at_from first numbers q le ∙ ap (λ i. get_or numbers i 0) (sym (from le))
+    by (inr b) = let far = before b in absurd (omega (arith, far, short, lt))
+
+-- and none elsewhere
+pub number_nowhere : (first : ℕ) (numbers : List ℕ) (paged : Id → ℕ) (q : Id) (index : ℕ) → (first ≤ q.0 → index ≡ q.0 - first) → 0 < length numbers
+    → length numbers ≤ index → number_by first numbers paged q ≡ 0
+number_nowhere first numbers paged q index from some out = by (from-or-before first q.0)
+  where
+    by : (first ≤ q.0) ⊎ (q.0 < first) → number_by first numbers paged q ≡ 0
+    by (inl le) =
+        let e = from le in
+        let far : length numbers ≤ q.0 - first = omega (arith, e, out) in
+        in_list first numbers paged some q ∙ at_from first numbers q le ∙ get_or_past numbers (q.0 - first) 0 far
+    by (inr b) = in_list first numbers paged some q ∙ at_before first numbers q b
+
+-- there is room for an Id whose number has a place in the list
+pub room_there : (first index size : ℕ) (q : Id) → (first ≤ q.0 → index ≡ q.0 - first) → (q.0 < first → 2 ^ 32 ≤ index) → size < 2 ^ 32 → index < size
+    → (first ≤ q.0) × (index ≡ q.0 - first)
+room_there first index size q from before short lt = by (from-or-before first q.0)
+  where
+    by : (first ≤ q.0) ⊎ (q.0 < first) → (first ≤ q.0) × (index ≡ q.0 - first)
+    by (inl le) = (le, from le)
+    by (inr b) = let far = before b in absurd (omega (arith, far, short, lt))
+
+-- and for no other
+pub no_room_there : (room : NumberRoom) (index : ℕ) (q : Id) → (room.first ≤ q.0 → index ≡ q.0 - room.first) → room.size ≤ index → ¬ HasNumberRoom room q
+no_room_there room index q from out = λ h. let e = from h.0 in omega (arith, e, out, h.0, h.1)
 
 -- one more Id, with the next number, in pages
-pub one_paged : (ids : List Id) (numbers : List ℕ) (old new : Id → ℕ) (id : Id) (number : ℕ) → length numbers ≡ 0 → HasPlaces ids (number_by numbers old)
+pub one_paged : (first : ℕ) (ids : List Id) (numbers : List ℕ) (old new : Id → ℕ) (id : Id) (number : ℕ) → length numbers ≡ 0
+    → HasPlaces ids (number_by first numbers old)
     → new id ≡ number → ((q : Id) → q ≢ id → new q ≡ old q) → ¬ Contains ids id → number ≡ length ids + 1
-    → HasPlaces (ids ++ id ∷ []) (number_by numbers new)
-one_paged ids numbers old new id number none h set others absent is =
-    same_places (ids ++ id ∷ []) new (number_by numbers new) (in_pages numbers new none)
-    (one_more ids old new id number (same_places ids (number_by numbers old) old (λ q. sym (in_pages numbers old none q)) h) set others absent is)
+    → HasPlaces (ids ++ id ∷ []) (number_by first numbers new)
+one_paged first ids numbers old new id number none h set others absent is =
+    same_places (ids ++ id ∷ []) new (number_by first numbers new) (in_pages first numbers new none)
+    (one_more ids old new id number (same_places ids (number_by first numbers old) old (λ q. sym (in_pages first numbers old none q)) h) set others absent is)
 
--- the same in the list
-pub one_listed : (ids : List Id) (numbers : List ℕ) (paged : Id → ℕ) (id : Id) (number : ℕ) → HasPlaces ids (number_by numbers paged) → ¬ Contains ids id
-    → id.0 < length numbers → number ≡ length ids + 1 → HasPlaces (ids ++ id ∷ []) (number_by (set numbers id.0 number) paged)
-one_listed ids numbers paged id number h absent room is =
-    same_places (ids ++ id ∷ []) (number_at (set numbers id.0 number)) (number_by (set numbers id.0 number) paged)
-    (in_list (set numbers id.0 number) paged (omega (arith, length-set numbers id.0 number)))
-    (one_numbered ids numbers id number (listed_places ids numbers paged (omega arith) h) absent room is)
+listed_places : (first : ℕ) (ids : List Id) (numbers : List ℕ) (paged : Id → ℕ) → 0 < length numbers → HasPlaces ids (number_by first numbers paged)
+    → HasPlaces ids (number_at first numbers)
+listed_places first ids numbers paged some h =
+    same_places ids (number_by first numbers paged) (number_at first numbers) (λ q. sym (in_list first numbers paged some q)) h
+
+-- there is a number for an Id at its place
+pub number_left_by : (first : ℕ) (ids : List Id) (numbers : List ℕ) (paged : Id → ℕ) (id : Id) (index : ℕ) → HasPlaces ids (number_by first numbers paged)
+    → ¬ Contains ids id → (first ≤ id.0) × (index ≡ id.0 - first) → index < length numbers → length ids < length numbers
+number_left_by first ids numbers paged id index h absent at room =
+    number_left first ids numbers id (listed_places first ids numbers paged (omega (arith, room)) h) absent at.0 (omega (arith, at.1, room))
+
+-- the same in the list, at the place that is the Id's
+pub one_listed : (first : ℕ) (ids : List Id) (numbers : List ℕ) (paged : Id → ℕ) (id : Id) (index number : ℕ) → HasPlaces ids (number_by first numbers paged)
+    → ¬ Contains ids id → (first ≤ id.0) × (index ≡ id.0 - first) → index < length numbers → number ≡ length ids + 1
+    → HasPlaces (ids ++ id ∷ []) (number_by first (set numbers index number) paged)
+one_listed first ids numbers paged id index number h absent at room is =
+    let below : id.0 - first < length numbers = omega (arith, at.1, room) in
+    let new = set numbers (id.0 - first) number in
+    let placed = same_places (ids ++ id ∷ []) (number_at first new) (number_by first new paged)
+    (in_list first new paged (omega (arith, below, length-set numbers (id.0 - first) number)))
+    (one_numbered first ids numbers id number (listed_places first ids numbers paged (omega (arith, below)) h) absent at.0 below is) in
+    subst (λ i. HasPlaces (ids ++ id ∷ []) (number_by first (set numbers i number) paged)) (sym at.1) placed
 
 -- the numbers of a list's Ids, and one more
 pub ids_more : (log more : List ℕ) (id : Id) → more ≡ log ++ id.0 ∷ [] → map id_of more ≡ map id_of log ++ id ∷ []

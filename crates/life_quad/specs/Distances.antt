@@ -1,6 +1,8 @@
 -- How far from the sides of a square its nonzero cells lie.
-use Rattle.std.specs.Prelude.{◌≡◌, ◌≢◌, ℕ, suc, ◌-◌, ◌^◌, ◌<◌, ◌≤◌, min, Option, Some, None, MatchOption}
+use Rattle.std.specs.Prelude.{◌≡◌, ◌≢◌, ◌⊎◌, ℕ, suc, ◌-◌, ◌^◌, ◌<◌, ◌≤◌, min, Option, Some, None, MatchOption}
 use Rattle.life_base.specs.Tree.{Tree, quad, depth, state_at}
+use Rattle.life_quad.specs.declared.id.Id.{Id}
+use Rattle.life_quad.specs.declared.distances.TheConstants.{UNKNOWN}
 use Rattle.life_quad.specs.declared.distances.Side.{Side}
 use Rattle.life_quad.specs.declared.distances.Side.TheVariants.{North, South, West, East}
 
@@ -24,6 +26,10 @@ pub record HasCellAt (side : Side) (t : Tree) (n : ℕ) : Type 0 where
   pub cell : IsNonzeroAt t column row
   pub far : distance side (2 ^ depth t) column row ≡ n
 
+-- some nonzero cell of two squares lies so far from the side of its square
+abbrev pub HasCellInTwo : Side → Tree → Tree → ℕ → Type 0
+HasCellInTwo side a b n = HasCellAt side a n ⊎ HasCellAt side b n
+
 -- the least number with the property
 pub record IsLeast (P : ℕ → Type 0) (n : ℕ) : Type 0 where
   pub has : P n
@@ -32,6 +38,10 @@ pub record IsLeast (P : ℕ → Type 0) (n : ℕ) : Type 0 where
 -- the least number with the property, or none if no number has it
 abbrev pub IsLeastOf : (ℕ → Type 0) → Option ℕ → Type 0
 IsLeastOf P o = MatchOption o ((n : ℕ) → P n → ⊥) (IsLeast P)
+
+-- what is kept for a square, unless that is the number for none, is the least distance of its nonzero cells from the side
+abbrev pub AreLeast : Side → (Id → Tree) → (Id → ℕ) → Type 0
+AreLeast side content kept = (q : Id) → kept q ≢ UNKNOWN → IsLeast (HasCellAt side (content q)) (kept q)
 
 -- with the side in the north, the quarters of the square are a and b, and behind them c and d
 abbrev pub Faces : Side → Tree → Tree → Tree → Tree → Tree → Type 0

@@ -1,21 +1,30 @@
 -- Ids that are numbered in the order in which they come.
-use Rattle.std.specs.Prelude.{◌<◌, ℕ, List, [], ◌∷◌, slice_index_or}
+use Rattle.std.specs.Prelude.{◌≤◌, ◌<◌, ◌+◌, ◌-◌, ℕ, nat_lt, if◌then◌else◌, List, [], ◌∷◌, slice_index_or}
 use Rattle.life_quad.specs.declared.id.Id.{Id}
 
--- the Ids that have a number, in its order, and how many numbers of Ids there is room for
+-- the least number of an Id that there is room for, and how many there are from it on
+pub record NumberRoom : Type 0 where
+  pub first : ℕ
+  pub size : ℕ
+
+-- the Ids that have a number, in its order, and which Ids there is room for
 pub record Numbered : Type 0 where
   pub ids : List Id
-  pub bound : ℕ
+  pub room : NumberRoom
 
 -- whether there is room for an Id's number
-abbrev pub HasNumberRoom : Numbered → Id → Type 0
-HasNumberRoom numbers id = id.0 < numbers.bound
+abbrev pub HasNumberRoom : NumberRoom → Id → Type 0
+HasNumberRoom room id = (room.first ≤ id.0) × (id.0 < room.first + room.size)
 
--- the number of an Id, or 0
-abbrev pub number_at : List ℕ → Id → ℕ
-number_at numbers id = slice_index_or numbers id.0 0
+-- the least number of the Id of a square of this level or a higher one that isn't blank: a node's, or a small square's
+abbrev pub first_of : ℕ → ℕ
+first_of level = if nat_lt 2 level then 66064 else 0
+
+-- the number of an Id in a list from this Id on, or 0
+abbrev pub number_at : ℕ → List ℕ → Id → ℕ
+number_at first numbers id = if nat_lt id.0 first then 0 else slice_index_or numbers (id.0 - first) 0
 
 -- the same, where pages have the numbers if the list has none
-abbrev pub number_by : List ℕ → (Id → ℕ) → Id → ℕ
-number_by [] paged id = paged id
-number_by (n ∷ ns) paged id = number_at (n ∷ ns) id
+abbrev pub number_by : ℕ → List ℕ → (Id → ℕ) → Id → ℕ
+number_by first [] paged id = paged id
+number_by first (n ∷ ns) paged id = number_at first (n ∷ ns) id

@@ -2,6 +2,7 @@ pub mod Moves
 pub mod Refused
 pub mod Store
 pub mod Keeping
+pub mod Grows
 pub mod SmallLaws
 pub mod StoreLaws
 pub mod Cells

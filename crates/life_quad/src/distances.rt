@@ -1,9 +1,9 @@
 //! How far from the sides of a square its nonzero cells lie.
-ghost use Rattle.std.specs.Prelude.{◌≡◌, ◌≢◌, ◌+◌, ◌≤◌, Option, IfOk, IfErr};
+ghost use Rattle.std.specs.Prelude.{◌≡◌, ◌≤◌, Option, IfOk, IfErr};
 ghost use Rattle.life_base.specs.declared.kind.Kind.TheVariants.{Memory};
 ghost use Rattle.life_quad.specs.declared.id.Id.{Id as IdValue};
 ghost use Rattle.life_base.specs.Tree.{depth};
-ghost use Rattle.life_quad.specs.Distances.{HasCellAt, IsLeast, IsLeastOf, Faces, lesser_of};
+ghost use Rattle.life_quad.specs.Distances.{HasCellAt, HasCellInTwo, IsLeastOf, AreLeast, Faces, lesser_of};
 ghost use Rattle.life_quad.specs.Moves.{AreQuarters};
 ghost use Rattle.life_quad.specs.IdMap.{value_of};
 
@@ -46,8 +46,11 @@ pub(crate) fn least_distance<S: SharedSquares>(
 fn facing<S: Squares>(squares: &S, side: Side, id: Id) -> Quarters
     requires known { S.knows squares.now id }
     requires deep { 1 ≤ depth (S.content squares.now id) }
-    ensures faces { Faces side (S.content squares.now id) (S.content squares.now result.nw) (S.content squares.now result.ne) (S.content squares.now result.sw) (S.content squares.now result.se) }
-    ensures quarters { AreQuarters (S.knows squares.now) (S.content squares.now) (S.content squares.now id) result }
+    ensures faces { Faces side (S.content squares.now id) (S.content squares.now result.nw)
+        (S.content squares.now result.ne) (S.content squares.now result.sw)
+        (S.content squares.now result.se) }
+    ensures quarters { AreQuarters (S.knows squares.now) (S.content squares.now)
+        (S.content squares.now id) result }
 {
     let Quarters { nw, ne, sw, se } = divide(squares, id);
     match side {
@@ -85,6 +88,7 @@ fn lesser(a: Option<u64>, b: Option<u64>) -> Option<u64>
 }
 
 /// The least distance in a square of a level, where `known` has those of squares that were visited.
+#[cycle(find)]
 fn find<S: Squares>(
     squares: &S,
     side: Side,
@@ -94,9 +98,9 @@ fn find<S: Squares>(
 ) -> Result<Option<u64>, Kind>
     requires known { S.knows squares.now id }
     requires level { level ≡ depth (S.content squares.now id) }
-    requires right { (q : IdValue) → value_of known.old q ≢ UNKNOWN → IsLeast (HasCellAt side (S.content squares.now q)) (value_of known.old q) }
+    requires right { AreLeast side (S.content squares.now) (value_of known.old) }
     ensures least { IfOk result (IsLeastOf (HasCellAt side (S.content squares.now id))) }
-    ensures right { (q : IdValue) → value_of known.new q ≢ UNKNOWN → IsLeast (HasCellAt side (S.content squares.now q)) (value_of known.new q) }
+    ensures right { AreLeast side (S.content squares.now) (value_of known.new) }
     ensures refusals { IfErr result (λ e. e ≡ Memory) }
 {
     if is_blank_at(squares, level, id) {
@@ -110,18 +114,42 @@ fn find<S: Squares>(
         return Ok(Some(distance));
     }
     let Quarters { nw, ne, sw, se } = facing(squares, side, id);
-    let a = find(squares, side, level - 1, nw, known)?;
-    let b = find(squares, side, level - 1, ne, known)?;
-    if let Some(distance) = lesser(a, b) {
+    if let Some(distance) = find_in_two(squares, side, level - 1, nw, ne, known)? {
         known.set(id, distance)?;
         return Ok(Some(distance));
     }
-    let a = find(squares, side, level - 1, sw, known)?;
-    let b = find(squares, side, level - 1, se, known)?;
-    let Some(distance) = lesser(a, b) else {
+    let Some(distance) = find_in_two(squares, side, level - 1, sw, se, known)? else {
         return Ok(None);
     };
     let distance = distance + half_side(level);
     known.set(id, distance)?;
     Ok(Some(distance))
+}
+
+/// The least distance in two squares of a level side by side. Where a cell of the first touches the side, the second isn't visited.
+#[cycle(find)]
+fn find_in_two<S: Squares>(
+    squares: &S,
+    side: Side,
+    level: u8,
+    first: Id,
+    second: Id,
+    known: &mut IdMap<u64>,
+) -> Result<Option<u64>, Kind>
+    requires first { S.knows squares.now first }
+    requires second { S.knows squares.now second }
+    requires first_level { level ≡ depth (S.content squares.now first) }
+    requires second_level { level ≡ depth (S.content squares.now second) }
+    requires right { AreLeast side (S.content squares.now) (value_of known.old) }
+    ensures least { IfOk result (IsLeastOf
+        (HasCellInTwo side (S.content squares.now first) (S.content squares.now second))) }
+    ensures right { AreLeast side (S.content squares.now) (value_of known.new) }
+    ensures refusals { IfErr result (λ e. e ≡ Memory) }
+{
+    let nearest = find(squares, side, level, first, known)?;
+    if let Some(0) = nearest {
+        return Ok(nearest);
+    }
+    let other = find(squares, side, level, second, known)?;
+    Ok(lesser(nearest, other))
 }

@@ -51,7 +51,8 @@ impl IdList {
 
     /// The place of an Id, counted from 0.
     pub fn place(&self, id: Id) -> Option<usize>
-        ensures place { MatchOption result (¬ Contains self.now id) (λ place. slice_get self.now place ≡ Some id) }
+        ensures place { MatchOption result (¬ Contains self.now id)
+            (λ place. slice_get self.now place ≡ Some id) }
         ensures distinct { AllPairs ◌≢◌ self.now }
         ensures small { IfSome result (λ place. place < 2 ^ 32) }
     {

@@ -73,7 +73,8 @@ fn index_of(starts: &[u32], number: u64) -> usize
 /// Makes a place, without a page.
 fn make_place(starts: &mut Vec<u32>, place: u64) -> Result<(), Kind>
     ensures room { OnOk result (place < vec_len starts.new) }
-    ensures same { (n : ℕ) → slice_index_or starts.new.items n 4294967295 ≡ slice_index_or starts.old.items n 4294967295 }
+    ensures same { (n : ℕ) → slice_index_or starts.new.items n 4294967295
+        ≡ slice_index_or starts.old.items n 4294967295 }
     ensures kind { IfErr result (λ kind. kind ≡ Memory) }
 {
     if place < starts.len() as u64 {
@@ -142,7 +143,8 @@ impl<T: Copy> IdMap<T> {
 
     /// Sets the value of an Id. A refusal, by `Memory` alone, leaves each value as it was.
     pub(crate) fn set(&mut self, id: Id, value: T) -> Result<(), Kind>
-        ensures only { (q : IdValue) → (value_of self.new q ≡ value_of self.old q) ⊎ ((q ≡ id) × (value_of self.new q ≡ value)) }
+        ensures only { (q : IdValue) → (value_of self.new q ≡ value_of self.old q)
+            ⊎ ((q ≡ id) × (value_of self.new q ≡ value)) }
         ensures set { OnOk result (value_of self.new id ≡ value) }
         ensures others { (q : IdValue) → q ≢ id → value_of self.new q ≡ value_of self.old q }
         ensures same { OnErr result ((q : IdValue) → value_of self.new q ≡ value_of self.old q) }
@@ -159,7 +161,8 @@ impl<T: Copy> IdMap<T> {
     /// The same where the page of the Id may have to be made. It is never inlined, so that `set` stays short.
     #[inline(never)]
     fn set_apart(&mut self, id: Id, value: T) -> Result<(), Kind>
-        ensures only { (q : IdValue) → (value_of self.new q ≡ value_of self.old q) ⊎ ((q ≡ id) × (value_of self.new q ≡ value)) }
+        ensures only { (q : IdValue) → (value_of self.new q ≡ value_of self.old q)
+            ⊎ ((q ≡ id) × (value_of self.new q ≡ value)) }
         ensures set { OnOk result (value_of self.new id ≡ value) }
         ensures others { (q : IdValue) → q ≢ id → value_of self.new q ≡ value_of self.old q }
         ensures same { OnErr result ((q : IdValue) → value_of self.new q ≡ value_of self.old q) }

@@ -1,10 +1,11 @@
 //! Numbers for the Ids of a store.
-ghost use Rattle.std.specs.Prelude.{◌≡◌, ◌≢◌, ◌++◌, ◌∷◌, ◌-◌, ◌<◌, ◌≤◌, [], length, slice_get, AllPairs, Contains, IfOk, IfErr, OnOk, OnErr, IfSome, MatchOption, Some};
+ghost use Rattle.std.specs.Prelude.{◌≡◌, ◌≢◌, ◌^◌, false, ◌++◌, ◌∷◌, ◌-◌, ◌<◌, ◌≤◌, [], length, slice_get, AllPairs, Contains, IfOk, IfErr, OnOk, OnErr, IfSome, MatchOption, Some};
 ghost use Rattle.life_base.specs.declared.kind.Kind.TheVariants.{Memory};
 ghost use Rattle.life_quad.specs.declared.id.Id.{Id as IdValue};
-ghost use Rattle.life_quad.specs.Store.{Knows};
+ghost use Rattle.life_base.specs.Tree.{depth, is_blank_tree};
+ghost use Rattle.life_quad.specs.Store.{Knows, content};
 ghost use Rattle.life_quad.specs.IdMap.{value_of};
-ghost use Rattle.life_quad.specs.IdNumbers.{HasNumberRoom, number_by};
+ghost use Rattle.life_quad.specs.IdNumbers.{HasNumberRoom, first_of, number_by};
 
 use crate::id::FIRST_NODE;
 use crate::id_map::IdMap;
@@ -15,11 +16,13 @@ use std::alloc::Global;
 use std::marker::Model;
 
 /// Ids in the order in which they came, each once, and a number for each: 1 for the first. The memory for the numbers is taken at once, four
-/// bytes for each Id that a store has, so that nothing later is refused; or as they come, for pages of 256 Ids. The list itself is there in
-/// contracts alone.
+/// bytes for each Id that may come from a store, so that nothing later is refused; or as they come, for pages of 256 Ids. The list itself is there
+/// in contracts alone.
 #[derive(Drop)]
 pub struct IdNumbers {
-    // By the number of an Id: the one that it has here, or 0. None where the pages have them.
+    // The least number of an Id that the list has room for.
+    first: u64,
+    // From that one on, by the number of an Id: the one that it has here, or 0. None where the pages have them.
     numbers: Vec<u32>,
     // The same in pages.
     pages: IdMap<u32>,
@@ -29,7 +32,7 @@ pub struct IdNumbers {
 }
 
 impl Model for IdNumbers {
-    ghost use Rattle.std.specs.Prelude.{◌≡◌, ◌<◌, ◌^◌, length, map};
+    ghost use Rattle.std.specs.Prelude.{◌≡◌, ◌<◌, ◌≤◌, ◌^◌, length, map};
     ghost use Rattle.life_quad.specs.Store.{id_of};
     ghost use Rattle.life_quad.specs.IdList.{HasPlaces};
     ghost use Rattle.life_quad.specs.IdNumbers.{Numbered, number_by};
@@ -37,16 +40,36 @@ impl Model for IdNumbers {
 
     ghost Value = { Numbered };
 
-    ghost view = { λ a. record { ids = map id_of a.log.ids; bound = length a.numbers.items } };
+    ghost view = { λ a. record { ids = map id_of a.log.ids; room = record { first = a.first; size = length a.numbers.items } } };
 
-    ghost invariant = { λ a. HasPlaces (map id_of a.log.ids) (number_by a.numbers.items (value_of a.pages)) × (a.count ≡ length (map id_of a.log.ids)) × (length a.numbers.items < 2 ^ 32) };
+    ghost invariant = { λ a. HasPlaces (map id_of a.log.ids) (number_by a.first a.numbers.items (value_of a.pages)) × (a.count ≡ length (map id_of a.log.ids)) × (length a.numbers.items < 2 ^ 32) × (a.first ≤ 66064) };
+}
+
+// The least number of the Id of a square of this level or a higher one that isn't blank: small squares, whose Ids come before those of nodes, are of
+// level 1 or 2.
+fn first_of(level: u8) -> u64
+    ensures { result ≡ first_of level }
+{
+    if level > 2 { FIRST_NODE } else { 0 }
+}
+
+// Where the number of an Id stands in a list from this Id on: behind its end for an Id that comes before.
+#[inline(always)]
+fn index_from(first: u64, id: Id) -> usize
+    requires { first ≤ 66064 }
+    ensures from { first ≤ id.0 → result ≡ id.0 - first }
+    ensures before { id.0 < first → 2 ^ 32 ≤ result }
+{
+    id.0.wrapping_sub(first) as usize
 }
 
 // The number of an Id, or 0.
-fn number_in(numbers: &[u32], pages: &IdMap<u32>, id: Id) -> u32
-    ensures { result ≡ number_by numbers.now (value_of pages.now) id }
+fn number_in(first: u64, numbers: &[u32], pages: &IdMap<u32>, id: Id) -> u32
+    requires first { first ≤ 66064 }
+    requires few { length numbers.now < 2 ^ 32 }
+    ensures { result ≡ number_by first numbers.now (value_of pages.now) id }
 {
-    match numbers.get(id.0 as usize) {
+    match numbers.get(index_from(first, id)) {
         Some(number) => *number,
         None if numbers.is_empty() => pages.get(id),
         None => 0,
@@ -54,25 +77,29 @@ fn number_in(numbers: &[u32], pages: &IdMap<u32>, id: Id) -> u32
 }
 
 impl IdNumbers {
-    /// No numbers yet, and room for one for each Id that the store knows.
+    /// No numbers yet, and room for one for each Id of a square of this level or a higher one that the store knows and that isn't blank.
     ///
     /// # Errors
     ///
     /// `Memory`, and nothing else.
-    pub fn new(alloc: Global, store: &Shared) -> Result<IdNumbers, Kind>
+    pub fn new(alloc: Global, store: &Shared, level: u8) -> Result<IdNumbers, Kind>
         ensures none { IfOk result (λ numbers. numbers.ids ≡ []) }
-        ensures room { IfOk result (λ numbers. (id : IdValue) → Knows store.now id → HasNumberRoom numbers id) }
+        ensures room { IfOk result (λ numbers. (id : IdValue) → Knows store.now id
+            → level ≤ depth (content store.now id) → is_blank_tree (content store.now id) ≡ false
+            → HasNumberRoom numbers.room id) }
         ensures kind { IfErr result (λ kind. kind ≡ Memory) }
     {
-        let bound = store.nodes().saturating_add(FIRST_NODE as usize);
-        if bound > u32::MAX as usize {
+        let first = first_of(level);
+        let size = store.nodes().saturating_add((FIRST_NODE - first) as usize);
+        if size > u32::MAX as usize {
             return Err(Kind::Memory);
         }
         let mut numbers = Vec::new(alloc);
-        numbers.resize(bound, 0)?;
+        numbers.resize(size, 0)?;
         let pages = IdMap::new(alloc, 0);
         let log = JoinLog::new();
         Ok(IdNumbers {
+            first,
             numbers,
             pages,
             count: 0,
@@ -85,6 +112,7 @@ impl IdNumbers {
         ensures { result.ids ≡ [] }
     {
         IdNumbers {
+            first: 0,
             numbers: Vec::new(alloc),
             pages: IdMap::new(alloc, 0),
             count: 0,
@@ -97,12 +125,13 @@ impl IdNumbers {
         ensures absent { result ≡ 0 → ¬ Contains self.now.ids id }
         ensures there { 0 < result → slice_get self.now.ids (result - 1) ≡ Some id }
     {
-        number_in(&self.numbers, &self.pages, id)
+        number_in(self.first, &self.numbers, &self.pages, id)
     }
 
     /// The number of an Id, where it has one.
     pub fn get(&self, id: Id) -> Option<u64>
-        ensures number { MatchOption result (¬ Contains self.now.ids id) (λ number. slice_get self.now.ids (number - 1) ≡ Some id) }
+        ensures number { MatchOption result (¬ Contains self.now.ids id)
+            (λ number. slice_get self.now.ids (number - 1) ≡ Some id) }
         ensures counted { IfSome result (λ number. 1 ≤ number) }
         ensures distinct { AllPairs ◌≢◌ self.now.ids }
     {
@@ -125,16 +154,17 @@ impl IdNumbers {
         requires { ¬ Contains self.old.ids id }
         ensures added { OnOk result (self.new.ids ≡ self.old.ids ++ id ∷ []) }
         ensures number { IfOk result (λ number. number ≡ length self.new.ids) }
-        ensures room { OnOk result (self.new.bound ≡ self.old.bound) }
+        ensures room { OnOk result (self.new.room ≡ self.old.room) }
         ensures same { OnErr result (self.new ≡ self.old) }
         ensures kind { IfErr result (λ kind. kind ≡ Memory) }
-        ensures needed { OnErr result (¬ HasNumberRoom self.old id) }
+        ensures needed { OnErr result (¬ HasNumberRoom self.old.room id) }
     {
-        if id.0 as usize >= self.numbers.len() {
+        let index = index_from(self.first, id);
+        if index >= self.numbers.len() {
             return self.push_apart(id);
         }
         self.count += 1;
-        self.numbers[id.0 as usize] = self.count;
+        self.numbers[index] = self.count;
         self.log = self.log.then(&[id.0]);
         Ok(self.count as u64)
     }
@@ -143,10 +173,10 @@ impl IdNumbers {
     #[inline(never)]
     fn push_apart(&mut self, id: Id) -> Result<u64, Kind>
         requires new { ¬ Contains self.old.ids id }
-        requires apart { self.old.bound ≤ id.0 }
+        requires apart { ¬ HasNumberRoom self.old.room id }
         ensures added { OnOk result (self.new.ids ≡ self.old.ids ++ id ∷ []) }
         ensures number { IfOk result (λ number. number ≡ length self.new.ids) }
-        ensures room { OnOk result (self.new.bound ≡ self.old.bound) }
+        ensures room { OnOk result (self.new.room ≡ self.old.room) }
         ensures same { OnErr result (self.new ≡ self.old) }
         ensures kind { IfErr result (λ kind. kind ≡ Memory) }
     {

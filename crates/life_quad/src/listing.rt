@@ -35,7 +35,8 @@ pub fn cells<S: Squares>(alloc: Global, squares: &S, id: Id, limit: u64) -> Resu
     ensures cells { IfOk result (λ v. IsCellList (S.content squares.now id) v.items) }
     ensures number { IfOk result (λ v. length v.items ≡ population (S.content squares.now id)) }
     ensures few { IfOk result (λ v. length v.items ≤ limit) }
-    ensures many { IfErr result (λ e. e ≡ TooManyCells → limit < population (S.content squares.now id)) }
+    ensures many { IfErr result
+        (λ e. e ≡ TooManyCells → limit < population (S.content squares.now id)) }
     ensures refusals { IfErr result (λ e. (e ≡ TooManyCells) ⊎ (e ≡ Memory)) }
 {
     let level = squares.level(id);
@@ -71,7 +72,8 @@ fn further(coordinate: i64, level: u8) -> i64
 
 /// One more square at the end of a band.
 fn place(band: &mut Vec<Placed>, square: Id, column: i64) -> Result<(), Kind>
-    ensures ok { OnOk result (band.new.items ≡ band.old.items ++ (record { square = square; column = column }) ∷ []) }
+    ensures ok { OnOk result
+        (band.new.items ≡ band.old.items ++ (record { square = square; column = column }) ∷ []) }
     ensures refusals { IfErr result (λ e. e ≡ Memory) }
 {
     band.push(Placed { square, column })?;
@@ -90,9 +92,13 @@ fn keep<S: Squares>(
     requires level { depth (S.content squares.now square) ≡ level }
     requires west { neg_ℤ (pos (2 ^ 61)) ≤ℤ column }
     requires east { (column +ℤ pos (2 ^ level)) ≤ℤ pos (2 ^ 61) }
-    requires each { All (IsPlaced (S.knows squares.now) (S.content squares.now) level) band.old.items }
-    ensures each { OnOk result (All (IsPlaced (S.knows squares.now) (S.content squares.now) level) band.new.items) }
-    ensures pieces { OnOk result (pieces (S.content squares.now) band.new.items ≡ pieces (S.content squares.now) band.old.items ++ kept (S.content squares.now square) column) }
+    requires each { All (IsPlaced (S.knows squares.now) (S.content squares.now) level)
+        band.old.items }
+    ensures each { OnOk result
+        (All (IsPlaced (S.knows squares.now) (S.content squares.now) level) band.new.items) }
+    ensures pieces { OnOk result (pieces (S.content squares.now) band.new.items
+        ≡ pieces (S.content squares.now) band.old.items
+        ++ kept (S.content squares.now square) column) }
     ensures refusals { IfErr result (λ e. e ≡ Memory) }
 {
     if is_blank_at(squares, level, square) {
@@ -111,12 +117,20 @@ fn split<S: Squares>(
 ) -> Result<(), Kind>
     requires low { 1 ≤ level }
     requires placed { IsPlaced (S.knows squares.now) (S.content squares.now) level placed }
-    requires north { All (IsPlaced (S.knows squares.now) (S.content squares.now) (level - 1)) north.old.items }
-    requires south { All (IsPlaced (S.knows squares.now) (S.content squares.now) (level - 1)) south.old.items }
-    ensures north { OnOk result (All (IsPlaced (S.knows squares.now) (S.content squares.now) (level - 1)) north.new.items) }
-    ensures south { OnOk result (All (IsPlaced (S.knows squares.now) (S.content squares.now) (level - 1)) south.new.items) }
-    ensures northern { OnOk result (pieces (S.content squares.now) north.new.items ≡ pieces (S.content squares.now) north.old.items ++ northern (2 ^ (level - 1)) (S.content squares.now placed.square) placed.column) }
-    ensures southern { OnOk result (pieces (S.content squares.now) south.new.items ≡ pieces (S.content squares.now) south.old.items ++ southern (2 ^ (level - 1)) (S.content squares.now placed.square) placed.column) }
+    requires north { All (IsPlaced (S.knows squares.now) (S.content squares.now) (level - 1))
+        north.old.items }
+    requires south { All (IsPlaced (S.knows squares.now) (S.content squares.now) (level - 1))
+        south.old.items }
+    ensures north { OnOk result
+        (All (IsPlaced (S.knows squares.now) (S.content squares.now) (level - 1)) north.new.items) }
+    ensures south { OnOk result
+        (All (IsPlaced (S.knows squares.now) (S.content squares.now) (level - 1)) south.new.items) }
+    ensures northern { OnOk result (pieces (S.content squares.now) north.new.items
+        ≡ pieces (S.content squares.now) north.old.items
+        ++ northern (2 ^ (level - 1)) (S.content squares.now placed.square) placed.column) }
+    ensures southern { OnOk result (pieces (S.content squares.now) south.new.items
+        ≡ pieces (S.content squares.now) south.old.items
+        ++ southern (2 ^ (level - 1)) (S.content squares.now placed.square) placed.column) }
     ensures refusals { IfErr result (λ e. e ≡ Memory) }
 {
     let Quarters { nw, ne, sw, se } = divide(squares, placed.square);
@@ -137,10 +151,14 @@ fn halves<S: Squares>(
 ) -> Result<(Vec<Placed>, Vec<Placed>), Kind>
     requires low { 1 ≤ level }
     requires each { All (IsPlaced (S.knows squares.now) (S.content squares.now) level) band.now }
-    ensures north { IfOk result (λ r. All (IsPlaced (S.knows squares.now) (S.content squares.now) (level - 1)) r.0.items) }
-    ensures south { IfOk result (λ r. All (IsPlaced (S.knows squares.now) (S.content squares.now) (level - 1)) r.1.items) }
-    ensures upper { IfOk result (λ r. pieces (S.content squares.now) r.0.items ≡ upper (2 ^ (level - 1)) (pieces (S.content squares.now) band.now)) }
-    ensures lower { IfOk result (λ r. pieces (S.content squares.now) r.1.items ≡ lower (2 ^ (level - 1)) (pieces (S.content squares.now) band.now)) }
+    ensures north { IfOk result
+        (λ r. All (IsPlaced (S.knows squares.now) (S.content squares.now) (level - 1)) r.0.items) }
+    ensures south { IfOk result
+        (λ r. All (IsPlaced (S.knows squares.now) (S.content squares.now) (level - 1)) r.1.items) }
+    ensures upper { IfOk result (λ r. pieces (S.content squares.now) r.0.items
+        ≡ upper (2 ^ (level - 1)) (pieces (S.content squares.now) band.now)) }
+    ensures lower { IfOk result (λ r. pieces (S.content squares.now) r.1.items
+        ≡ lower (2 ^ (level - 1)) (pieces (S.content squares.now) band.now)) }
     ensures refusals { IfErr result (λ e. e ≡ Memory) }
 {
     let mut north = Vec::new(alloc);
@@ -159,7 +177,8 @@ fn append_row<S: Squares>(
     list: &mut Vec<Cell>,
 ) -> Result<(), Kind>
     requires each { All (IsPlaced (S.knows squares.now) (S.content squares.now) 0) band.now }
-    ensures cells { OnOk result (list.new.items ≡ list.old.items ++ row_cells row (pieces (S.content squares.now) band.now)) }
+    ensures cells { OnOk result (list.new.items ≡ list.old.items ++ row_cells row
+        (pieces (S.content squares.now) band.now)) }
     ensures refusals { IfErr result (λ e. e ≡ Memory) }
 {
     for placed in band {
@@ -233,7 +252,8 @@ fn pair_of<S: Squares>(squares: &S, id: Id, low: bool) -> [State; 2]
 fn row_of<S: Squares>(squares: &S, id: Id, south: bool, low: bool) -> (State, State, State, State)
     requires known { S.knows squares.now id }
     requires level { depth (S.content squares.now id) ≡ 2 }
-    ensures { result.0 ∷ result.1 ∷ result.2 ∷ result.3 ∷ [] ≡ row_of south low (S.content squares.now id) }
+    ensures { result.0 ∷ result.1 ∷ result.2 ∷ result.3 ∷ []
+        ≡ row_of south low (S.content squares.now id) }
 {
     if let Some(cells) = squares.small_cells(id) {
         return small_states(cells, south, low);
@@ -268,7 +288,8 @@ fn append_states(
 ) -> Result<(), Kind>
     requires west { neg_ℤ (pos (2 ^ 61)) ≤ℤ x }
     requires east { (x +ℤ pos 4) ≤ℤ pos (2 ^ 61) }
-    ensures cells { OnOk result (list.new.items ≡ list.old.items ++ live_cells x y (states.0 ∷ states.1 ∷ states.2 ∷ states.3 ∷ [])) }
+    ensures cells { OnOk result (list.new.items ≡ list.old.items ++ live_cells x y
+        (states.0 ∷ states.1 ∷ states.2 ∷ states.3 ∷ [])) }
     ensures refusals { IfErr result (λ e. e ≡ Memory) }
 {
     append_cell(list, x, y, states.0)?;
@@ -278,6 +299,8 @@ fn append_states(
 }
 
 /// The cells of a row of a band of level 2 at the end of a list: in the southern or in the northern half, the lower or the upper row.
+/// Inlined, it is made for each of the four rows.
+#[inline(always)]
 fn append_part<S: Squares>(
     squares: &S,
     band: &[Placed],
@@ -287,7 +310,8 @@ fn append_part<S: Squares>(
     list: &mut Vec<Cell>,
 ) -> Result<(), Kind>
     requires each { All (IsPlaced (S.knows squares.now) (S.content squares.now) 2) band.now }
-    ensures cells { OnOk result (list.new.items ≡ list.old.items ++ part_cells south low y (pieces (S.content squares.now) band.now)) }
+    ensures cells { OnOk result (list.new.items ≡ list.old.items ++ part_cells south low y
+        (pieces (S.content squares.now) band.now)) }
     ensures refusals { IfErr result (λ e. e ≡ Memory) }
 {
     for placed in band {
@@ -308,7 +332,8 @@ fn append_rows<S: Squares>(
     requires band { InBand 2 (pieces (S.content squares.now) band.now) }
     requires north { neg_ℤ (pos (2 ^ 61)) ≤ℤ row }
     requires south { (row +ℤ pos 4) ≤ℤ pos (2 ^ 61) }
-    ensures cells { OnOk result (list.new.items ≡ list.old.items ++ band_cells 2 row (pieces (S.content squares.now) band.now)) }
+    ensures cells { OnOk result (list.new.items ≡ list.old.items ++ band_cells 2 row
+        (pieces (S.content squares.now) band.now)) }
     ensures refusals { IfErr result (λ e. e ≡ Memory) }
 {
     append_part(squares, band, false, false, row, list)?;
@@ -333,9 +358,12 @@ fn append_band<S: Squares>(
     requires north { neg_ℤ (pos (2 ^ 61)) ≤ℤ row }
     requires south { (row +ℤ pos (2 ^ level)) ≤ℤ pos (2 ^ 61) }
     requires few { length list.old.items ≤ limit }
-    ensures cells { OnOk result (list.new.items ≡ list.old.items ++ band_cells level row (pieces (S.content squares.now) band.items)) }
+    ensures cells { OnOk result (list.new.items ≡ list.old.items ++ band_cells level row
+        (pieces (S.content squares.now) band.items)) }
     ensures few { OnOk result (length list.new.items ≤ limit) }
-    ensures many { IfErr result (λ e. e ≡ TooManyCells → limit < length list.old.items + length (band_cells level row (pieces (S.content squares.now) band.items))) }
+    ensures many { IfErr result (λ e. e ≡ TooManyCells
+        → limit < length list.old.items
+        + length (band_cells level row (pieces (S.content squares.now) band.items))) }
     ensures refusals { IfErr result (λ e. (e ≡ TooManyCells) ⊎ (e ≡ Memory)) }
 {
     let room = limit - list.len() as u64;

@@ -152,7 +152,8 @@ impl NeighbourhoodMemory {
 
     /// Puts the answer for nine squares.
     pub fn put(&mut self, ids: &[Id; 9], answer: Id)
-        ensures { (around : List IdValue) (next : IdValue) → Recalls self.new around next → Recalls self.old around next ⊎ ((around ≡ ids.now) × (next ≡ answer)) }
+        ensures { (around : List IdValue) (next : IdValue) → Recalls self.new around next
+            → Recalls self.old around next ⊎ ((around ≡ ids.now) × (next ≡ answer)) }
     {
         let Some(around) = numbers_of(ids) else {
             return;

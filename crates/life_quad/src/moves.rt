@@ -4,7 +4,7 @@ ghost use Rattle.life_base.specs.declared.kind.Kind.TheVariants.{Full, Memory};
 ghost use Rattle.life_base.specs.Tree.{quad, depth, is_blank_tree};
 ghost use Rattle.life_quad.specs.Moves.{AreQuarters, quad_of, grown, trimmed, inner, can_trim};
 ghost use Rattle.life_quad.specs.Refused.{SomePart, TrimmedTo};
-ghost use Rattle.life_quad.specs.Keeping.{KeepsSquares, IsWantKind};
+ghost use Rattle.life_quad.specs.Keeping.{KeepsSquares, AddsOnly, IsWantKind};
 
 use crate::{Id, Squares};
 use life_base::{Kind, MAX_LEVEL};
@@ -22,8 +22,11 @@ pub struct Quarters {
 pub fn divide<S: Squares>(squares: &S, id: Id) -> Quarters
     requires known { S.knows squares.now id }
     requires deep { 1 ≤ depth (S.content squares.now id) }
-    ensures square { S.content squares.now id ≡ quad (S.content squares.now result.nw) (S.content squares.now result.ne) (S.content squares.now result.sw) (S.content squares.now result.se) }
-    ensures quarters { AreQuarters (S.knows squares.now) (S.content squares.now) (S.content squares.now id) result }
+    ensures square { S.content squares.now id
+        ≡ quad (S.content squares.now result.nw) (S.content squares.now result.ne)
+        (S.content squares.now result.sw) (S.content squares.now result.se) }
+    ensures quarters { AreQuarters (S.knows squares.now) (S.content squares.now)
+        (S.content squares.now id) result }
 {
     match squares.parts(id) {
         Some(parts) => Quarters {
@@ -48,9 +51,12 @@ pub fn grow<S: Squares>(squares: &mut S, id: Id) -> Result<Id, Kind>
     ensures known { IfOk result (S.knows squares.new) }
     ensures square { IfOk result (λ r. S.content squares.new r ≡ grown (S.content squares.old id)) }
     ensures keeps { KeepsSquares S.knows S.content S.stored S.most squares.old squares.new }
+    ensures adds { AddsOnly S.stored (λ P. SomePart P (grown (S.content squares.old id)))
+        squares.old squares.new }
     ensures refusals { IfErr result (IsWantKind (S.stored squares.new) (S.most squares.new)) }
     ensures room { result ≡ Err Memory → length (S.stored squares.new) < S.most squares.new }
-    ensures needed { OnErr result (SomePart (S.needs_node squares.new) (grown (S.content squares.old id))) }
+    ensures needed { OnErr result
+        (SomePart (S.needs_node squares.new) (grown (S.content squares.old id))) }
 {
     let Quarters { nw, ne, sw, se } = divide(squares, id);
     let e = squares.empty(squares.level(nw));
@@ -80,12 +86,16 @@ pub fn is_blank_at<S: Squares>(squares: &S, level: u8, id: Id) -> bool
 
 /// The four inner grandchildren of the square of these quarters, where it is above the least level and its twelve outer grandchildren are blank.
 fn middle<S: Squares>(squares: &S, whole: Quarters, least: u8) -> Option<Quarters>
-    requires quarters { AreQuarters (S.knows squares.now) (S.content squares.now) (quad_of (S.content squares.now) whole) whole }
+    requires quarters { AreQuarters (S.knows squares.now) (S.content squares.now)
+        (quad_of (S.content squares.now) whole) whole }
     requires positive { 1 ≤ least }
     ensures trims { is_some result ≡ can_trim (quad_of (S.content squares.now) whole) least }
-    ensures square { IfSome result (λ q. inner (quad_of (S.content squares.now) whole) ≡ quad_of (S.content squares.now) q) }
-    ensures lower { IfSome result (λ q. depth (S.content squares.now q.nw) + 1 ≡ depth (S.content squares.now whole.nw)) }
-    ensures quarters { IfSome result (λ q. AreQuarters (S.knows squares.now) (S.content squares.now) (quad_of (S.content squares.now) q) q) }
+    ensures square { IfSome result
+        (λ q. inner (quad_of (S.content squares.now) whole) ≡ quad_of (S.content squares.now) q) }
+    ensures lower { IfSome result
+        (λ q. depth (S.content squares.now q.nw) + 1 ≡ depth (S.content squares.now whole.nw)) }
+    ensures quarters { IfSome result (λ q. AreQuarters (S.knows squares.now)
+        (S.content squares.now) (quad_of (S.content squares.now) q) q) }
 {
     let level = squares.level(whole.nw);
     if level < least {
@@ -119,7 +129,8 @@ fn are_three_blank<S: Squares>(squares: &S, level: u8, a: Id, b: Id, c: Id) -> b
     requires a_level { level ≡ depth (S.content squares.now a) }
     requires b_level { level ≡ depth (S.content squares.now b) }
     requires c_level { level ≡ depth (S.content squares.now c) }
-    ensures { result ≡ (is_blank_tree (S.content squares.now a) && (is_blank_tree (S.content squares.now b) && is_blank_tree (S.content squares.now c))) }
+    ensures { result ≡ (is_blank_tree (S.content squares.now a) &&
+        (is_blank_tree (S.content squares.now b) && is_blank_tree (S.content squares.now c))) }
 {
     is_blank_at(squares, level, a)
         && is_blank_at(squares, level, b)
@@ -128,11 +139,15 @@ fn are_three_blank<S: Squares>(squares: &S, level: u8, a: Id, b: Id, c: Id) -> b
 
 /// The quarters of what is trimmed of the square of these quarters. No square is made.
 fn innermost<S: Squares>(squares: &S, quarters: Quarters, least: u8) -> Quarters
-    requires quarters { AreQuarters (S.knows squares.now) (S.content squares.now) (quad_of (S.content squares.now) quarters) quarters }
+    requires quarters { AreQuarters (S.knows squares.now) (S.content squares.now)
+        (quad_of (S.content squares.now) quarters) quarters }
     requires positive { 1 ≤ least }
-    ensures square { quad_of (S.content squares.now) result ≡ trimmed (quad_of (S.content squares.now) quarters) least }
-    ensures low { depth (S.content squares.now result.nw) ≤ depth (S.content squares.now quarters.nw) }
-    ensures quarters { AreQuarters (S.knows squares.now) (S.content squares.now) (quad_of (S.content squares.now) result) result }
+    ensures square { quad_of (S.content squares.now) result
+        ≡ trimmed (quad_of (S.content squares.now) quarters) least }
+    ensures low { depth (S.content squares.now result.nw)
+        ≤ depth (S.content squares.now quarters.nw) }
+    ensures quarters { AreQuarters (S.knows squares.now) (S.content squares.now)
+        (quad_of (S.content squares.now) result) result }
 {
     match middle(squares, quarters, least) {
         Some(inner) => innermost(squares, inner, least),
@@ -149,11 +164,15 @@ pub fn trim<S: Squares>(squares: &mut S, id: Id, least: u8) -> Result<Id, Kind>
     requires known { S.knows squares.old id }
     requires positive { 1 ≤ least }
     ensures known { IfOk result (S.knows squares.new) }
-    ensures square { IfOk result (λ r. S.content squares.new r ≡ trimmed (S.content squares.old id) least) }
+    ensures square { IfOk result
+        (λ r. S.content squares.new r ≡ trimmed (S.content squares.old id) least) }
     ensures keeps { KeepsSquares S.knows S.content S.stored S.most squares.old squares.new }
+    ensures adds { AddsOnly S.stored (λ P. TrimmedTo P (S.content squares.old id) least)
+        squares.old squares.new }
     ensures refusals { IfErr result (IsWantKind (S.stored squares.new) (S.most squares.new)) }
     ensures room { result ≡ Err Memory → length (S.stored squares.new) < S.most squares.new }
-    ensures needed { OnErr result (TrimmedTo (S.needs_node squares.new) (S.content squares.old id) least) }
+    ensures needed { OnErr result
+        (TrimmedTo (S.needs_node squares.new) (S.content squares.old id) least) }
 {
     if squares.level(id) <= least {
         return Ok(id);

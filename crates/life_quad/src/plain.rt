@@ -51,7 +51,8 @@ impl Plain {
     fn add(&mut self, node: Node, level: u8) -> Result<Id, Kind>
         requires node { IsNode self.old.log (squares self.old.nodes) (length self.old.nodes) node }
         requires level { level ≡ depth (node_square (squares self.old.nodes) node) }
-        ensures stored { OnOk result (self.new ≡ record { nodes = self.old.nodes ++ node ∷ []; log = self.old.log; limit = self.old.limit }) }
+        ensures stored { OnOk result (self.new ≡ record
+            { nodes = self.old.nodes ++ node ∷ []; log = self.old.log; limit = self.old.limit }) }
         ensures id { IfOk result (λ id. id.0 ≡ FIRST_NODE + length self.old.nodes) }
         ensures sound { IsSound self.new }
         ensures within { length self.old.nodes ≤ self.old.limit }

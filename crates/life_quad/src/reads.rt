@@ -85,9 +85,11 @@ pub fn leaf_population<S: Squares>(squares: &S, level: u8, id: Id) -> u128
 fn count<S: Squares>(squares: &S, level: u8, id: Id, known: &mut IdMap<u128>) -> Result<u128, Kind>
     requires known { S.knows squares.now id }
     requires level { level ≡ depth (S.content squares.now id) }
-    requires right { (q : IdValue) → 0 < value_of known.old q → value_of known.old q ≡ population (S.content squares.now q) }
+    requires right { (q : IdValue) → 0 < value_of known.old q
+        → value_of known.old q ≡ population (S.content squares.now q) }
     ensures number { IfOk result (λ n. n ≡ population (S.content squares.now id)) }
-    ensures right { (q : IdValue) → 0 < value_of known.new q → value_of known.new q ≡ population (S.content squares.now q) }
+    ensures right { (q : IdValue) → 0 < value_of known.new q
+        → value_of known.new q ≡ population (S.content squares.now q) }
     ensures refusals { IfErr result (λ e. e ≡ Memory) }
 {
     if let Some(cells) = squares.small_cells(id) {
@@ -125,7 +127,9 @@ fn count<S: Squares>(squares: &S, level: u8, id: Id, known: &mut IdMap<u128>) ->
 pub fn bounds<S: SharedSquares>(alloc: Global, squares: &S, id: Id) -> Result<Option<Bounds>, Kind>
     requires known { S.knows squares.now id }
     requires high { 1 ≤ depth (S.content squares.now id) }
-    ensures least { IfOk result (λ o. MatchOption o (is_blank_tree (S.content squares.now id) ≡ true) (λ b. IsLeastBox (S.content squares.now id) b)) }
+    ensures least { IfOk result (λ o. MatchOption o
+        (is_blank_tree (S.content squares.now id) ≡ true)
+        (λ b. IsLeastBox (S.content squares.now id) b)) }
     ensures refusals { IfErr result (λ e. e ≡ Memory) }
 {
     let Some(west) = least_distance(alloc, squares, Side::West, id)? else {

@@ -49,11 +49,13 @@ fn set_span<S: Squares>(squares: &mut S, id: Id, span: Span) -> Result<Id, Kind>
     requires columns { span.column + span.len ≤ 2 ^ depth (S.content squares.old id) }
     requires rows { span.row < 2 ^ depth (S.content squares.old id) }
     ensures known { IfOk result (S.knows squares.new) }
-    ensures square { IfOk result (λ r. SetsSpan (S.content squares.old id) (S.content squares.new r) span) }
+    ensures square { IfOk result
+        (λ r. SetsSpan (S.content squares.old id) (S.content squares.new r) span) }
     ensures keeps { KeepsSquares S.knows S.content S.stored S.most squares.old squares.new }
     ensures refusals { IfErr result (IsWantKind (S.stored squares.new) (S.most squares.new)) }
     ensures room { result ≡ Err Memory → length (S.stored squares.new) < S.most squares.new }
-    ensures needed { OnErr result ((t : Tree) × SetsSpan (S.content squares.old id) t span × SomePart (S.needs_node squares.new) t) }
+    ensures needed { OnErr result ((t : Tree) × SetsSpan (S.content squares.old id) t span
+        × SomePart (S.needs_node squares.new) t) }
 {
     let level = squares.level(id);
     if level == 0 {
@@ -89,11 +91,15 @@ fn set_halves<S: Squares>(
     requires columns { span.column + span.len ≤ half + half }
     requires rows { span.row < half }
     ensures known { IfOk result (λ r. S.knows squares.new r.0 × S.knows squares.new r.1) }
-    ensures square { IfOk result (λ r. SetsHalves (S.content squares.old left) (S.content squares.old right) (S.content squares.new r.0) (S.content squares.new r.1) span) }
+    ensures square { IfOk result (λ r. SetsHalves (S.content squares.old left)
+        (S.content squares.old right) (S.content squares.new r.0) (S.content squares.new r.1)
+        span) }
     ensures keeps { KeepsSquares S.knows S.content S.stored S.most squares.old squares.new }
     ensures refusals { IfErr result (IsWantKind (S.stored squares.new) (S.most squares.new)) }
     ensures room { result ≡ Err Memory → length (S.stored squares.new) < S.most squares.new }
-    ensures needed { OnErr result ((a b : Tree) × SetsHalves (S.content squares.old left) (S.content squares.old right) a b span × (SomePart (S.needs_node squares.new) a ⊎ SomePart (S.needs_node squares.new) b)) }
+    ensures needed { OnErr result ((a b : Tree)
+        × SetsHalves (S.content squares.old left) (S.content squares.old right) a b span
+        × (SomePart (S.needs_node squares.new) a ⊎ SomePart (S.needs_node squares.new) b)) }
 {
     let end = span.column + span.len;
     if end <= half {
@@ -131,11 +137,13 @@ pub fn put_run<S: Squares>(squares: &mut S, root: Id, run: Run) -> Result<Id, Ki
     requires positive { 1 ≤ run.len }
     requires inside { IsRunInside (S.content squares.old root) run }
     ensures known { IfOk result (S.knows squares.new) }
-    ensures square { IfOk result (λ r. SetsRun (S.content squares.old root) (S.content squares.new r) run) }
+    ensures square { IfOk result
+        (λ r. SetsRun (S.content squares.old root) (S.content squares.new r) run) }
     ensures keeps { KeepsSquares S.knows S.content S.stored S.most squares.old squares.new }
     ensures refusals { IfErr result (IsWantKind (S.stored squares.new) (S.most squares.new)) }
     ensures room { result ≡ Err Memory → length (S.stored squares.new) < S.most squares.new }
-    ensures needed { OnErr result ((t : Tree) × SetsRun (S.content squares.old root) t run × SomePart (S.needs_node squares.new) t) }
+    ensures needed { OnErr result ((t : Tree) × SetsRun (S.content squares.old root) t run
+        × SomePart (S.needs_node squares.new) t) }
 {
     let half = half_side(squares.level(root));
     let span = Span {

@@ -49,7 +49,8 @@ ghost use Rattle.life_quad.specs.Store.{squares, content, held, node_square, num
 /// Makes room for the level of one more node, unless a store with so many squares and nodes takes no more of them: then it answers why.
 fn make_room(levels: &mut Vec<u8>, len: u64, nodes: u64, limit: u64) -> Option<Kind>
     requires { len ≤ limit }
-    ensures room { MatchOption result ((len < limit) × (FIRST_NODE + nodes < 2 ^ 32) × (vec_len levels.new < vec_capacity levels.new)) (λ k. (k ≡ Full) ⊎ (k ≡ Memory)) }
+    ensures room { MatchOption result ((len < limit) × (FIRST_NODE + nodes < 2 ^ 32)
+        × (vec_len levels.new < vec_capacity levels.new)) (λ k. (k ≡ Full) ⊎ (k ≡ Memory)) }
     ensures full { MatchOption result (len < limit) (λ k. (k ≡ Full) ↔ (len ≡ limit)) }
     ensures levels { levels.new.items ≡ levels.old.items }
 {
@@ -89,8 +90,12 @@ impl Shared {
     pub fn len(&self) -> u64
         ensures len { result ≡ length (held self.now) }
         ensures distinct { AllPairs ◌≢◌ (held self.now) }
-        ensures all { (id : IdValue) → Knows self.now id → is_blank_tree (content self.now id) ≡ false → 0 < depth (content self.now id) → Contains (held self.now) (content self.now id) }
-        ensures only { (t : Tree) → Contains (held self.now) t → (is_blank_tree t ≡ false) × (0 < depth t) × ((id : IdValue) × Knows self.now id × (content self.now id ≡ t)) }
+        ensures all { (id : IdValue) → Knows self.now id
+            → is_blank_tree (content self.now id) ≡ false → 0 < depth (content self.now id)
+            → Contains (held self.now) (content self.now id) }
+        ensures only { (t : Tree) → Contains (held self.now) t
+            → (is_blank_tree t ≡ false) × (0 < depth t)
+            × ((id : IdValue) × Knows self.now id × (content self.now id ≡ t)) }
     {
         self.nodes.len() as u64 + self.small
     }

@@ -5,7 +5,7 @@ ghost use Rattle.life_quad.specs.declared.id.Id.{Id as IdValue};
 ghost use Rattle.life_base.specs.Tree.{Tree, point, quad, depth, blank, quarters, IsFull};
 ghost use Rattle.life_quad.specs.Store.{two, four};
 ghost use Rattle.life_quad.specs.Refused.{SomePart};
-ghost use Rattle.life_quad.specs.Keeping.{KeepsSquares, IsWantKind};
+ghost use Rattle.life_quad.specs.Keeping.{KeepsSquares, AddsOnly, IsWantKind};
 
 use crate::{Id, Seed};
 use life_base::{Kind, MAX_LEVEL, State};
@@ -35,7 +35,8 @@ pub trait Squares {
         ensures known { knows self.now result }
         ensures square { content self.now result ≡ blank level }
         ensures level { depth (content self.now result) ≡ level }
-        ensures alone { (id : IdValue) → knows self.now id → content self.now id ≡ blank level → id ≡ result };
+        ensures alone { (id : IdValue) → knows self.now id → content self.now id ≡ blank level
+            → id ≡ result };
 
     /// The square of one cell.
     fn cell(&self, state: State) -> Id
@@ -53,32 +54,49 @@ pub trait Squares {
         requires se_level { depth (content self.old se) ≡ depth (content self.old nw) }
         requires room { depth (content self.old nw) < MAX_LEVEL }
         ensures known { IfOk result (λ id. knows self.new id) }
-        ensures square { IfOk result (λ id. content self.new id ≡ quad (content self.old nw) (content self.old ne) (content self.old sw) (content self.old se)) }
+        ensures square { IfOk result (λ id. content self.new id
+            ≡ quad (content self.old nw) (content self.old ne) (content self.old sw)
+            (content self.old se)) }
         ensures keeps { KeepsSquares knows content stored most self.old self.new }
 
         // The squares that are stored.
-        ensures added { let t = quad (content self.old nw) (content self.old ne) (content self.old sw) (content self.old se) in OnOk result (needs_node self.old t → stored self.new ≡ stored self.old ++ t ∷ []) }
-        ensures there { let t = quad (content self.old nw) (content self.old ne) (content self.old sw) (content self.old se) in OnOk result (¬ needs_node self.old t → stored self.new ≡ stored self.old) }
+        ensures adds { let t = quad (content self.old nw) (content self.old ne)
+            (content self.old sw) (content self.old se) in AddsOnly stored (λ P. P t) self.old
+            self.new }
+        ensures added { let t = quad (content self.old nw) (content self.old ne)
+            (content self.old sw) (content self.old se) in OnOk result
+            (needs_node self.old t → stored self.new ≡ stored self.old ++ t ∷ []) }
+        ensures there { let t = quad (content self.old nw) (content self.old ne)
+            (content self.old sw) (content self.old se) in OnOk result
+            (¬ needs_node self.old t → stored self.new ≡ stored self.old) }
 
         // A new square gets an Id that named nothing before.
-        ensures fresh { let t = quad (content self.old nw) (content self.old ne) (content self.old sw) (content self.old se) in IfOk result (λ id. needs_node self.old t → ¬ knows self.old id) }
+        ensures fresh { let t = quad (content self.old nw) (content self.old ne)
+            (content self.old sw) (content self.old se) in IfOk result
+            (λ id. needs_node self.old t → ¬ knows self.old id) }
 
         // A refusal is want of room or of memory, for a new square alone.
-        ensures full { let t = quad (content self.old nw) (content self.old ne) (content self.old sw) (content self.old se) in (result ≡ Err Full) ↔ (needs_node self.old t × (length (stored self.old) ≡ most self.old)) }
+        ensures full { let t = quad (content self.old nw) (content self.old ne)
+            (content self.old sw) (content self.old se) in (result ≡ Err Full)
+            ↔ (needs_node self.old t × (length (stored self.old) ≡ most self.old)) }
         ensures room { result ≡ Err Memory → length (stored self.new) < most self.new }
         ensures refusals { IfErr result (IsWantKind (stored self.new) (most self.new)) }
-        ensures needed { let t = quad (content self.old nw) (content self.old ne) (content self.old sw) (content self.old se) in OnErr result (needs_node self.old t) }
+        ensures needed { let t = quad (content self.old nw) (content self.old ne)
+            (content self.old sw) (content self.old se) in OnErr result (needs_node self.old t) }
         ensures unchanged { OnErr result (self.new ≡ self.old) };
 
     /// The four quarters, which a square of level 0 lacks.
     fn parts(&self, id: Id) -> Option<[Id; 4]>
         requires { knows self.now id }
-        ensures { MatchOption result (quarters (content self.now id) ≡ []) (λ ids. All (knows self.now) ids × (map (content self.now) ids ≡ quarters (content self.now id))) };
+        ensures { MatchOption result (quarters (content self.now id) ≡ [])
+            (λ ids. All (knows self.now) ids
+            × (map (content self.now) ids ≡ quarters (content self.now id))) };
 
     /// The state of a square of level 0.
     fn state(&self, id: Id) -> Option<State>
         requires { knows self.now id }
-        ensures { MatchOption result (0 < depth (content self.now id)) (λ s. content self.now id ≡ point s) };
+        ensures { MatchOption result (0 < depth (content self.now id))
+            (λ s. content self.now id ≡ point s) };
 
     /// The level of a square.
     fn level(&self, id: Id) -> u8
@@ -99,6 +117,7 @@ pub trait Squares {
         ensures known { IfOk result (λ id. knows self.new id) }
         ensures square { IfOk result (λ id. content self.new id ≡ two cells) }
         ensures keeps { KeepsSquares knows content stored most self.old self.new }
+        ensures adds { AddsOnly stored (λ P. P (two cells)) self.old self.new }
         ensures refusals { IfErr result (IsWantKind (stored self.new) (most self.new)) }
         ensures room { result ≡ Err Memory → length (stored self.new) < most self.new }
         ensures needed { OnErr result (needs_node self.new (two cells)) }
@@ -116,6 +135,7 @@ pub trait Squares {
         ensures known { IfOk result (λ id. knows self.new id) }
         ensures square { IfOk result (λ id. content self.new id ≡ four cells) }
         ensures keeps { KeepsSquares knows content stored most self.old self.new }
+        ensures adds { AddsOnly stored (λ P. SomePart P (four cells)) self.old self.new }
         ensures refusals { IfErr result (IsWantKind (stored self.new) (most self.new)) }
         ensures room { result ≡ Err Memory → length (stored self.new) < most self.new }
         ensures needed { OnErr result (SomePart (needs_node self.new) (four cells)) }
@@ -129,6 +149,7 @@ pub trait Squares {
         ensures known { IfOk result (λ id. knows self.new id) }
         ensures square { IfOk result (λ id. content self.new id ≡ four cells) }
         ensures keeps { KeepsSquares knows content stored most self.old self.new }
+        ensures adds { AddsOnly stored (λ P. SomePart P (four cells)) self.old self.new }
         ensures refusals { IfErr result (IsWantKind (stored self.new) (most self.new)) }
         ensures room { result ≡ Err Memory → length (stored self.new) < most self.new }
         ensures needed { OnErr result (SomePart (needs_node self.new) (four cells)) }

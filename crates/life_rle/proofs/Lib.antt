@@ -9,6 +9,7 @@ pub mod NumbersRead
 pub mod Fields
 pub mod PlaneLemmas
 pub mod ShortKinds
+pub mod RowLimits
 pub mod ReadItems
 pub mod Advance
 pub mod Texts
@@ -47,3 +48,11 @@ pub mod ValidFiles
 pub mod LongestRuns
 pub mod PlainFiles
 pub mod WiderPlanes
+pub mod BlockItems
+pub mod BlockWeights
+pub mod BlockPlaces
+pub mod BlockSums
+pub mod BlockCover
+pub mod BlockBytes
+pub mod BlockLaw
+pub mod BlockFronts

@@ -1,5 +1,5 @@
 -- The place where the next item stands.
-use Rattle.std.specs.Prelude.{◌≡◌, ℕ, pos, neg_ℤ, ◌+ℤ◌, ◌≤ℤ◌, ◌<ℤ◌, List, [], ◌∷◌}
+use Rattle.std.specs.Prelude.{◌≡◌, ℕ, ℤ, pos, neg_ℤ, ◌+ℤ◌, ◌≤ℤ◌, ◌<ℤ◌, int_lt, if◌then◌else◌, ◌^◌, List, [], ◌∷◌}
 use Rattle.life_rle.specs.declared.item.Item.{Item}
 use Rattle.life_rle.specs.declared.item.Item.TheVariants.{Cells, RowEnds}
 use Rattle.life_rle.specs.declared.cursor.Cursor.{Cursor}
@@ -30,6 +30,10 @@ moved_behind c (item ∷ items) = moved_behind (moved c item) items
 abbrev pub placed_at : Cursor → List Item → List Placed
 placed_at c [] = []
 placed_at c (item ∷ items) = record { row = c.y; column = c.x; item = item } ∷ placed_at (moved c item) items
+
+-- the column up to which cells may stand in a row: the edge of the plane, and below the plane one west of every column
+abbrev pub row_limit : ℕ → ℤ → ℤ
+row_limit level y = if int_lt y (edge level) then edge level else neg_ℤ (pos (2 ^ 63))
 
 -- the place is in the plane or at its right or lower edge
 pub record IsNear (level : ℕ) (c : Cursor) : Type 0 where

@@ -3,7 +3,7 @@
 ghost use Rattle.std.specs.Prelude.{◌≡◌, ◌≤◌, Some, None};
 ghost use Rattle.life_rle.specs.Plane.{most_count};
 ghost use Rattle.life_rle.specs.Pattern.{item_fault};
-ghost use Rattle.life_rle.specs.Cursor.{IsNear, start_of, moved, item_count};
+ghost use Rattle.life_rle.specs.Cursor.{IsNear, start_of, moved, item_count, row_limit};
 ghost use Rattle.life_rle.specs.declared.item.Item.TheVariants.{Cells};
 
 use crate::item::Item;
@@ -30,29 +30,39 @@ pub(crate) fn start_of(position: Position) -> Cursor
     }
 }
 
-/// Which rule cells break that stand there.
+/// The column up to which cells may stand in a row: the edge of the plane, and below the plane one west of every column.
 #[inline(always)]
-fn cells_fault(rule: &Rule, cursor: Cursor, count: u64, state: State) -> Option<Kind>
+pub(crate) fn row_limit(y: i64) -> i64
+    ensures { result ≡ row_limit MAX_LEVEL y }
+{
+    if y < EDGE { EDGE } else { i64::MIN }
+}
+
+/// Which rule cells break that stand there, in a row with this limit.
+#[inline(always)]
+fn cells_fault(rule: &Rule, cursor: Cursor, limit: i64, count: u64, state: State) -> Option<Kind>
     requires near { IsNear MAX_LEVEL cursor }
+    requires limit { limit ≡ row_limit MAX_LEVEL cursor.y }
     requires count { count ≤ most_count MAX_LEVEL }
     ensures { result ≡ item_fault MAX_LEVEL rule.now cursor.y cursor.x (Cells count state) }
 {
     if !is_state_of(rule, state) {
         return Some(Kind::StateRange);
     }
-    let inside = cursor.y < EDGE && cursor.x + count as i64 <= EDGE;
+    let inside = cursor.x + count as i64 <= limit;
     if inside { None } else { Some(Kind::OutOfPlane) }
 }
 
-/// Which rule an item breaks that stands there.
+/// Which rule an item breaks that stands there, in a row with this limit.
 #[inline(always)]
-pub(crate) fn item_fault(rule: &Rule, cursor: Cursor, item: Item) -> Option<Kind>
+pub(crate) fn item_fault(rule: &Rule, cursor: Cursor, limit: i64, item: Item) -> Option<Kind>
     requires near { IsNear MAX_LEVEL cursor }
+    requires limit { limit ≡ row_limit MAX_LEVEL cursor.y }
     requires count { item_count item ≤ most_count MAX_LEVEL }
     ensures { result ≡ item_fault MAX_LEVEL rule.now cursor.y cursor.x item }
 {
     match item {
-        Item::Cells { count, state } => cells_fault(rule, cursor, count, state),
+        Item::Cells { count, state } => cells_fault(rule, cursor, limit, count, state),
         Item::RowEnds { count } if cursor.y + count as i64 <= EDGE => None,
         Item::RowEnds { .. } => Some(Kind::OutOfPlane),
     }

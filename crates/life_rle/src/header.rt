@@ -44,7 +44,8 @@ fn rule_part(bytes: &[u8]) -> Option<Option<&[u8]>>
 
 /// The rule part of a header line, where the line has the form of one.
 fn header_form(line: &[u8]) -> Option<Option<&[u8]>>
-    ensures { option_map (λ part. option_map (λ rest. rest.now) part) result ≡ header_form line.now }
+    ensures { option_map (λ part. option_map (λ rest. rest.now) part) result
+        ≡ header_form line.now }
 {
     let rest = after_word(b"x", line)?;
     let rest = after_word(b"=", rest)?;

@@ -1,6 +1,6 @@
 //! The items of a line.
 
-ghost use Rattle.std.specs.Prelude.{◌≡◌, ◌≢◌, ◌<◌, None, true, ℕ, List, drop, length, slice_index, OnOk, IfOk, IfErr};
+ghost use Rattle.std.specs.Prelude.{◌≡◌, ◌≢◌, ◌<◌, None, true, false, ℕ, List, drop, length, slice_index, OnOk, IfOk, IfErr};
 ghost use Rattle.std.specs.Char.{is_ascii_digit};
 ghost use Rattle.std.specs.Str.{byte};
 ghost use Rattle.life_base.specs.Numbers.{capped};
@@ -74,8 +74,11 @@ fn prefixed_state(prefix: u8, letter: u8) -> Option<State>
 
 /// Checks the count of an item.
 fn check_count(count: u64) -> Result<(), Kind>
-    ensures ok { OnOk result ((digits bytes : List ℕ) → is_digit_text digits ≡ true → count ≡ capped (value_of digits) → counted MAX_LEVEL digits bytes ≡ item_behind count bytes) }
-    ensures err { IfErr result (λ kind. (digits bytes : List ℕ) → is_digit_text digits ≡ true → count ≡ capped (value_of digits) → counted MAX_LEVEL digits bytes ≡ Broken kind) }
+    ensures ok { OnOk result ((digits bytes : List ℕ) → is_digit_text digits ≡ true
+        → count ≡ capped (value_of digits)
+        → counted MAX_LEVEL digits bytes ≡ item_behind count bytes) }
+    ensures err { IfErr result (λ kind. (digits bytes : List ℕ) → is_digit_text digits ≡ true
+        → count ≡ capped (value_of digits) → counted MAX_LEVEL digits bytes ≡ Broken kind) }
 {
     if count == 0 {
         return Err(Kind::ZeroCount);
@@ -118,22 +121,21 @@ fn any_count(line: &[u8], at: usize) -> Result<(u64, usize), Kind>
     Ok((count, place))
 }
 
-/// The count at a place, which is 1 without digits, and the place behind it.
+/// The count at a place, which is 1 without digits, and the place behind it, unless a digit stands there: then there may be more of them.
 #[inline(always)]
-fn count_at(line: &[u8], at: usize) -> Result<(u64, usize), Kind>
+fn count_at(line: &[u8], at: usize) -> (u64, usize)
     requires { at < length line.now }
-    ensures count { IfOk result (λ found. IsCount MAX_LEVEL line.now at found.0 found.1) }
-    ensures inside { IfOk result (λ found. found.1 < length line.now) }
-    ensures fault { IfErr result (λ kind. next_of MAX_LEVEL (drop at line.now) ≡ Broken kind) }
+    ensures inside { result.1 < length line.now }
+    ensures count { is_ascii_digit (slice_index line.now result.1) ≡ false
+        → IsCount MAX_LEVEL line.now at result.0 result.1 }
+    ensures digit { is_ascii_digit (slice_index line.now result.1) ≡ true
+        → is_ascii_digit (slice_index line.now at) ≡ true }
 {
     let first = line[at];
-    if !first.is_ascii_digit() {
-        return Ok((1, at));
+    if first < b'1' || first > b'9' || at + 1 == line.len() {
+        return (1, at);
     }
-    if first == b'0' || at + 1 == line.len() || line[at + 1].is_ascii_digit() {
-        return any_count(line, at);
-    }
-    Ok((u64::from(first - b'0'), at + 1))
+    (u64::from(first - b'0'), at + 1)
 }
 
 /// The item with this count whose state is the two bytes at a place.
@@ -172,14 +174,33 @@ fn behind_count(line: &[u8], at: usize, count: u64, place: usize) -> Token
     }
 }
 
+/// What stands at a place where a digit stands and another one may follow.
+#[inline(always)]
+fn behind_digits(line: &[u8], at: usize) -> Token
+    requires inside { at < length line.now }
+    requires digit { is_ascii_digit (slice_index line.now at) ≡ true }
+    ensures { IsTokenAt MAX_LEVEL line.now at result }
+{
+    match any_count(line, at) {
+        Ok((count, place)) => behind_count(line, at, count, place),
+        Err(kind) => Token::Broken(kind),
+    }
+}
+
 /// What stands at a place of a line.
 #[inline(always)]
 pub(crate) fn token_at(line: &[u8], at: usize) -> Token
     requires { at < length line.now }
     ensures { IsTokenAt MAX_LEVEL line.now at result }
 {
-    match count_at(line, at) {
-        Ok((count, place)) => behind_count(line, at, count, place),
-        Err(kind) => Token::Broken(kind),
+    let (count, place) = count_at(line, at);
+    let byte = line[place];
+    // Most items are cells whose state is one byte, so that is asked first.
+    if single_state(byte).is_some() {
+        return behind_count(line, at, count, place);
     }
+    if byte.is_ascii_digit() {
+        return behind_digits(line, at);
+    }
+    behind_count(line, at, count, place)
 }

@@ -6,11 +6,11 @@ ghost use Rattle.std.specs.Str.{byte};
 ghost use Rattle.life_rle.specs.Plane.{most_count};
 ghost use Rattle.life_rle.specs.Pattern.{item_fault};
 ghost use Rattle.life_rle.specs.Runs.{with_run, is_run_end};
-ghost use Rattle.life_rle.specs.Cursor.{IsNear, moved, item_count};
+ghost use Rattle.life_rle.specs.Cursor.{IsNear, moved, item_count, row_limit};
 ghost use Rattle.life_rle.specs.File.{IsFrontOf};
 ghost use Rattle.life_rle.specs.Reading.{ReadsItems, last_of, ItemsBreak};
 
-use crate::cursor::{Cursor, item_fault, moved};
+use crate::cursor::{Cursor, item_fault, moved, row_limit};
 use crate::item::{Item, Token, token_at};
 use bstr::ByteSlice;
 use life_base::{Kind, MAX_LEVEL, Rule, Run};
@@ -74,7 +74,9 @@ fn most_runs(line: &[u8]) -> usize
 /// Makes room for the runs of a line, so that it takes memory once at most. Where there is room for a run at each byte they aren't counted.
 fn reserve_runs(line: &[u8], runs: &mut Vec<Run>) -> Result<(), Kind>
     ensures runs { runs.new.items ≡ runs.old.items }
-    ensures room { OnOk result (vec_len runs.old + length (filter is_run_end (take_while (λ b. not (b == byte "!")) line.now)) ≤ vec_capacity runs.new) }
+    ensures room { OnOk result (vec_len runs.old
+        + length (filter is_run_end (take_while (λ b. not (b == byte "!")) line.now))
+        ≤ vec_capacity runs.new) }
     ensures memory { IfErr result (λ kind. kind ≡ Kind.Memory) }
 {
     if runs.capacity() - runs.len() < line.len() {
@@ -98,7 +100,8 @@ fn push_growing(run: Run, runs: &mut Vec<Run>) -> Result<(), Kind>
 /// Puts the run of an item of nonzero state behind the runs.
 #[inline(always)]
 fn push_run(cursor: Cursor, item: Item, runs: &mut Vec<Run>) -> Result<(), Kind>
-    ensures runs { OnOk result (runs.new.items ≡ runs.old.items ++ with_run cursor.y cursor.x item []) }
+    ensures runs { OnOk result
+        (runs.new.items ≡ runs.old.items ++ with_run cursor.y cursor.x item []) }
     ensures kept { OnErr result (runs.new.items ≡ runs.old.items) }
     ensures memory { IfErr result (λ kind. kind ≡ Kind.Memory) }
 {
@@ -131,17 +134,26 @@ fn push_run(cursor: Cursor, item: Item, runs: &mut Vec<Run>) -> Result<(), Kind>
 
 /// Takes an item of a kind that is known, and answers the place behind it.
 #[inline(always)]
-fn take_one(rule: &Rule, cursor: Cursor, item: Item, runs: &mut Vec<Run>) -> Result<Cursor, Kind>
+fn take_one(
+    rule: &Rule,
+    cursor: Cursor,
+    limit: i64,
+    item: Item,
+    runs: &mut Vec<Run>,
+) -> Result<Cursor, Kind>
     requires near { IsNear MAX_LEVEL cursor }
+    requires limit { limit ≡ row_limit MAX_LEVEL cursor.y }
     requires count { item_count item ≤ most_count MAX_LEVEL }
     ensures cursor { IfOk result (λ next. next ≡ moved cursor item) }
     ensures near { IfOk result (λ next. IsNear MAX_LEVEL next) }
     ensures sound { OnOk result (item_fault MAX_LEVEL rule.now cursor.y cursor.x item ≡ None) }
-    ensures runs { OnOk result (runs.new.items ≡ runs.old.items ++ with_run cursor.y cursor.x item []) }
+    ensures runs { OnOk result
+        (runs.new.items ≡ runs.old.items ++ with_run cursor.y cursor.x item []) }
     ensures kept { OnErr result (runs.new.items ≡ runs.old.items) }
-    ensures fault { IfErr result (λ kind. (kind ≡ Kind.Memory) ⊎ (item_fault MAX_LEVEL rule.now cursor.y cursor.x item ≡ Some kind)) }
+    ensures fault { IfErr result (λ kind. (kind ≡ Kind.Memory)
+        ⊎ (item_fault MAX_LEVEL rule.now cursor.y cursor.x item ≡ Some kind)) }
 {
-    if let Some(kind) = item_fault(rule, cursor, item) {
+    if let Some(kind) = item_fault(rule, cursor, limit, item) {
         return Err(kind);
     }
     push_run(cursor, item, runs)?;
@@ -150,19 +162,53 @@ fn take_one(rule: &Rule, cursor: Cursor, item: Item, runs: &mut Vec<Run>) -> Res
 
 /// Takes an item that stands at the cursor, and answers the place behind it.
 #[inline(always)]
-fn take_item(rule: &Rule, cursor: Cursor, item: Item, runs: &mut Vec<Run>) -> Result<Cursor, Kind>
+fn take_item(
+    rule: &Rule,
+    cursor: Cursor,
+    limit: i64,
+    item: Item,
+    runs: &mut Vec<Run>,
+) -> Result<Cursor, Kind>
     requires near { IsNear MAX_LEVEL cursor }
+    requires limit { limit ≡ row_limit MAX_LEVEL cursor.y }
     requires count { item_count item ≤ most_count MAX_LEVEL }
     ensures cursor { IfOk result (λ next. next ≡ moved cursor item) }
     ensures near { IfOk result (λ next. IsNear MAX_LEVEL next) }
     ensures sound { OnOk result (item_fault MAX_LEVEL rule.now cursor.y cursor.x item ≡ None) }
-    ensures runs { OnOk result (runs.new.items ≡ runs.old.items ++ with_run cursor.y cursor.x item []) }
+    ensures runs { OnOk result
+        (runs.new.items ≡ runs.old.items ++ with_run cursor.y cursor.x item []) }
     ensures kept { OnErr result (runs.new.items ≡ runs.old.items) }
-    ensures fault { IfErr result (λ kind. (kind ≡ Kind.Memory) ⊎ (item_fault MAX_LEVEL rule.now cursor.y cursor.x item ≡ Some kind)) }
+    ensures fault { IfErr result (λ kind. (kind ≡ Kind.Memory)
+        ⊎ (item_fault MAX_LEVEL rule.now cursor.y cursor.x item ≡ Some kind)) }
 {
     match item {
-        Item::Cells { count, state } => take_one(rule, cursor, Item::Cells { count, state }, runs),
-        Item::RowEnds { count } => take_one(rule, cursor, Item::RowEnds { count }, runs),
+        Item::Cells { count, state: 0 } => take_one(
+            rule,
+            cursor,
+            limit,
+            Item::Cells { count, state: 0 },
+            runs,
+        ),
+        Item::Cells { count, state } => take_one(
+            rule,
+            cursor,
+            limit,
+            Item::Cells { count, state },
+            runs,
+        ),
+        Item::RowEnds { count } => take_one(rule, cursor, limit, Item::RowEnds { count }, runs),
+    }
+}
+
+/// The limit of the row behind an item that brought the cursor here.
+#[inline(always)]
+fn limit_behind(limit: i64, item: Item, cursor: Cursor) -> i64
+    ensures { (before : Cursor) → limit ≡ row_limit MAX_LEVEL before.y
+        → cursor ≡ moved before item → result ≡ row_limit MAX_LEVEL cursor.y }
+{
+    match item {
+        Item::Cells { .. } => limit,
+        Item::RowEnds { .. } => row_limit(cursor.y),
     }
 }
 
@@ -175,12 +221,15 @@ pub(crate) fn read_items(
     runs: &mut Vec<Run>,
 ) -> Result<ItemsRead, Kind>
     requires { IsNear MAX_LEVEL from }
-    ensures read { IfOk result (λ read. ReadsItems MAX_LEVEL rule.now from line.now (last_of read.marked) read.cursor runs.old.items runs.new.items) }
-    ensures fault { IfErr result (λ kind. (kind ≡ Kind.Memory) ⊎ ItemsBreak MAX_LEVEL rule.now from line.now kind) }
+    ensures read { IfOk result (λ read. ReadsItems MAX_LEVEL rule.now from line.now
+        (last_of read.marked) read.cursor runs.old.items runs.new.items) }
+    ensures fault { IfErr result
+        (λ kind. (kind ≡ Kind.Memory) ⊎ ItemsBreak MAX_LEVEL rule.now from line.now kind) }
     ensures kept { OnErr result (IsFrontOf runs.old.items runs.new.items) }
 {
     reserve_runs(line, runs)?;
     let mut cursor = from;
+    let mut limit = row_limit(from.y);
     let mut at = 0;
     while at < line.len() {
         match token_at(line, at) {
@@ -193,7 +242,8 @@ pub(crate) fn read_items(
             }
             Token::Broken(kind) => return Err(kind),
             Token::Spelled(item, behind) => {
-                cursor = take_item(rule, cursor, item, runs)?;
+                cursor = take_item(rule, cursor, limit, item, runs)?;
+                limit = limit_behind(limit, item, cursor);
                 at = behind;
             }
         }

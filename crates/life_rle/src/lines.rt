@@ -38,9 +38,11 @@ fn before_header(
     cursor: Cursor,
     line: &[u8],
 ) -> Result<(Phase, Cursor), Kind>
-    ensures advance { IfOk result (λ next. Advances MAX_LEVEL (Phase.Before position) cursor line.now next.0 next.1 []) }
+    ensures advance { IfOk result
+        (λ next. Advances MAX_LEVEL (Phase.Before position) cursor line.now next.0 next.1 []) }
     ensures going { IfOk result (λ next. is_refused next.0 ≡ false) }
-    ensures fault { IfErr result (λ kind. (kind ≡ Kind.Memory) ⊎ (opening_of MAX_LEVEL line.now ≡ Err kind)) }
+    ensures fault { IfErr result
+        (λ kind. (kind ≡ Kind.Memory) ⊎ (opening_of MAX_LEVEL line.now ≡ Err kind)) }
 {
     match opening_of(alloc, line)? {
         Opening::Comment => Ok((Phase::Before(position), cursor)),
@@ -58,9 +60,11 @@ fn behind_header(
     runs: &mut Vec<Run>,
 ) -> Result<(Phase, Cursor), Kind>
     requires { IsNear MAX_LEVEL cursor }
-    ensures advance { IfOk result (λ next. TakesLine MAX_LEVEL (Phase.Items rule position) cursor line.now next.0 next.1 runs.old.items runs.new.items) }
+    ensures advance { IfOk result (λ next. TakesLine MAX_LEVEL (Phase.Items rule position) cursor
+        line.now next.0 next.1 runs.old.items runs.new.items) }
     ensures going { IfOk result (λ next. is_refused next.0 ≡ false) }
-    ensures fault { IfErr result (λ kind. (kind ≡ Kind.Memory) ⊎ (later_of line.now ≡ Err kind) ⊎ ((later_of line.now ≡ Ok Data) × ItemsBreak MAX_LEVEL rule cursor line.now kind)) }
+    ensures fault { IfErr result (λ kind. (kind ≡ Kind.Memory) ⊎ (later_of line.now ≡ Err kind)
+        ⊎ ((later_of line.now ≡ Ok Data) × ItemsBreak MAX_LEVEL rule cursor line.now kind)) }
     ensures kept { OnErr result (IsFrontOf runs.old.items runs.new.items) }
 {
     match later_of(line)? {
@@ -85,10 +89,13 @@ fn after_line(
     runs: &mut Vec<Run>,
 ) -> Result<(Phase, Cursor), Kind>
     requires { IsPlaced MAX_LEVEL at.0 at.1 }
-    ensures advance { IfOk result (λ next. TakesLine MAX_LEVEL at.0 at.1 line.now next.0 next.1 runs.old.items runs.new.items) }
+    ensures advance { IfOk result (λ next. TakesLine MAX_LEVEL at.0 at.1 line.now next.0 next.1
+        runs.old.items runs.new.items) }
     ensures going { IfOk result (λ next. is_refused next.0 ≡ false) }
-    ensures fault { IfErr result (λ kind. (kind ≡ Kind.Memory) ⊎ ((kind ≡ Kind.Spent) × (is_refused at.0 ≡ true))
-        ⊎ ((lines : List (List ℕ)) → StandsAt MAX_LEVEL at.0 at.1 lines → Breaks MAX_LEVEL lines line.now kind)) }
+    ensures fault { IfErr result (λ kind. (kind ≡ Kind.Memory)
+        ⊎ ((kind ≡ Kind.Spent) × (is_refused at.0 ≡ true))
+        ⊎ ((lines : List (List ℕ)) → StandsAt MAX_LEVEL at.0 at.1 lines
+        → Breaks MAX_LEVEL lines line.now kind)) }
     ensures kept { OnErr result (IsFrontOf runs.old.items runs.new.items) }
     ensures unspent { IfOk result (λ _. is_refused at.0 ≡ false) }
     ensures spent { is_refused at.0 ≡ true → IsErrOf result Kind.Spent }
@@ -157,19 +164,25 @@ impl RleLines {
     ///
     /// The kind of the first rule that the line breaks, or `Memory`. After an error each later call answers `Spent`.
     pub fn line(&mut self, line: &[u8]) -> Result<Vec<Run>, Kind>
-        ensures lines { OnOk result (self.new ≡ record { lines = self.old.lines ++ line.now ∷ []; refused = false }) }
+        ensures lines { OnOk result
+            (self.new ≡ record { lines = self.old.lines ++ line.now ∷ []; refused = false }) }
 
         // The lines so far are the front of a file, and the answers are its runs.
         ensures front { OnOk result (Prefix (IsSomeRle MAX_LEVEL) self.new.lines) }
-        ensures runs { IfOk result (λ runs. (before : List Run) → HasRuns MAX_LEVEL self.old.lines before → HasRuns MAX_LEVEL self.new.lines (before ++ runs.items)) }
+        ensures runs { IfOk result (λ runs. (before : List Run)
+            → HasRuns MAX_LEVEL self.old.lines before
+            → HasRuns MAX_LEVEL self.new.lines (before ++ runs.items)) }
 
         // A refused line is the first that breaks a rule, and every later call answers Spent.
-        ensures fault { IfErr result (λ kind. (kind ≡ Kind.Memory) ⊎ (kind ≡ Kind.Spent) ⊎ Breaks MAX_LEVEL self.old.lines line.now kind) }
+        ensures fault { IfErr result (λ kind. (kind ≡ Kind.Memory) ⊎ (kind ≡ Kind.Spent)
+            ⊎ Breaks MAX_LEVEL self.old.lines line.now kind) }
         ensures spent { IsErrOf result Kind.Spent ↔ (self.old.refused ≡ true) }
-        ensures refused { OnErr result (self.new ≡ record { lines = self.old.lines; refused = true }) }
+        ensures refused { OnErr result
+            (self.new ≡ record { lines = self.old.lines; refused = true }) }
 
         // Behind the mark nothing is refused, not even for want of memory.
-        ensures free { self.old.refused ≡ false → ((file : Rle) × IsMarked MAX_LEVEL self.old.lines file)
+        ensures free { self.old.refused ≡ false
+            → ((file : Rle) × IsMarked MAX_LEVEL self.old.lines file)
             → IsOkAnd result (λ runs. runs.items ≡ []) }
     {
         let mut runs = Vec::new(self.alloc);
@@ -185,20 +198,25 @@ impl RleLines {
     /// The kind of the first rule that the line breaks, or `Memory`. After an error each later call answers `Spent`. The runs that were
     /// lent stay in front then; behind them there may be runs of items that the line spells before its fault.
     pub fn line_into(&mut self, line: &[u8], runs: &mut Vec<Run>) -> Result<(), Kind>
-        ensures lines { OnOk result (self.new ≡ record { lines = self.old.lines ++ line.now ∷ []; refused = false }) }
+        ensures lines { OnOk result
+            (self.new ≡ record { lines = self.old.lines ++ line.now ∷ []; refused = false }) }
 
         // The lines so far are the front of a file, and what is put behind the runs is its runs.
         ensures front { OnOk result (Prefix (IsSomeRle MAX_LEVEL) self.new.lines) }
-        ensures runs { OnOk result (AddsRuns MAX_LEVEL self.old.lines self.new.lines runs.old.items runs.new.items) }
+        ensures runs { OnOk result
+            (AddsRuns MAX_LEVEL self.old.lines self.new.lines runs.old.items runs.new.items) }
 
         // A refused line is the first that breaks a rule, and every later call answers Spent.
-        ensures fault { IfErr result (λ kind. (kind ≡ Kind.Memory) ⊎ (kind ≡ Kind.Spent) ⊎ Breaks MAX_LEVEL self.old.lines line.now kind) }
+        ensures fault { IfErr result (λ kind. (kind ≡ Kind.Memory) ⊎ (kind ≡ Kind.Spent)
+            ⊎ Breaks MAX_LEVEL self.old.lines line.now kind) }
         ensures spent { IsErrOf result Kind.Spent ↔ (self.old.refused ≡ true) }
-        ensures refused { OnErr result (self.new ≡ record { lines = self.old.lines; refused = true }) }
+        ensures refused { OnErr result
+            (self.new ≡ record { lines = self.old.lines; refused = true }) }
         ensures kept { OnErr result (IsFrontOf runs.old.items runs.new.items) }
 
         // Behind the mark nothing is refused, not even for want of memory.
-        ensures free { self.old.refused ≡ false → ((file : Rle) × IsMarked MAX_LEVEL self.old.lines file)
+        ensures free { self.old.refused ≡ false
+            → ((file : Rle) × IsMarked MAX_LEVEL self.old.lines file)
             → IsOkAnd result (λ _. runs.new.items ≡ runs.old.items) }
     {
         let phase = mem::replace(&mut self.phase, Phase::Refused);
@@ -211,7 +229,8 @@ impl RleLines {
 
     /// Whether `!` has ended the pattern.
     pub fn over(&self) -> bool
-        ensures over { self.now.refused ≡ false → (IsTrue result ↔ ((file : Rle) × IsMarked MAX_LEVEL self.now.lines file)) }
+        ensures over { self.now.refused ≡ false
+            → (IsTrue result ↔ ((file : Rle) × IsMarked MAX_LEVEL self.now.lines file)) }
         ensures refused { self.now.refused ≡ true → result ≡ false }
     {
         matches!(self.phase, Phase::Over(_, _))
@@ -219,8 +238,10 @@ impl RleLines {
 
     /// The rule and the position of the file that the lines are.
     pub(crate) fn finish(self) -> Result<(Rule, Position), Kind>
-        ensures file { IfOk result (λ found. (file : Rle) × IsRle MAX_LEVEL self.lines file × (found.0 ≡ file.rule) × (found.1 ≡ file.position)) }
-        ensures missing { IsErrOf result Kind.NoHeader → (position : Position) × IsPreamble MAX_LEVEL default_position self.lines position }
+        ensures file { IfOk result (λ found. (file : Rle) × IsRle MAX_LEVEL self.lines file
+            × (found.0 ≡ file.rule) × (found.1 ≡ file.position)) }
+        ensures missing { IsErrOf result Kind.NoHeader
+            → (position : Position) × IsPreamble MAX_LEVEL default_position self.lines position }
         ensures spent { IsErrOf result Kind.Spent ↔ (self.refused ≡ true) }
         ensures only { IfErr result (λ kind. (kind ≡ Kind.NoHeader) ⊎ (kind ≡ Kind.Spent)) }
     {
@@ -238,9 +259,12 @@ impl RleLines {
     ///
     /// `NoHeader` where they lack one, and `Spent` after a refused line.
     pub fn end(self) -> Result<(Rule, u64), Kind>
-        ensures file { IfOk result (λ found. (file : Rle) × IsRle MAX_LEVEL self.lines file × (found.0 ≡ file.rule) × (found.1 ≡ file.position.generation)) }
+        ensures file { IfOk result (λ found. (file : Rle) × IsRle MAX_LEVEL self.lines file
+            × (found.0 ≡ file.rule) × (found.1 ≡ file.position.generation)) }
         ensures whole { self.refused ≡ false → IsSomeRle MAX_LEVEL self.lines → IsOk result }
-        ensures missing { self.refused ≡ false → (IsErrOf result Kind.NoHeader ↔ ((position : Position) × IsPreamble MAX_LEVEL default_position self.lines position)) }
+        ensures missing { self.refused ≡ false
+            → (IsErrOf result Kind.NoHeader
+            ↔ ((position : Position) × IsPreamble MAX_LEVEL default_position self.lines position)) }
         ensures spent { IsErrOf result Kind.Spent ↔ (self.refused ≡ true) }
         ensures only { IfErr result (λ kind. (kind ≡ Kind.NoHeader) ⊎ (kind ≡ Kind.Spent)) }
     {

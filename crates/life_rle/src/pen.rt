@@ -68,6 +68,44 @@ fn distance(from: i64, to: i64) -> u64
     (to - from) as u64
 }
 
+/// Writes what stands between a run and a cell ahead of it, where rows begin at a column.
+#[inline(always)]
+fn put_way(lines: &mut ItemLines, rule: &Rule, left: i64, run: Run, cell: &Cell) -> Result<(), Kind>
+    requires pen { IsPen (record { lines = lines.old; left = left; run = run }) }
+    requires cell { IsGoodCell rule.now cell.now }
+    requires ahead { IsAhead left (column_behind run) run.y cell.now }
+    ensures way { OnOk result
+        (Puts rule.now lines.old (way_to left (column_behind run) run.y cell.now []) lines.new) }
+    ensures memory { IfErr result (λ kind. kind ≡ Kind.Memory) }
+{
+    let count = distance(run.y, cell.y);
+    if count == 0 {
+        let gap = distance(column_behind(run), cell.x);
+        return lines.put_gap(rule, gap);
+    }
+    lines.put_item(rule, Item::RowEnds { count })?;
+    lines.put_gap(rule, distance(left, cell.x))
+}
+
+/// Takes the next cell: it joins the run, or the run is written with what stands before the cell. Answers the run that isn't written then.
+#[inline(always)]
+fn take(lines: &mut ItemLines, rule: &Rule, left: i64, run: Run, cell: &Cell) -> Result<Run, Kind>
+    requires pen { IsPen (record { lines = lines.old; left = left; run = run }) }
+    requires cell { IsGoodCell rule.now cell.now }
+    requires ahead { IsAhead left (column_behind run) run.y cell.now }
+    ensures cell { IfOk result (λ next. WritesCell rule.now
+        (record { lines = lines.old; left = left; run = run }) cell.now
+        (record { lines = lines.new; left = left; run = next })) }
+    ensures memory { IfErr result (λ kind. kind ≡ Kind.Memory) }
+{
+    if joins(run, cell) {
+        return Ok(longer(run));
+    }
+    lines.put_item(rule, item_of(run))?;
+    put_way(lines, rule, left, run, cell)?;
+    Ok(run_of(cell))
+}
+
 /// Where the writer is: its lines, the column at which rows begin, and the run that isn't written yet.
 #[derive(Drop)]
 pub(crate) struct Pen {
@@ -88,42 +126,6 @@ impl Pen {
         }
     }
 
-    /// Writes what stands between the run and a cell ahead of it.
-    fn put_way(&mut self, rule: &Rule, cell: &Cell) -> Result<(), Kind>
-        requires pen { IsPen self.old }
-        requires cell { IsGoodCell rule.now cell.now }
-        requires ahead { IsAhead self.old.left (column_behind self.old.run) self.old.run.y cell.now }
-        ensures way { OnOk result (Puts rule.now self.old.lines (way_to self.old.left (column_behind self.old.run) self.old.run.y cell.now []) self.new.lines) }
-        ensures kept { (self.new.left ≡ self.old.left) × (self.new.run ≡ self.old.run) }
-        ensures memory { IfErr result (λ kind. kind ≡ Kind.Memory) }
-    {
-        let count = distance(self.run.y, cell.y);
-        if count == 0 {
-            let gap = distance(column_behind(self.run), cell.x);
-            return self.lines.put_gap(rule, gap);
-        }
-        self.lines.put_item(rule, Item::RowEnds { count })?;
-        self.lines.put_gap(rule, distance(self.left, cell.x))
-    }
-
-    /// Takes the next cell: it joins the run, or the run is written with what stands before the cell.
-    fn take(&mut self, rule: &Rule, cell: &Cell) -> Result<(), Kind>
-        requires pen { IsPen self.old }
-        requires cell { IsGoodCell rule.now cell.now }
-        requires ahead { IsAhead self.old.left (column_behind self.old.run) self.old.run.y cell.now }
-        ensures cell { OnOk result (WritesCell rule.now self.old cell.now self.new) }
-        ensures memory { IfErr result (λ kind. kind ≡ Kind.Memory) }
-    {
-        if joins(self.run, cell) {
-            self.run = longer(self.run);
-            return Ok(());
-        }
-        self.lines.put_item(rule, item_of(self.run))?;
-        self.put_way(rule, cell)?;
-        self.run = run_of(cell);
-        Ok(())
-    }
-
     /// Writes the run and the cells behind it, with `!` at the end, and answers the text.
     fn finish(self, rule: &Rule, cells: &[Cell]) -> Result<Vec<u8>, Kind>
         requires pen { IsPen self }
@@ -131,12 +133,16 @@ impl Pen {
         ensures text { IfOk result (λ text. text.items ≡ pen_text rule.now self cells.now) }
         ensures memory { IfErr result (λ kind. kind ≡ Kind.Memory) }
     {
-        let mut pen = self;
+        let Pen {
+            mut lines,
+            left,
+            mut run,
+        } = self;
         for cell in cells {
-            pen.take(rule, cell)?;
+            run = take(&mut lines, rule, left, run, cell)?;
         }
-        pen.lines.put_item(rule, item_of(pen.run))?;
-        pen.lines.finish()
+        lines.put_item(rule, item_of(run))?;
+        lines.finish()
     }
 }
 
@@ -151,7 +157,8 @@ pub(crate) fn write_cells(
     requires left { neg_ℤ (edge MAX_LEVEL) ≤ℤ bounds.left }
     requires top { bounds.top ≡ first.now.y }
     requires cells { Follow rule.now bounds.left bounds.left bounds.top (first.now ∷ cells.now) }
-    ensures text { IfOk result (λ whole. whole.items ≡ text.items ++ items_text rule.now 0 (items_from bounds.left bounds.left bounds.top (first.now ∷ cells.now))) }
+    ensures text { IfOk result (λ whole. whole.items ≡ text.items ++ items_text rule.now 0
+        (items_from bounds.left bounds.left bounds.top (first.now ∷ cells.now))) }
     ensures memory { IfErr result (λ kind. kind ≡ Kind.Memory) }
 {
     let mut lines = ItemLines::behind(text);

@@ -60,7 +60,8 @@ fn signed_number(text: &[u8]) -> Option<i64>
 
 /// The position with the corner that a text gives for its own.
 fn with_corner(position: Position, text: &[u8]) -> Result<Position, Kind>
-    ensures { result ≡ and_then (corner_in MAX_LEVEL text.now) (λ found. Ok (with_field position found)) }
+    ensures { result ≡ and_then (corner_in MAX_LEVEL text.now)
+        (λ found. Ok (with_field position found)) }
 {
     let (x, y) = split_at_comma(text);
     let Some(x) = signed_number(x) else {
@@ -80,7 +81,8 @@ fn with_corner(position: Position, text: &[u8]) -> Result<Position, Kind>
 
 /// The position with the generation that a text gives for its own.
 fn with_generation(position: Position, text: &[u8]) -> Result<Position, Kind>
-    ensures { result ≡ and_then (and_then (u64_of text.now) (λ n. Ok (Generation n))) (λ found. Ok (with_field position found)) }
+    ensures { result ≡ and_then (and_then (u64_of text.now) (λ n. Ok (Generation n)))
+        (λ found. Ok (with_field position found)) }
 {
     let generation = read_u64(text)?;
     Ok(Position {
@@ -91,7 +93,8 @@ fn with_generation(position: Position, text: &[u8]) -> Result<Position, Kind>
 
 /// The position with what a field gives.
 fn with_field(position: Position, field: &[u8]) -> Result<Position, Kind>
-    ensures { result ≡ and_then (field_of MAX_LEVEL field.now) (λ found. Ok (with_field position found)) }
+    ensures { result ≡ and_then (field_of MAX_LEVEL field.now)
+        (λ found. Ok (with_field position found)) }
 {
     if begins_with(field, b"Pos=") {
         return with_corner(position, &field[4..]);

@@ -22,9 +22,12 @@ fn take_numbered(
     line: &[u8],
 ) -> Result<(), Fault>
     requires { reader.old.refused ≡ false }
-    ensures lines { OnOk result (reader.new ≡ record { lines = reader.old.lines ++ line.now ∷ []; refused = false }) }
-    ensures runs { OnOk result (HasRuns MAX_LEVEL reader.old.lines runs.old.items → HasRuns MAX_LEVEL reader.new.lines runs.new.items) }
-    ensures fault { IfErr result (λ fault. OrMemory fault (Breaks MAX_LEVEL reader.old.lines line.now fault.kind × (fault.place.line ≡ number))) }
+    ensures lines { OnOk result
+        (reader.new ≡ record { lines = reader.old.lines ++ line.now ∷ []; refused = false }) }
+    ensures runs { OnOk result (HasRuns MAX_LEVEL reader.old.lines runs.old.items
+        → HasRuns MAX_LEVEL reader.new.lines runs.new.items) }
+    ensures fault { IfErr result (λ fault. OrMemory fault
+        (Breaks MAX_LEVEL reader.old.lines line.now fault.kind × (fault.place.line ≡ number))) }
 {
     match reader.line_into(line, runs) {
         Ok(()) => Ok(()),
@@ -34,7 +37,14 @@ fn take_numbered(
 
 /// The file of these parts.
 fn file_of(rule: Rule, position: Position, runs: Vec<Run>) -> RleFile
-    ensures { result ≡ record { rule = rule; generation = position.generation; x = position.x; y = position.y; runs = runs.items } }
+    ensures { result ≡ record {
+      rule = rule;
+      generation = position.generation;
+      x = position.x;
+      y
+          = position.y;
+      runs = runs.items;
+    } }
 {
     RleFile {
         rule,
@@ -53,8 +63,10 @@ fn file_of(rule: Rule, position: Position, runs: Vec<Run>) -> RleFile
 /// header, and the kind is that of the first rule which that line breaks. Where a growth of memory is refused the fault is `Memory`,
 /// which names no line.
 pub fn read_rle(alloc: Global, bytes: &[u8]) -> Result<RleFile, Fault>
-    ensures file { IfOk result (λ value. (file : Rle) × IsPlainRle MAX_LEVEL (lines_of bytes.now) file × Shows value file) }
-    ensures fault { IfErr result (λ fault. OrMemory fault (Refuses MAX_LEVEL (lines_of bytes.now) fault)) }
+    ensures file { IfOk result (λ value. (file : Rle)
+        × IsPlainRle MAX_LEVEL (lines_of bytes.now) file × Shows value file) }
+    ensures fault { IfErr result
+        (λ fault. OrMemory fault (Refuses MAX_LEVEL (lines_of bytes.now) fault)) }
     ensures kinds { IfErr result (λ fault. OrMemory fault (is_rle_kind fault.kind ≡ true)) }
 {
     let mut reader = RleLines::new(alloc);

@@ -4,6 +4,7 @@ ghost use Rattle.std.specs.Prelude.{◌≡◌, ◌+◌, ◌<◌, ◌≤◌, ◌+
 ghost use Rattle.life_base.specs.declared.rule.Rule.{Rule};
 ghost use Rattle.life_rle.specs.States.{state_text, lettered};
 ghost use Rattle.life_rle.specs.Cursor.{item_count};
+ghost use Rattle.life_rle.specs.declared.item.Item.TheVariants.{Cells, RowEnds};
 ghost use Rattle.life_rle.specs.Written.{count_text, item_text, with_gap};
 ghost use Rattle.life_rle.specs.Writing.{tag_text, Puts, text_with};
 
@@ -53,7 +54,8 @@ fn single_lettered(state: State) -> Option<u8>
 /// The letter of a state, where its text is one byte.
 #[inline(always)]
 fn single_state(rule: &Rule, state: State) -> Option<u8>
-    ensures { MatchOption result ((24 < state) × (state_text rule.now state ≡ lettered state)) (λ letter. state_text rule.now state ≡ letter ∷ []) }
+    ensures { MatchOption result ((24 < state) × (state_text rule.now state ≡ lettered state))
+        (λ letter. state_text rule.now state ≡ letter ∷ []) }
 {
     match rule {
         Rule::Life(_) => Some(if state == 0 { b'b' } else { b'o' }),
@@ -138,8 +140,10 @@ impl ItemLines {
     fn put_short(&mut self, count: u64, letter: u8) -> Result<(), Kind>
         requires digit { count < 10 }
         requires room { self.old.used + 2 ≤ 70 }
-        ensures text { OnOk result (self.new.text.items ≡ self.old.text.items ++ (count_text count ++ letter ∷ [])) }
-        ensures used { OnOk result (self.new.used ≡ self.old.used + length (count_text count ++ letter ∷ [])) }
+        ensures text { OnOk result
+            (self.new.text.items ≡ self.old.text.items ++ (count_text count ++ letter ∷ [])) }
+        ensures used { OnOk result
+            (self.new.used ≡ self.old.used + length (count_text count ++ letter ∷ [])) }
         ensures memory { IfErr result (λ kind. kind ≡ Kind.Memory) }
     {
         if count != 1 {
@@ -170,9 +174,41 @@ impl ItemLines {
         }
     }
 
-    /// Writes an item of any length.
+    /// Writes cells of any count.
     #[inline(never)]
+    fn put_long_cells(&mut self, rule: &Rule, count: u64, state: State) -> Result<(), Kind>
+        requires { self.old.used ≤ 70 }
+        ensures item { OnOk result (Puts rule.now self.old (Cells count state ∷ []) self.new) }
+        ensures memory { IfErr result (λ kind. kind ≡ Kind.Memory) }
+    {
+        self.put_text(rule, Item::Cells { count, state })
+    }
+
+    /// Writes ends of rows of any count.
+    #[inline(never)]
+    fn put_long_row_ends(&mut self, rule: &Rule, count: u64) -> Result<(), Kind>
+        requires { self.old.used ≤ 70 }
+        ensures item { OnOk result (Puts rule.now self.old (RowEnds count ∷ []) self.new) }
+        ensures memory { IfErr result (λ kind. kind ≡ Kind.Memory) }
+    {
+        self.put_text(rule, Item::RowEnds { count })
+    }
+
+    /// Writes an item of any length. It is passed on taken apart, so that it needs no place in memory where it is short.
+    #[inline(always)]
     fn put_long(&mut self, rule: &Rule, item: Item) -> Result<(), Kind>
+        requires { self.old.used ≤ 70 }
+        ensures item { OnOk result (Puts rule.now self.old (item ∷ []) self.new) }
+        ensures memory { IfErr result (λ kind. kind ≡ Kind.Memory) }
+    {
+        match item {
+            Item::Cells { count, state } => self.put_long_cells(rule, count, state),
+            Item::RowEnds { count } => self.put_long_row_ends(rule, count),
+        }
+    }
+
+    /// Writes the text of an item.
+    fn put_text(&mut self, rule: &Rule, item: Item) -> Result<(), Kind>
         requires { self.old.used ≤ 70 }
         ensures item { OnOk result (Puts rule.now self.old (item ∷ []) self.new) }
         ensures memory { IfErr result (λ kind. kind ≡ Kind.Memory) }
@@ -192,6 +228,7 @@ impl ItemLines {
     }
 
     /// Writes dead cells, if any.
+    #[inline(always)]
     pub(crate) fn put_gap(&mut self, rule: &Rule, count: u64) -> Result<(), Kind>
         requires { self.old.used ≤ 70 }
         ensures gap { OnOk result (Puts rule.now self.old (with_gap count []) self.new) }

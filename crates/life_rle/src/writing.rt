@@ -28,7 +28,8 @@ fn append_generation(out: &mut Vec<u8>, generation: u64) -> Result<(), Kind>
 
 /// Adds a column and a row at the end.
 fn append_corner(out: &mut Vec<u8>, position: Position) -> Result<(), Kind>
-    ensures ok { OnOk result (out.new.items ≡ out.old.items ++ (signed_decimal position.x ++ (codes "," ++ signed_decimal position.y))) }
+    ensures ok { OnOk result (out.new.items ≡ out.old.items ++ (signed_decimal position.x
+        ++ (codes "," ++ signed_decimal position.y))) }
     ensures memory { IfErr result (λ kind. kind ≡ Kind.Memory) }
 {
     append_number(out, position.x)?;
@@ -38,7 +39,8 @@ fn append_corner(out: &mut Vec<u8>, position: Position) -> Result<(), Kind>
 
 /// Adds the position line at the end, with its line feed.
 fn append_position(out: &mut Vec<u8>, position: Position) -> Result<(), Kind>
-    ensures ok { OnOk result (out.new.items ≡ out.old.items ++ (position_text position.x position.y position.generation ++ codes "\n")) }
+    ensures ok { OnOk result (out.new.items ≡ out.old.items ++ (position_text position.x
+        position.y position.generation ++ codes "\n")) }
     ensures memory { IfErr result (λ kind. kind ≡ Kind.Memory) }
 {
     append(out, b"#CXRLE Pos=")?;
@@ -49,7 +51,8 @@ fn append_position(out: &mut Vec<u8>, position: Position) -> Result<(), Kind>
 
 /// Adds the header line at the end, with its line feed.
 fn append_header(out: &mut Vec<u8>, width: u64, height: u64, rule: &Rule) -> Result<(), Kind>
-    ensures ok { OnOk result (out.new.items ≡ out.old.items ++ (header_text width height rule.now ++ codes "\n")) }
+    ensures ok { OnOk result
+        (out.new.items ≡ out.old.items ++ (header_text width height rule.now ++ codes "\n")) }
     ensures memory { IfErr result (λ kind. kind ≡ Kind.Memory) }
 {
     append(out, b"x = ")?;
@@ -113,7 +116,8 @@ fn cells_text(
     cells: &[Cell],
 ) -> Result<Vec<u8>, Kind>
     requires { are_sorted_cells MAX_LEVEL rule.now (first.now ∷ cells.now) ≡ true }
-    ensures text { IfOk result (λ text. text.items ≡ rle_text rule.now generation (first.now ∷ cells.now)) }
+    ensures text { IfOk result
+        (λ text. text.items ≡ rle_text rule.now generation (first.now ∷ cells.now)) }
     ensures memory { IfErr result (λ kind. kind ≡ Kind.Memory) }
 {
     let bounds = bounds_of(first, cells);

@@ -17,26 +17,13 @@ ghost use Rattle.life_step.specs.Stepped.{IsStepped, IsSteppedBy, IsTextOf};
 use life_base::{Fault, Kind, MAX_LEVEL, Rule};
 use life_block::next_life_generation;
 use life_canon::laws::{files_are_on_plane, patterns_fit, texts_are_files, texts_tell_universes};
-use life_canon::{Pattern, read, text_of};
+use life_canon::{MOST_CELLS, Pattern, least_level, read, text_of};
 use life_quad::{Id, Shared, trim};
 use life_sweep::laws::{life_answers_at, table_answers_at};
 use life_sweep::{ByTable, next_generation};
 use life_table::Table;
 use life_table::laws::one_answer;
 use std::alloc::Global;
-
-/// The most nonzero cells of a pattern that is stepped.
-const MOST_CELLS: u64 = 1 << 20;
-
-/// The least level of the root of a pattern with this rule.
-fn least_level(rule: &Rule) -> u8
-    ensures { result ≡ least_level rule.now }
-{
-    match rule {
-        Rule::Life(_) => 3,
-        Rule::Named(_) => 1,
-    }
-}
 
 /// Whether the rule is the table's name.
 fn is_rule_of(table: &Table, rule: &Rule) -> bool
@@ -52,7 +39,8 @@ fn is_rule_of(table: &Table, rule: &Rule) -> bool
 fn generation_after(generation: u64) -> Result<u64, Fault>
     ensures after { IfOk result (λ after. after ≡ generation + 1) }
     ensures some { OnOk result (generation ≢ 2 ^ 64 - 1) }
-    ensures last { IfErr result (λ fault. (generation ≡ 2 ^ 64 - 1) × (fault ≡ fault_of Kind.GenerationTooLarge)) }
+    ensures last { IfErr result
+        (λ fault. (generation ≡ 2 ^ 64 - 1) × (fault ≡ fault_of Kind.GenerationTooLarge)) }
 {
     match generation.checked_add(1) {
         Some(after) => Ok(after),
@@ -72,9 +60,11 @@ fn text_of_square(
     requires high { least_level rule ≤ depth (content store.old square) }
     requires rule { IsRule rule }
     requires states { (x y : ℤ) → tree_cell (content store.old square) x y ≤ largest_state rule }
-    ensures text { IfOk result (λ text. IsTextOf MAX_LEVEL (IsSame (square_universe rule generation (content store.old square))) text.items) }
+    ensures text { IfOk result (λ text. IsTextOf MAX_LEVEL
+        (IsSame (square_universe rule generation (content store.old square))) text.items) }
     ensures want { IfErr result (IsWant store.new) }
-    ensures needed { result ≡ Err (fault_of Kind.Full) → TrimmedTo (IsNew store.new) (content store.old square) (least_level rule) }
+    ensures needed { result ≡ Err (fault_of Kind.Full)
+        → TrimmedTo (IsNew store.new) (content store.old square) (least_level rule) }
     ensures keeps { Keeps store.old store.new }
 {
     files_are_on_plane();
@@ -97,9 +87,13 @@ fn text_of_square(
 /// named, so a caller that goes on with the pattern keeps its root and its generation, and a copy of its rule.
 pub fn next_by_rule(alloc: Global, store: &mut Shared, pattern: Pattern) -> Result<Vec<u8>, Fault>
     requires { IsOfFile MAX_LEVEL store.old pattern }
-    ensures stepped { IfOk result (λ text. (bytes : List ℕ) → IsRead MAX_LEVEL bytes store.old pattern → IsStepped bytes text.items) }
-    ensures refused { IfErr result (λ fault. IsWant store.new fault ⊎ ((bytes : List ℕ) → IsRead MAX_LEVEL bytes store.old pattern → (u : Universe) × Reads MAX_LEVEL bytes u × LifeRefusal MAX_LEVEL u (Some fault))) }
-    ensures needed { result ≡ Err (fault_of Kind.Full) → LacksForLife pattern.rule (content store.old pattern.root) store.new }
+    ensures stepped { IfOk result (λ text. (bytes : List ℕ)
+        → IsRead MAX_LEVEL bytes store.old pattern → IsStepped bytes text.items) }
+    ensures refused { IfErr result (λ fault. IsWant store.new fault
+        ⊎ ((bytes : List ℕ) → IsRead MAX_LEVEL bytes store.old pattern
+        → (u : Universe) × Reads MAX_LEVEL bytes u × LifeRefusal MAX_LEVEL u (Some fault))) }
+    ensures needed { result ≡ Err (fault_of Kind.Full)
+        → LacksForLife pattern.rule (content store.old pattern.root) store.new }
     ensures keeps { Keeps store.old store.new }
 {
     let Rule::Life(rule) = &pattern.rule else {
@@ -123,7 +117,9 @@ pub fn next_by_rule(alloc: Global, store: &mut Shared, pattern: Pattern) -> Resu
 /// names the square that it named, and nothing stored is gone.
 pub fn step_life(alloc: Global, store: &mut Shared, bytes: &[u8]) -> Result<Vec<u8>, Fault>
     ensures stepped { IfOk result (λ text. IsStepped bytes.now text.items) }
-    ensures refused { IfErr result (λ fault. Refuses MAX_LEVEL bytes.now fault ⊎ (IsWant store.new fault ⊎ ((u : Universe) × Reads MAX_LEVEL bytes.now u × LifeRefusal MAX_LEVEL u (Some fault)))) }
+    ensures refused { IfErr result (λ fault. Refuses MAX_LEVEL bytes.now fault
+        ⊎ (IsWant store.new fault
+        ⊎ ((u : Universe) × Reads MAX_LEVEL bytes.now u × LifeRefusal MAX_LEVEL u (Some fault)))) }
     ensures needed { result ≡ Err (fault_of Kind.Full) → LacksForStep bytes.now store.new }
     ensures keeps { Keeps store.old store.new }
 {
@@ -143,9 +139,14 @@ pub fn next_by_table(
     table: &Table,
 ) -> Result<Vec<u8>, Fault>
     requires { IsOfFile MAX_LEVEL store.old pattern }
-    ensures stepped { IfOk result (λ text. (bytes : List ℕ) → IsRead MAX_LEVEL bytes store.old pattern → IsSteppedBy table.now bytes text.items) }
-    ensures refused { IfErr result (λ fault. IsWant store.new fault ⊎ ((bytes : List ℕ) → IsRead MAX_LEVEL bytes store.old pattern → (u : Universe) × Reads MAX_LEVEL bytes u × TableRefusal MAX_LEVEL table.now u (Some fault))) }
-    ensures needed { result ≡ Err (fault_of Kind.Full) → LacksForTable table.now pattern.rule (content store.old pattern.root) store.new }
+    ensures stepped { IfOk result (λ text. (bytes : List ℕ)
+        → IsRead MAX_LEVEL bytes store.old pattern → IsSteppedBy table.now bytes text.items) }
+    ensures refused { IfErr result (λ fault. IsWant store.new fault
+        ⊎ ((bytes : List ℕ) → IsRead MAX_LEVEL bytes store.old pattern
+        → (u : Universe) × Reads MAX_LEVEL bytes u
+        × TableRefusal MAX_LEVEL table.now u (Some fault))) }
+    ensures needed { result ≡ Err (fault_of Kind.Full)
+        → LacksForTable table.now pattern.rule (content store.old pattern.root) store.new }
     ensures keeps { Keeps store.old store.new }
 {
     if !is_rule_of(table, &pattern.rule) {
@@ -178,8 +179,11 @@ pub fn step_table(
     table: &Table,
 ) -> Result<Vec<u8>, Fault>
     ensures stepped { IfOk result (λ text. IsSteppedBy table.now bytes.now text.items) }
-    ensures refused { IfErr result (λ fault. Refuses MAX_LEVEL bytes.now fault ⊎ (IsWant store.new fault ⊎ ((u : Universe) × Reads MAX_LEVEL bytes.now u × TableRefusal MAX_LEVEL table.now u (Some fault)))) }
-    ensures needed { result ≡ Err (fault_of Kind.Full) → LacksForStepBy table.now bytes.now store.new }
+    ensures refused { IfErr result (λ fault. Refuses MAX_LEVEL bytes.now fault
+        ⊎ (IsWant store.new fault ⊎ ((u : Universe) × Reads MAX_LEVEL bytes.now u
+        × TableRefusal MAX_LEVEL table.now u (Some fault)))) }
+    ensures needed { result ≡ Err (fault_of Kind.Full)
+        → LacksForStepBy table.now bytes.now store.new }
     ensures keeps { Keeps store.old store.new }
 {
     let pattern = read(alloc, store, bytes)?;

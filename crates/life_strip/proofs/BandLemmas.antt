@@ -1,6 +1,6 @@
 -- Facts about four rows of cells.
 use Rattle.life_base.specs.declared.cell.TheConstants.{MAX_LEVEL}
-use Rattle.std.proofs.Common.{◌≡◌, ℕ, suc, ◌+◌, ◌-◌, ◌*◌, ◌/◌, ◌%◌, ◌^◌, ◌≤◌, ◌<◌, ◌⊎◌, inl, inr, true, nat_lt, nat_le, List, [], ◌∷◌, length, get_or, zero, Option, Some, None, sym, ◌∙◌, ap, subst, arith}
+use Rattle.std.proofs.Common.{◌≡◌, ℕ, suc, ◌+◌, ◌-◌, ◌*◌, ◌/◌, ◌%◌, ◌^◌, ◌≤◌, ◌<◌, ◌⊎◌, inl, inr, true, nat_lt, nat_le, List, [], ◌∷◌, length, get_or, zero, Bool, false, Option, Some, None, refl, sym, ◌∙◌, ap, subst, arith}
 use Rattle.std.specs.Prelude.{MatchOption, if◌then◌else◌}
 use Rattle.life_quad.specs.declared.id.Id.{Id}
 use Rattle.life_quad.specs.Keeping.{KeepsSquares}
@@ -8,14 +8,42 @@ use Rattle.life_quad.specs.Store.{two, four}
 use Rattle.life_base.specs.Tree.{Tree, quad, blank}
 use Rattle.life_strip.specs.declared.spans.Span.{Span}
 use Rattle.life_strip.specs.declared.spans.Stretch.{Stretch}
-use Rattle.life_strip.specs.Strip.{id_at, square_or_blank, square_at, quad_at, IsStrip, IsFound, IsBefore, IsNearer, AreBefore, AreWithin, IsExtended}
+use Rattle.life_strip.specs.Strip.{id_at, square_or_blank, square_at, quad_at, IsStrip, IsFound, IsBefore, IsNearer, AreBefore, AreWithin, IsExtended, Rise}
 use Rattle.life_strip.specs.declared.words.Words.{Words}
 use Rattle.life_strip.specs.Band.{four_at, cell_in, IsWord, west_at, east_at, cells_at}
-use Rattle.std.proofs.Math.ListN.{set}
+use Rattle.std.proofs.Math.ListN.{set, length-set}
+use Rattle.std.proofs.lemmas.List.{get_or-set_same, get_or-set_other}
 use Rattle.std.proofs.lemmas.List.Elements.{All-set}
 use Rattle.life_strip.proofs.GivenLemmas.{all_rest}
 use Rattle.life_strip.proofs.WordLemmas.{west-square, east-square, west-small, east-small}
-use Rattle.life_strip.proofs.SpanLemmas.{Keeps, id_at-in, id_at-after, before_more, strip-kept, quad-keeps, quad-same, nearer-beyond, nearer-within, found-within, before_earlier, none-left, nearer-both, first-column, quad-blank}
+use Rattle.life_strip.proofs.SpanLemmas.{Keeps, id_at-in, id_at-after, before_more, get_any, strip-kept, quad-keeps, quad-same, nearer-beyond, nearer-within, found-within, before_earlier, none-left, nearer-both, first-column, quad-blank}
+
+-- spans rise while the last of them gets a new end
+last-rises : (spans : List Span) (n : ℕ) (s : Span) → Rise spans → n + 1 ≡ length spans → ((d : Span) → (get_or spans n d).start ≡ s.start)
+    → Rise (set spans n s)
+last-rises spans n s h len same i j d less within = by (nat_lt j n) refl
+  where
+    short : j < length spans
+    short = omega (arith, length-set spans n s, within)
+
+    before : get_or (set spans n s) i d ≡ get_or spans i d
+    before = get_or-set_other spans n i s d (omega (arith, less, short, len))
+
+    by : (b : Bool) → nat_lt j n ≡ b → (get_or (set spans n s) i d).end ≤ (get_or (set spans n s) j d).start
+    by true e =
+        let there : get_or (set spans n s) j d ≡ get_or spans j d = get_or-set_other spans n j s d (let lt : j < n = grind arith in omega (arith, lt)) in
+        let le = h i j d less short in
+        let a = ap (λ z. z.end) before in
+        let b = ap (λ z. z.start) there in
+        omega (arith, le, a, b)
+    by false e =
+        let last : j ≡ n = (let f : n ≤ j = grind arith in omega (arith, f, short, len)) in
+        let there : get_or (set spans n s) j d ≡ s = ap (λ k. get_or (set spans n s) k d) last ∙ get_or-set_same spans n s d (omega (arith, len)) in
+        let le = h i j d less short in
+        let a = ap (λ z. z.end) before in
+        let b = ap (λ z. z.start) there in
+        let begun = ap (λ k. (get_or spans k d).start) last ∙ same d in
+        omega (arith, le, a, b, begun)
 
 -- the last span goes on to a new end
 module _ (column end : ℕ) (square : Id) (later : column < end) where
@@ -49,6 +77,7 @@ module _ (column end : ℕ) (square : Id) (later : column < end) where
       record {
         before = All-set (λ u. (u.start < u.end) × (u.end ≤ end)) spans n s (omega (arith, begun, e, later), omega (arith, e))
             (before_more column end spans p (omega (arith, later)));
+        rises = λ r. last-rises spans n s r (omega (arith, len)) (λ d. ap (λ z. z.start) (get_any spans n d t (omega (arith, len)) ∙ at) ∙ sym from);
         earlier = λ c lt. last-earlier spans n t s len at to from e q c lt;
         more = λ c le lt. last-more spans n s len p (omega (arith, begun)) e c le lt ∙ ap Some (q ∙ is);
       }

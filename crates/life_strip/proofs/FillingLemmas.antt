@@ -73,6 +73,7 @@ unfilled-filled knows content p h =
         sound = record {
           squares = λ column id e. absurd (let f : None ≡ Some id = sym (ap (λ z. id_at z column) h.row) ∙ e in cc);
           within = λ k d lt. absurd (omega (arith, lt, few));
+          rises = λ i j d less lt. absurd (omega (arith, lt, few));
         };
         level = h.level;
       };

@@ -122,7 +122,7 @@ module _ {knows knows' : Id → Type 0} {old new : Id → Tree} (keeps : Keeps k
   state_in-keeps s h i j = ap (λ t. state_at t (i % 2 ^ s.level) j) (square-keeps keeps s.level s.spans.items h.squares (i / 2 ^ s.level))
 
   pub sound-keeps : (s : Strip) → IsSound knows old s → IsSound knows' new s
-  sound-keeps s h = record { squares = strip-keeps keeps s.level s.spans.items h.squares; within = h.within }
+  sound-keeps s h = record { squares = strip-keeps keeps s.level s.spans.items h.squares; within = h.within; rises = h.rises }
 
   pub all-keeps : (xs : List Strip) → All (IsSound knows old) xs → All (IsSound knows' new) xs
   all-keeps xs h k d lt = sound-keeps (get_or xs k d) (h k d lt)

@@ -1,8 +1,9 @@
 -- Facts about spans and strips.
 use Rattle.life_base.specs.declared.cell.TheConstants.{MAX_LEVEL}
-use Rattle.std.proofs.Common.{◌≡◌, ℕ, zero, suc, ◌+◌, ◌-◌, ◌*◌, ◌/◌, ◌^◌, ◌≤◌, ◌<◌, ◌⊎◌, inl, inr, Bool, true, false, ◌&&◌, nat_lt, nat_le, List, [], ◌∷◌, ◌++◌, Option, Some, None, refl, sym, ◌∙◌, ap, subst, arith}
+use Rattle.std.proofs.Common.{◌≡◌, ℕ, zero, suc, ◌+◌, ◌-◌, ◌*◌, ◌/◌, ◌^◌, ◌≤◌, ◌<◌, ◌⊎◌, inl, inr, Bool, true, false, ◌&&◌, nat_lt, nat_le, List, [], ◌∷◌, ◌++◌, length, get_or, Option, Some, None, refl, sym, ◌∙◌, ap, subst, arith}
 use Rattle.std.specs.Prelude.{if◌then◌else◌, MatchOption, IfSome}
 use Rattle.std.proofs.lemmas.List.Elements.{All-push}
+use Rattle.std.proofs.lemmas.List.Quantifiers.{all_pairs_push}
 use Rattle.life_quad.specs.declared.id.Id.{Id}
 use Rattle.life_quad.specs.Keeping.{KeepsSquares}
 use Rattle.life_base.specs.Tree.{Tree, quad, depth, blank}
@@ -18,6 +19,12 @@ Keeps knows knows' old now = (q : Id) → knows q → knows' q × (now q ≡ old
 
 pub double : (k : ℕ) → 2 ^ suc k ≡ 2 * 2 ^ k
 double k = grind arith
+
+-- what stands at an index of a list doesn't depend on what stands beyond it
+pub get_any : (spans : List Span) (n : ℕ) (a b : Span) → n < length spans → get_or spans n a ≡ get_or spans n b
+get_any [] n a b lt = absurd (omega (arith, lt))
+get_any (x ∷ xs) zero a b lt = refl
+get_any (x ∷ xs) (suc n) a b lt = get_any xs n a b (omega (arith, lt))
 
 -- the span that has the column is the one found
 pub id_at-in : (s : Span) (rest : List Span) (c : ℕ) → s.start ≤ c → c < s.end → id_at (s ∷ rest) c ≡ Some s.square
@@ -166,7 +173,8 @@ module _ (knows : Id → Type 0) (content : Id → Tree) (level : ℕ) (spans : 
 pub filled-skip : (knows : Id → Type 0) (now : Id → Tree) (level : ℕ) (want : ℕ → Tree) (spans : List Span) (column next : ℕ)
     → FilledTo knows now level want spans column → column ≤ next → ((c : ℕ) → column ≤ c → c < next → want c ≡ blank level)
     → FilledTo knows now level want spans next
-filled-skip knows now level want spans column next p le none = record { before = before_more column next spans p.before le; strip = p.strip; done = done }
+filled-skip knows now level want spans column next p le none =
+    record { before = before_more column next spans p.before le; rises = p.rises; strip = p.strip; done = done }
   where
     done : (c : ℕ) → c < next → square_at now level spans c ≡ want c
     done c h = by (nat_lt c column) refl
@@ -184,7 +192,7 @@ pub filled-more : {knows knows' : Id → Type 0} {now now' : Id → Tree} → Ke
     → ((c : ℕ) → column ≤ c → c < end → want c ≡ now' id)
     → FilledTo knows' now' level want after end
 filled-more {knows} {knows'} {now} {now'} keeps level want spans after column end id p more known deep same =
-    record { before = more.before; strip = strip; done = done }
+    record { before = more.before; rises = more.rises p.rises; strip = strip; done = done }
   where
     kept : IsStrip knows' now' level spans
     kept = strip-keeps {knows = knows} {knows' = knows'} {old = now} {now = now'} keeps level spans p.strip
@@ -220,6 +228,7 @@ module _ (column end : ℕ) (square : Id) (later : column < end) where
       let s : Span = record { start = column; end = end; square = square } in
       record {
         before = before_push column end spans s p (omega (arith, later)) later (omega arith);
+        rises = λ r. all_pairs_push (λ a b. a.end ≤ b.start) spans s r (λ k d lt. (p k d lt).1);
         earlier = λ c h. id_at-push spans s p c
             ∙ (let e : nat_le column c ≡ false = grind arith in ap (λ b. if b && nat_lt c end then Some square else id_at spans c) e);
         more = λ c le h. id_at-push spans s p c

@@ -1,11 +1,11 @@
 -- Facts about squares of level 2 that are alike, one beside the other, in four words of cells.
 use Rattle.std.proofs.Common.{◌≡◌, ℕ, zero, suc, ◌+◌, ◌-◌, ◌*◌, ◌/◌, ◌%◌, ◌^◌, ◌≤◌, ◌<◌, refl, sym, ◌∙◌, ap, subst, arith, bit_and, bit_or}
 use Rattle.std.specs.Int.Bits.{mask_lt}
-use Rattle.std.specs.Int.Count.{count_leading_zeros}
-use Rattle.std.proofs.lemmas.Nat.{mod-pow-add, and_mask, or_mod, le_or_l, le_or_r, leading_length}
+use Rattle.std.specs.Int.Count.{count_leading_zeros, count_trailing_zeros, under}
+use Rattle.std.proofs.lemmas.Nat.{mod-pow-add, and_mask, or_mod, le_or_l, le_or_r, leading_length, pow_pos, trailing_le}
 use Rattle.std.proofs.Math.Pow.{pow_mono, mod-mod-pow}
 use Rattle.life_quad.specs.Store.{four}
-use Rattle.life_base.specs.Tree.{Tree}
+use Rattle.life_base.specs.Tree.{Tree, blank}
 use Rattle.life_strip.specs.declared.words.Words.{Words}
 use Rattle.life_strip.specs.Band.{nibble_of, cells_at}
 
@@ -69,6 +69,55 @@ blank-before upper lower square mask ones i from before =
     let none = λ (w : ℕ) (le : w % 2 ^ n ≤ rest). no-nibble w rest square i (count_leading_zeros 64 rest) l.0 le l.2 l.1 from before in
     no-cells upper lower i (none a (omega (arith, first, two, three, same))) (none b (omega (arith, second, two, three, same)))
     (none c (omega (arith, third, three, same))) (none d (omega (arith, fourth, same)))
+
+-- as many of the lowest digits as there are trailing zeros make no number
+low-zeros : (k n : ℕ) → n % 2 ^ count_trailing_zeros k n ≡ 0
+unfolding count_trailing_zeros
+low-zeros zero n = omega arith
+low-zeros (suc k) n = by (n % 2) refl (low-zeros k (n / 2))
+  where
+    by : (d : ℕ) → n % 2 ≡ d → n / 2 % 2 ^ count_trailing_zeros k (n / 2) ≡ 0 → n % 2 ^ under d (count_trailing_zeros k (n / 2)) ≡ 0
+    by (suc d) odd half = omega arith
+    by zero even half =
+        let t = count_trailing_zeros k (n / 2) in
+        let next : t + 1 ≡ suc t = omega arith in
+        let split = mod-pow-add n t 1 in
+        subst (λ z. n % 2 ^ z ≡ 0) next (omega (arith, split, half, even))
+
+-- the squares behind the last cell of the four words are blank
+pub blank-behind : (upper lower : Words) (all : ℕ)
+    → all ≡ bit_or (bit_or (bit_or upper.north.cells upper.south.cells) lower.north.cells) lower.south.cells → (i : ℕ)
+    → 16 - count_trailing_zeros 64 all / 4 ≤ i → i < 16 → cells_at upper lower i ≡ 0
+blank-behind upper lower all same i from within =
+    let t = count_trailing_zeros 64 all in
+    let a = upper.north.cells in
+    let b = upper.south.cells in
+    let c = lower.north.cells in
+    let d = lower.south.cells in
+    let low : bit_or (bit_or (bit_or a b) c) d % 2 ^ t ≡ 0 = subst (λ z. z % 2 ^ t ≡ 0) same (low-zeros 64 all) in
+    let most = trailing_le 64 all in
+    let first = low-left a b t in
+    let second = low-right a b t in
+    let two = low-left (bit_or a b) c t in
+    let third = low-right (bit_or a b) c t in
+    let three = low-left (bit_or (bit_or a b) c) d t in
+    let fourth = low-right (bit_or (bit_or a b) c) d t in
+    let k = 60 - 4 * i in
+    let place : t ≡ t - (4 + k) + 4 + k = omega (arith, most, from, within) in
+    let none = λ (w : ℕ) (le : w % 2 ^ t ≤ 0). no-digits w k (t - (4 + k)) (let some = pow_pos k in
+    let zero : w % 2 ^ (t - (4 + k) + 4 + k) ≤ 0 = subst (λ z. w % 2 ^ z ≤ 0) place le in omega (arith, some, zero)) in
+    no-cells upper lower i (none a (omega (arith, first, two, three, low))) (none b (omega (arith, second, two, three, low)))
+    (none c (omega (arith, third, three, low))) (none d (omega (arith, fourth, low)))
+
+-- the columns of squares without cells are blank
+pub blank-columns : (want : ℕ → Tree) (upper lower : Words) (block from after : ℕ) → after ≤ 16
+    → ((i : ℕ) → i < 16 → want (16 * block + i) ≡ four (cells_at upper lower i))
+    → ((i : ℕ) → from ≤ i → i < after → cells_at upper lower i ≡ 0)
+    → (c : ℕ) → 16 * block + from ≤ c → c < 16 * block + after → want c ≡ blank 2
+blank-columns want upper lower block from after within squares none c le lt =
+    let i = c - 16 * block in
+    let place : c ≡ 16 * block + i = omega (arith, le) in
+    ap want place ∙ squares i (omega (arith, lt, within, le)) ∙ ap four (none i (omega (arith, le)) (omega (arith, le, lt)))
 
 -- the columns of squares that are alike have the first of them
 pub same-columns : (want : ℕ → Tree) (upper lower : Words) (block square after : ℕ) → after ≤ 16

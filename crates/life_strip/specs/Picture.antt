@@ -3,7 +3,7 @@ use Rattle.std.specs.Prelude.{◌≡◌, ℕ, ◌+◌, ◌-◌, ◌/◌, ◌%◌
 use Rattle.life_quad.specs.declared.id.Id.{Id}
 use Rattle.life_base.specs.Tree.{Tree, state_at}
 use Rattle.life_strip.specs.declared.spans.Strip.{Strip}
-use Rattle.life_strip.specs.Strip.{square_at, IsStrip, AreWithin}
+use Rattle.life_strip.specs.Strip.{square_at, IsStrip, AreWithin, Rise}
 
 -- the state in a column of the plane and a row of a strip
 abbrev pub state_in : (Id → Tree) → Strip → ℕ → ℕ → ℕ
@@ -25,6 +25,7 @@ height (s ∷ rest) = 2 ^ s.level + height rest
 pub record IsSound (knows : Id → Type 0) (content : Id → Tree) (s : Strip) : Type 0 where
   pub squares : IsStrip knows content s.level s.spans.items
   pub within : AreWithin s.level s.spans.items
+  pub rises : Rise s.spans.items
 
 -- the upper strip's rows come first, and then the lower one's
 abbrev pub IsStack : (Id → Tree) → (Id → Tree) → Strip → Strip → Strip → Type 0

@@ -1,10 +1,12 @@
 -- Strips: rows of squares of one level, side by side.
 use Rattle.life_base.specs.declared.cell.TheConstants.{MAX_LEVEL}
-use Rattle.std.specs.Prelude.{◌≡◌, ℕ, suc, ◌+◌, ◌-◌, ◌*◌, ◌^◌, ◌<◌, ◌≤◌, ◌⊎◌, nat_lt, nat_le, if◌then◌else◌, List, [], ◌∷◌, drop, All, Option, Some, None, MatchOption, length, get_or}
+use Rattle.std.specs.Prelude.{◌≡◌, ℕ, suc, ◌+◌, ◌-◌, ◌*◌, ◌^◌, ◌<◌, ◌≤◌, ◌⊎◌, nat_lt, nat_le, if◌then◌else◌, List, [], ◌∷◌, drop, All, AllPairs, Option, Some, None, MatchOption, length, get_or}
 use Rattle.life_quad.specs.declared.id.Id.{Id}
 use Rattle.life_base.specs.Tree.{Tree, quad, depth, blank}
 use Rattle.life_strip.specs.declared.spans.Span.{Span}
 use Rattle.life_strip.specs.declared.spans.Stretch.{Stretch}
+use Rattle.life_strip.specs.declared.spans.Place.{Place}
+use Rattle.life_strip.specs.declared.spans.TheConstants.{NEVER}
 
 -- the Id in a column: that of the first span that ends after it, if this has begun there
 abbrev pub id_at : List Span → ℕ → Option Id
@@ -36,15 +38,21 @@ AreBefore column spans = All (λ s. (s.start < s.end) × (s.end ≤ column)) spa
 abbrev pub AreWithin : ℕ → List Span → Type 0
 AreWithin level spans = AreBefore (2 ^ (MAX_LEVEL - level)) spans
 
+-- each span ends before the next one begins, or where it does
+abbrev pub Rise : List Span → Type 0
+Rise spans = AllPairs (λ s t. s.end ≤ t.start) spans
+
 -- the columns before this one have the squares of the level that are wanted, and the others none
 pub record FilledTo (knows : Id → Type 0) (content : Id → Tree) (level : ℕ) (want : ℕ → Tree) (spans : List Span) (column : ℕ) : Type 0 where
   pub before : AreBefore column spans
+  pub rises : Rise spans
   pub strip : IsStrip knows content level spans
   pub done : (c : ℕ) → c < column → square_at content level spans c ≡ want c
 
 -- from a column on one square goes on to an end
 pub record IsExtended (old new : List Span) (column end : ℕ) (square : Id) : Type 0 where
   pub before : AreBefore end new
+  pub rises : Rise old → Rise new
   pub earlier : (c : ℕ) → c < column → id_at new c ≡ id_at old c
   pub more : (c : ℕ) → column ≤ c → c < end → id_at new c ≡ Some square
 
@@ -96,3 +104,24 @@ pub record IsNearer (end : ℕ) (north south : Option ℕ) : Type 0 where
   pub one : (north ≡ Some end) ⊎ (south ≡ Some end)
   pub upper : (column : ℕ) → column < end → IsBefore column north
   pub lower : (column : ℕ) → column < end → IsBefore column south
+
+-- Seen from the column, where a strip stands: no span has a column from there to before the start, and one square has those from the start to
+-- before the end, where the span at the index ends. Where no span is left, both are beyond every column.
+pub record IsAt (spans : List Span) (column : ℕ) (place : Place) : Type 0 where
+  pub past : IsPast spans place.index column
+  pub from : column ≤ place.start
+  pub beyond : column < place.end
+  pub none : (c : ℕ) → column ≤ c → c < place.start → id_at spans c ≡ None
+  pub some : (c : ℕ) → place.start ≤ c → c < place.end → id_at spans c ≡ Some place.square
+  pub span : (d : Span) → place.index < length spans → place.end ≡ (get_or spans place.index d).end
+  pub over : length spans ≤ place.index → NEVER ≤ place.end
+  pub order : place.start ≤ place.end
+  pub within : (side : ℕ) → AreBefore side spans → place.start < NEVER → (place.start < place.end) × (place.end ≤ side)
+
+-- the square in a column before the end of a place
+abbrev pub square_in : Place → Id → ℕ → Id
+square_in place blank column = if nat_le place.start column then place.square else blank
+
+-- the column up to which it goes on
+abbrev pub goes_to : Place → ℕ → ℕ
+goes_to place column = if nat_le place.start column then place.end else place.start

@@ -5,12 +5,12 @@ ghost use Rattle.life_base.specs.Tree.{Tree};
 ghost use Rattle.life_quad.specs.Refused.{SomePart};
 ghost use Rattle.life_quad.specs.Store.{four};
 ghost use Rattle.life_quad.specs.Keeping.{KeepsSquares, IsWantKind};
-ghost use Rattle.life_strip.specs.Strip.{IsStrip, AreBefore, AreWithin, FilledTo, square_at};
+ghost use Rattle.life_strip.specs.Strip.{IsStrip, AreBefore, AreWithin, FilledTo, Rise, square_at};
 ghost use Rattle.life_strip.specs.Band.{four_at, cells_at};
 
 use crate::spans::{Span, extend, find, nearer, stretch_at};
 use crate::spare::Spare;
-use crate::words::{Words, cells_of, next_square, two_words};
+use crate::words::{Words, blank_from, blank_to, cells_of, next_square, two_words};
 use life_base::{Kind, MAX_LEVEL};
 use life_quad::{Id, Squares};
 
@@ -24,7 +24,10 @@ fn push_square<S: Squares>(
     end: u64,
 ) -> Result<(), Kind>
     requires { column < end }
-    ensures filled { OnOk result ((want : ℕ → Tree) → FilledTo (S.knows squares.old) (S.content squares.old) 2 want spans.old.items column → ((c : ℕ) → column ≤ c → c < end → want c ≡ four cells) → FilledTo (S.knows squares.new) (S.content squares.new) 2 want spans.new.items end) }
+    ensures filled { OnOk result ((want : ℕ → Tree)
+        → FilledTo (S.knows squares.old) (S.content squares.old) 2 want spans.old.items column
+        → ((c : ℕ) → column ≤ c → c < end → want c ≡ four cells)
+        → FilledTo (S.knows squares.new) (S.content squares.new) 2 want spans.new.items end) }
     ensures keeps { KeepsSquares S.knows S.content S.stored S.most squares.old squares.new }
     ensures refusals { IfErr result (IsWantKind (S.stored squares.new) (S.most squares.new)) }
     ensures needed { result ≡ Err Full → SomePart (S.needs_node squares.new) (four cells) }
@@ -49,10 +52,16 @@ fn push_rows<S: Squares>(
     requires within { end ≤ 2 ^ MAX_LEVEL }
     ensures beyond { IfOk result (λ next. block < next) }
     ensures within { IfOk result (λ next. 64 * next ≤ 2 ^ MAX_LEVEL) }
-    ensures filled { IfOk result (λ next. (want : ℕ → Tree) → FilledTo (S.knows squares.old) (S.content squares.old) 2 want spans.old.items (16 * block) → ((i : ℕ) → i < 16 → want (16 * block + i) ≡ four (cells_at upper lower i)) → ((c : ℕ) → 16 * block < c → 4 * c + 3 < end → want c ≡ want (16 * block)) → FilledTo (S.knows squares.new) (S.content squares.new) 2 want spans.new.items (16 * next)) }
+    ensures filled { IfOk result (λ next. (want : ℕ → Tree)
+        → FilledTo (S.knows squares.old) (S.content squares.old) 2 want spans.old.items
+        (16 * block) → ((i : ℕ) → i < 16 → want (16 * block + i) ≡ four (cells_at upper lower i))
+        → ((c : ℕ) → 16 * block < c → 4 * c + 3 < end → want c ≡ want (16 * block))
+        → FilledTo (S.knows squares.new) (S.content squares.new) 2 want spans.new.items
+        (16 * next)) }
     ensures keeps { KeepsSquares S.knows S.content S.stored S.most squares.old squares.new }
     ensures refusals { IfErr result (IsWantKind (S.stored squares.new) (S.most squares.new)) }
-    ensures needed { result ≡ Err Full → (i : ℕ) × (i < 16) × SomePart (S.needs_node squares.new) (four (cells_at upper lower i)) }
+    ensures needed { result ≡ Err Full
+        → (i : ℕ) × (i < 16) × SomePart (S.needs_node squares.new) (four (cells_at upper lower i)) }
 {
     let start = 16 * block;
     let next = end / 64;
@@ -61,8 +70,9 @@ fn push_rows<S: Squares>(
         push_square(squares, spans, cells, start, 16 * next)?;
         return Ok(next);
     }
-    let mut square = 0;
-    while square < 16 {
+    let last = blank_from(upper, lower);
+    let mut square = blank_to(upper, lower, 0);
+    while square < last {
         let cells = cells_of(upper, lower, square);
         let after = next_square(upper, lower, square, cells);
         push_square(squares, spans, cells, start + square, start + after)?;
@@ -88,12 +98,18 @@ pub(crate) fn band<S: Squares>(
     requires second_within { AreWithin 0 second.now }
     requires third_within { AreWithin 0 third.now }
     requires fourth_within { AreWithin 0 fourth.now }
-    ensures strip { IfOk result (λ r. IfSome r (λ spans. IsStrip (S.knows squares.new) (S.content squares.new) 2 spans.items)) }
+    ensures strip { IfOk result (λ r. IfSome r
+        (λ spans. IsStrip (S.knows squares.new) (S.content squares.new) 2 spans.items)) }
     ensures within { IfOk result (λ r. IfSome r (λ spans. AreWithin 2 spans.items)) }
-    ensures squares { IfOk result (λ r. IfSome r (λ spans. (column : ℕ) → square_at (S.content squares.new) 2 spans.items column ≡ four_at (S.content squares.old) first.now second.now third.now fourth.now column)) }
+    ensures rises { IfOk result (λ r. IfSome r (λ spans. Rise spans.items)) }
+    ensures squares { IfOk result (λ r. IfSome r (λ spans. (column : ℕ)
+        → square_at (S.content squares.new) 2 spans.items column
+        ≡ four_at (S.content squares.old) first.now second.now third.now fourth.now column)) }
     ensures keeps { KeepsSquares S.knows S.content S.stored S.most squares.old squares.new }
     ensures refusals { IfErr result (IsWantKind (S.stored squares.new) (S.most squares.new)) }
-    ensures needed { result ≡ Err Full → (column : ℕ) × (column < 2 ^ (MAX_LEVEL - 2)) × SomePart (S.needs_node squares.new) (four_at (S.content squares.old) first.now second.now third.now fourth.now column) }
+    ensures needed { result ≡ Err Full → (column : ℕ) × (column < 2 ^ (MAX_LEVEL - 2))
+        × SomePart (S.needs_node squares.new)
+        (four_at (S.content squares.old) first.now second.now third.now fourth.now column) }
 {
     let blank = squares.empty(0);
     let room = first

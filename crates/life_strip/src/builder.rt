@@ -55,12 +55,14 @@ impl Builder {
         requires positive { 1 ≤ run.len }
         requires inside { IsOnPlane run.x run.y run.len }
         requires next { IsNext self.old.runs run.x run.y }
-        ensures filling { OnOk result (IsFilling (S.knows squares.new) (S.content squares.new) self.new) }
+        ensures filling { OnOk result
+            (IsFilling (S.knows squares.new) (S.content squares.new) self.new) }
         ensures runs { OnOk result (self.new.runs ≡ self.old.runs ++ run ∷ []) }
         ensures next { OnOk result ((i j : ℤ) → IsBehind run i j → IsNext self.new.runs i j) }
         ensures keeps { KeepsSquares S.knows S.content S.stored S.most squares.old squares.new }
         ensures refusals { IfErr result (IsWantKind (S.stored squares.new) (S.most squares.new)) }
-        ensures needed { result ≡ Err Full → SomeSquare (S.needs_node squares.new) (nat_abs (run.y +ℤ pos half_plane)) (by_columns (state_by self.old.runs)) }
+        ensures needed { result ≡ Err Full → SomeSquare (S.needs_node squares.new)
+            (nat_abs (run.y +ℤ pos half_plane)) (by_columns (state_by self.old.runs)) }
     {
         self.plane.add_run(squares, run)?;
         self.log = self.log.then(&run);
@@ -76,11 +78,13 @@ impl Builder {
         requires filling { IsFilling (S.knows squares.old) (S.content squares.old) self }
         ensures known { IfOk result (S.knows squares.new) }
         ensures level { IfOk result (λ r. depth (S.content squares.new r) ≡ MAX_LEVEL) }
-        ensures cells { IfOk result (λ r. (x y : ℤ) → tree_cell (S.content squares.new r) x y ≡ state_by self.runs x y) }
+        ensures cells { IfOk result
+            (λ r. (x y : ℤ) → tree_cell (S.content squares.new r) x y ≡ state_by self.runs x y) }
         ensures order { AreInOrder self.runs }
         ensures keeps { KeepsSquares S.knows S.content S.stored S.most squares.old squares.new }
         ensures refusals { IfErr result (IsWantKind (S.stored squares.new) (S.most squares.new)) }
-        ensures needed { result ≡ Err Full → SomeSquare (S.needs_node squares.new) (2 ^ MAX_LEVEL) (by_columns (state_by self.runs)) }
+        ensures needed { result ≡ Err Full → SomeSquare (S.needs_node squares.new) (2 ^ MAX_LEVEL)
+            (by_columns (state_by self.runs)) }
     {
         self.plane.finish(squares)
     }

@@ -39,13 +39,17 @@ impl Pile {
 
     // Rows one by one below the strips. The order of the rows stays.
     fn push_rows<S: Squares>(&mut self, squares: &mut S) -> Result<(), Kind>
-        requires strips { AreStacked (S.knows squares.old) (S.content squares.old) self.old.strips.items }
-        requires rows { All (IsRow (S.knows squares.old) (S.content squares.old)) self.old.band.items }
+        requires strips { AreStacked (S.knows squares.old) (S.content squares.old)
+            self.old.strips.items }
+        requires rows { All (IsRow (S.knows squares.old) (S.content squares.old))
+            self.old.band.items }
         requires room { height (strips_of self.old) ≤ 2 ^ MAX_LEVEL }
-        ensures closed { OnOk result (IsClosed (S.knows squares.new) (S.content squares.old) (S.content squares.new) self.old self.new) }
+        ensures closed { OnOk result (IsClosed (S.knows squares.new) (S.content squares.old)
+            (S.content squares.new) self.old self.new) }
         ensures keeps { KeepsSquares S.knows S.content S.stored S.most squares.old squares.new }
         ensures refusals { IfErr result (IsWantKind (S.stored squares.new) (S.most squares.new)) }
-        ensures needed { result ≡ Err Full → SomeSquare (S.needs_node squares.new) (height (strips_of self.old)) (picture (S.content squares.old) (strips_of self.old)) }
+        ensures needed { result ≡ Err Full → SomeSquare (S.needs_node squares.new)
+            (height (strips_of self.old)) (picture (S.content squares.old) (strips_of self.old)) }
     {
         let Some(last) = self.band.pop() else {
             return Ok(());
@@ -54,17 +58,22 @@ impl Pile {
         push_strip(squares, &mut self.spare, &mut self.strips, last)
     }
 
-    // A whole band below the strips.
+    // A whole band below the strips. It is never inlined, so that `push_row` can be.
+    #[inline(never)]
     fn close_band<S: Squares>(&mut self, squares: &mut S) -> Result<(), Kind>
-        requires strips { AreStacked (S.knows squares.old) (S.content squares.old) self.old.strips.items }
+        requires strips { AreStacked (S.knows squares.old) (S.content squares.old)
+            self.old.strips.items }
         requires lowest { IsLowest 2 self.old.strips.items }
-        requires rows { All (IsRow (S.knows squares.old) (S.content squares.old)) self.old.band.items }
+        requires rows { All (IsRow (S.knows squares.old) (S.content squares.old))
+            self.old.band.items }
         requires whole { length self.old.band.items ≡ 4 }
         requires room { height (strips_of self.old) ≤ 2 ^ MAX_LEVEL }
-        ensures closed { OnOk result (IsClosed (S.knows squares.new) (S.content squares.old) (S.content squares.new) self.old self.new) }
+        ensures closed { OnOk result (IsClosed (S.knows squares.new) (S.content squares.old)
+            (S.content squares.new) self.old self.new) }
         ensures keeps { KeepsSquares S.knows S.content S.stored S.most squares.old squares.new }
         ensures refusals { IfErr result (IsWantKind (S.stored squares.new) (S.most squares.new)) }
-        ensures needed { result ≡ Err Full → SomeSquare (S.needs_node squares.new) (height (strips_of self.old)) (picture (S.content squares.old) (strips_of self.old)) }
+        ensures needed { result ≡ Err Full → SomeSquare (S.needs_node squares.new)
+            (height (strips_of self.old)) (picture (S.content squares.old) (strips_of self.old)) }
     {
         let Some(strip) = band_strip(squares, &mut self.spare, self.band.as_slice())? else {
             return self.push_rows(squares);
@@ -74,16 +83,22 @@ impl Pile {
     }
 
     // One row more, below the others. Four rows become a strip of level 2.
+    #[inline(always)]
     fn push_row<S: Squares>(&mut self, squares: &mut S, row: Strip) -> Result<(), Kind>
         requires pile { IsPile (S.knows squares.old) (S.content squares.old) self.old }
         requires row { IsRow (S.knows squares.old) (S.content squares.old) row }
         requires room { height (strips_of self.old) + 1 ≤ 2 ^ MAX_LEVEL }
         ensures pile { OnOk result (IsPile (S.knows squares.new) (S.content squares.new) self.new) }
-        ensures height { OnOk result (height (strips_of self.new) ≡ height (strips_of self.old) + 1) }
-        ensures picture { OnOk result ((column j : ℕ) → picture (S.content squares.new) (strips_of self.new) column j ≡ picture (S.content squares.old) (strips_of self.old ++ row ∷ []) column j) }
+        ensures height { OnOk result
+            (height (strips_of self.new) ≡ height (strips_of self.old) + 1) }
+        ensures picture { OnOk result ((column j : ℕ)
+            → picture (S.content squares.new) (strips_of self.new) column j
+            ≡ picture (S.content squares.old) (strips_of self.old ++ row ∷ []) column j) }
         ensures keeps { KeepsSquares S.knows S.content S.stored S.most squares.old squares.new }
         ensures refusals { IfErr result (IsWantKind (S.stored squares.new) (S.most squares.new)) }
-        ensures needed { result ≡ Err Full → SomeSquare (S.needs_node squares.new) (height (strips_of self.old) + 1) (picture (S.content squares.old) (strips_of self.old ++ row ∷ [])) }
+        ensures needed { result ≡ Err Full → SomeSquare (S.needs_node squares.new)
+            (height (strips_of self.old) + 1)
+            (picture (S.content squares.old) (strips_of self.old ++ row ∷ [])) }
     {
         self.band.push(row)?;
         if self.band.len() < 4 {
@@ -97,11 +112,16 @@ impl Pile {
         requires pile { IsPile (S.knows squares.old) (S.content squares.old) self.old }
         requires room { height (strips_of self.old) + count ≤ 2 ^ MAX_LEVEL }
         ensures pile { OnOk result (IsPile (S.knows squares.new) (S.content squares.new) self.new) }
-        ensures height { OnOk result (height (strips_of self.new) ≡ height (strips_of self.old) + count) }
-        ensures picture { OnOk result ((column row : ℕ) → picture (S.content squares.new) (strips_of self.new) column row ≡ picture (S.content squares.old) (strips_of self.old) column row) }
+        ensures height { OnOk result
+            (height (strips_of self.new) ≡ height (strips_of self.old) + count) }
+        ensures picture { OnOk result ((column row : ℕ)
+            → picture (S.content squares.new) (strips_of self.new) column row
+            ≡ picture (S.content squares.old) (strips_of self.old) column row) }
         ensures keeps { KeepsSquares S.knows S.content S.stored S.most squares.old squares.new }
         ensures refusals { IfErr result (IsWantKind (S.stored squares.new) (S.most squares.new)) }
-        ensures needed { result ≡ Err Full → SomeSquare (S.needs_node squares.new) (height (strips_of self.old) + count) (picture (S.content squares.old) (strips_of self.old)) }
+        ensures needed { result ≡ Err Full → SomeSquare (S.needs_node squares.new)
+            (height (strips_of self.old) + count)
+            (picture (S.content squares.old) (strips_of self.old)) }
     {
         if count == 0 {
             return Ok(());
@@ -134,11 +154,16 @@ impl Pile {
         requires row { IsRow (S.knows squares.old) (S.content squares.old) row }
         requires room { height (strips_of self.old) + 1 + blank_rows ≤ 2 ^ MAX_LEVEL }
         ensures pile { OnOk result (IsPile (S.knows squares.new) (S.content squares.new) self.new) }
-        ensures height { OnOk result (height (strips_of self.new) ≡ height (strips_of self.old) + 1 + blank_rows) }
-        ensures picture { OnOk result ((column j : ℕ) → picture (S.content squares.new) (strips_of self.new) column j ≡ picture (S.content squares.old) (strips_of self.old ++ row ∷ []) column j) }
+        ensures height { OnOk result
+            (height (strips_of self.new) ≡ height (strips_of self.old) + 1 + blank_rows) }
+        ensures picture { OnOk result ((column j : ℕ)
+            → picture (S.content squares.new) (strips_of self.new) column j
+            ≡ picture (S.content squares.old) (strips_of self.old ++ row ∷ []) column j) }
         ensures keeps { KeepsSquares S.knows S.content S.stored S.most squares.old squares.new }
         ensures refusals { IfErr result (IsWantKind (S.stored squares.new) (S.most squares.new)) }
-        ensures needed { result ≡ Err Full → SomeSquare (S.needs_node squares.new) (height (strips_of self.old) + 1 + blank_rows) (picture (S.content squares.old) (strips_of self.old ++ row ∷ [])) }
+        ensures needed { result ≡ Err Full → SomeSquare (S.needs_node squares.new)
+            (height (strips_of self.old) + 1 + blank_rows)
+            (picture (S.content squares.old) (strips_of self.old ++ row ∷ [])) }
     {
         self.push_row(squares, row)?;
         self.skip_rows(squares, blank_rows)
@@ -156,10 +181,13 @@ impl Pile {
         requires whole { height (strips_of self) + 1 + blank_rows ≡ 2 ^ MAX_LEVEL }
         ensures known { IfOk result (S.knows squares.new) }
         ensures level { IfOk result (λ r. depth (S.content squares.new r) ≡ MAX_LEVEL) }
-        ensures cells { IfOk result (λ r. (column j : ℕ) → column < 2 ^ MAX_LEVEL → j < 2 ^ MAX_LEVEL → state_at (S.content squares.new r) column j ≡ picture (S.content squares.old) (strips_of self ++ row ∷ []) column j) }
+        ensures cells { IfOk result (λ r. (column j : ℕ) → column < 2 ^ MAX_LEVEL
+            → j < 2 ^ MAX_LEVEL → state_at (S.content squares.new r) column j
+            ≡ picture (S.content squares.old) (strips_of self ++ row ∷ []) column j) }
         ensures keeps { KeepsSquares S.knows S.content S.stored S.most squares.old squares.new }
         ensures refusals { IfErr result (IsWantKind (S.stored squares.new) (S.most squares.new)) }
-        ensures needed { result ≡ Err Full → SomeSquare (S.needs_node squares.new) (2 ^ MAX_LEVEL) (picture (S.content squares.old) (strips_of self ++ row ∷ [])) }
+        ensures needed { result ≡ Err Full → SomeSquare (S.needs_node squares.new) (2 ^ MAX_LEVEL)
+            (picture (S.content squares.old) (strips_of self ++ row ∷ [])) }
     {
         let mut pile = self;
         pile.end_row(squares, row, blank_rows)?;

@@ -60,13 +60,19 @@ impl Plane {
         requires filled { IsFilled (S.knows squares.old) (S.content squares.old) self.old }
         requires later { self.old.rows < row }
         requires inside { row < 2 ^ MAX_LEVEL }
-        ensures filled { OnOk result (IsFilled (S.knows squares.new) (S.content squares.new) self.new) }
+        ensures filled { OnOk result
+            (IsFilled (S.knows squares.new) (S.content squares.new) self.new) }
         ensures rows { OnOk result (self.new.rows ≡ row) }
-        ensures ends { OnOk result ((n : ℕ) → (self.old.rows ≡ row → All (λ s. s.end ≤ n) self.old.row.spans.items) → All (λ s. s.end ≤ n) self.new.row.spans.items) }
-        ensures picture { OnOk result ((i j : ℕ) → state_so_far (S.content squares.new) self.new i j ≡ state_so_far (S.content squares.old) self.old i j) }
+        ensures ends { OnOk result ((n : ℕ)
+            → (self.old.rows ≡ row → All (λ s. s.end ≤ n) self.old.row.spans.items)
+            → All (λ s. s.end ≤ n) self.new.row.spans.items) }
+        ensures picture { OnOk result ((i j : ℕ)
+            → state_so_far (S.content squares.new) self.new i j
+            ≡ state_so_far (S.content squares.old) self.old i j) }
         ensures keeps { KeepsSquares S.knows S.content S.stored S.most squares.old squares.new }
         ensures refusals { IfErr result (IsWantKind (S.stored squares.new) (S.most squares.new)) }
-        ensures needed { result ≡ Err Full → SomeSquare (S.needs_node squares.new) row (state_so_far (S.content squares.old) self.old) }
+        ensures needed { result ≡ Err Full → SomeSquare (S.needs_node squares.new) row
+            (state_so_far (S.content squares.old) self.old) }
     {
         // Rows that follow one another are mostly alike, so a row gets room for a few more spans than the one before it has.
         let room = self.row.spans.len() / 8 * 9 + 2;
@@ -84,13 +90,19 @@ impl Plane {
         requires filled { IsFilled (S.knows squares.old) (S.content squares.old) self.old }
         requires later { self.old.rows ≤ row }
         requires inside { row < 2 ^ MAX_LEVEL }
-        ensures filled { OnOk result (IsFilled (S.knows squares.new) (S.content squares.new) self.new) }
+        ensures filled { OnOk result
+            (IsFilled (S.knows squares.new) (S.content squares.new) self.new) }
         ensures rows { OnOk result (self.new.rows ≡ row) }
-        ensures ends { OnOk result ((n : ℕ) → (self.old.rows ≡ row → All (λ s. s.end ≤ n) self.old.row.spans.items) → All (λ s. s.end ≤ n) self.new.row.spans.items) }
-        ensures picture { OnOk result ((i j : ℕ) → state_so_far (S.content squares.new) self.new i j ≡ state_so_far (S.content squares.old) self.old i j) }
+        ensures ends { OnOk result ((n : ℕ)
+            → (self.old.rows ≡ row → All (λ s. s.end ≤ n) self.old.row.spans.items)
+            → All (λ s. s.end ≤ n) self.new.row.spans.items) }
+        ensures picture { OnOk result ((i j : ℕ)
+            → state_so_far (S.content squares.new) self.new i j
+            ≡ state_so_far (S.content squares.old) self.old i j) }
         ensures keeps { KeepsSquares S.knows S.content S.stored S.most squares.old squares.new }
         ensures refusals { IfErr result (IsWantKind (S.stored squares.new) (S.most squares.new)) }
-        ensures needed { result ≡ Err Full → SomeSquare (S.needs_node squares.new) row (state_so_far (S.content squares.old) self.old) }
+        ensures needed { result ≡ Err Full → SomeSquare (S.needs_node squares.new) row
+            (state_so_far (S.content squares.old) self.old) }
     {
         if self.rows == row {
             return Ok(());
@@ -105,13 +117,17 @@ impl Plane {
         requires positive { 1 ≤ run.len }
         requires inside { IsOnPlane run.x run.y run.len }
         requires free { IsFree self.old run.x run.y }
-        ensures filled { OnOk result (IsFilled (S.knows squares.new) (S.content squares.new) self.new) }
-        ensures cells { OnOk result (AddsRun (cell_so_far (S.content squares.old) self.old) (cell_so_far (S.content squares.new) self.new) run) }
+        ensures filled { OnOk result
+            (IsFilled (S.knows squares.new) (S.content squares.new) self.new) }
+        ensures cells { OnOk result (AddsRun (cell_so_far (S.content squares.old) self.old)
+            (cell_so_far (S.content squares.new) self.new) run) }
         ensures below { OnOk result ((column row : ℤ) → run.y <ℤ row → IsFree self.new column row) }
-        ensures beside { OnOk result ((column : ℤ) → (run.x +ℤ pos run.len) ≤ℤ column → IsFree self.new column run.y) }
+        ensures beside { OnOk result
+            ((column : ℤ) → (run.x +ℤ pos run.len) ≤ℤ column → IsFree self.new column run.y) }
         ensures keeps { KeepsSquares S.knows S.content S.stored S.most squares.old squares.new }
         ensures refusals { IfErr result (IsWantKind (S.stored squares.new) (S.most squares.new)) }
-        ensures needed { result ≡ Err Full → SomeSquare (S.needs_node squares.new) (nat_abs (run.y +ℤ pos half_plane)) (state_so_far (S.content squares.old) self.old) }
+        ensures needed { result ≡ Err Full → SomeSquare (S.needs_node squares.new)
+            (nat_abs (run.y +ℤ pos half_plane)) (state_so_far (S.content squares.old) self.old) }
     {
         let column = offset(run.x);
         let row = offset(run.y);
@@ -125,10 +141,13 @@ impl Plane {
         requires filled { IsFilled (S.knows squares.old) (S.content squares.old) self }
         ensures known { IfOk result (S.knows squares.new) }
         ensures level { IfOk result (λ r. depth (S.content squares.new r) ≡ MAX_LEVEL) }
-        ensures cells { IfOk result (λ r. (x y : ℤ) → tree_cell (S.content squares.new r) x y ≡ cell_so_far (S.content squares.old) self x y) }
+        ensures cells { IfOk result (λ r. (x y : ℤ)
+            → tree_cell (S.content squares.new r) x y
+            ≡ cell_so_far (S.content squares.old) self x y) }
         ensures keeps { KeepsSquares S.knows S.content S.stored S.most squares.old squares.new }
         ensures refusals { IfErr result (IsWantKind (S.stored squares.new) (S.most squares.new)) }
-        ensures needed { result ≡ Err Full → SomeSquare (S.needs_node squares.new) (2 ^ MAX_LEVEL) (state_so_far (S.content squares.old) self) }
+        ensures needed { result ≡ Err Full → SomeSquare (S.needs_node squares.new) (2 ^ MAX_LEVEL)
+            (state_so_far (S.content squares.old) self) }
     {
         let Plane { pile, rows, row } = self;
         pile.whole_plane(squares, row, SIDE - rows - 1)

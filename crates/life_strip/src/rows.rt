@@ -26,10 +26,14 @@ fn merge<S: Squares>(
     requires lower { IsSound (S.knows squares.old) (S.content squares.old) lower.now }
     ensures sound { IfOk result (λ r. IsSound (S.knows squares.new) (S.content squares.new) r) }
     ensures level { IfOk result (λ r. r.level ≡ suc upper.now.level) }
-    ensures stack { IfOk result (λ r. IsStack (S.content squares.old) (S.content squares.new) upper.now lower.now r) }
+    ensures stack { IfOk result
+        (λ r. IsStack (S.content squares.old) (S.content squares.new) upper.now lower.now r) }
     ensures keeps { KeepsSquares S.knows S.content S.stored S.most squares.old squares.new }
     ensures refusals { IfErr result (IsWantKind (S.stored squares.new) (S.most squares.new)) }
-    ensures needed { result ≡ Err Full → (column : ℕ) × (column < 2 ^ (MAX_LEVEL - (upper.now.level + 1))) × S.needs_node squares.new (quad_at (S.content squares.old) upper.now.level upper.now.spans.items lower.now.spans.items column) }
+    ensures needed { result ≡ Err Full → (column : ℕ)
+        × (column < 2 ^ (MAX_LEVEL - (upper.now.level + 1)))
+        × S.needs_node squares.new (quad_at (S.content squares.old) upper.now.level
+        upper.now.spans.items lower.now.spans.items column) }
 {
     let spans = pair(
         squares,
@@ -55,12 +59,18 @@ pub(crate) fn push_strip<S: Squares>(
     requires strip { IsSound (S.knows squares.old) (S.content squares.old) strip }
     requires room { height strips.old.items + 2 ^ strip.level ≤ 2 ^ MAX_LEVEL }
     requires lowest { IsLowest strip.level strips.old.items }
-    ensures strips { OnOk result (AreStacked (S.knows squares.new) (S.content squares.new) strips.new.items) }
-    ensures height { OnOk result (height strips.new.items ≡ height strips.old.items + 2 ^ strip.level) }
-    ensures picture { OnOk result ((column row : ℕ) → picture (S.content squares.new) strips.new.items column row ≡ picture (S.content squares.old) (strips.old.items ++ strip ∷ []) column row) }
+    ensures strips { OnOk result
+        (AreStacked (S.knows squares.new) (S.content squares.new) strips.new.items) }
+    ensures height { OnOk result
+        (height strips.new.items ≡ height strips.old.items + 2 ^ strip.level) }
+    ensures picture { OnOk result ((column row : ℕ)
+        → picture (S.content squares.new) strips.new.items column row
+        ≡ picture (S.content squares.old) (strips.old.items ++ strip ∷ []) column row) }
     ensures keeps { KeepsSquares S.knows S.content S.stored S.most squares.old squares.new }
     ensures refusals { IfErr result (IsWantKind (S.stored squares.new) (S.most squares.new)) }
-    ensures needed { result ≡ Err Full → SomeSquare (S.needs_node squares.new) (height strips.old.items + 2 ^ strip.level) (picture (S.content squares.old) (strips.old.items ++ strip ∷ [])) }
+    ensures needed { result ≡ Err Full → SomeSquare (S.needs_node squares.new)
+        (height strips.old.items + 2 ^ strip.level)
+        (picture (S.content squares.old) (strips.old.items ++ strip ∷ [])) }
 {
     let Some(last) = strips.pop() else {
         strips.push(strip)?;
@@ -85,7 +95,8 @@ pub(crate) fn blank_level(strips: &[Strip], rows: u64) -> u8
     ensures lowest { IsLowest result strips.now }
     ensures most { result ≤ MAX_LEVEL }
     ensures fits { 2 ^ result ≤ rows }
-    ensures largest { (level : ℕ) → IsLowest level strips.now → level ≤ MAX_LEVEL → 2 ^ level ≤ rows → level ≤ result }
+    ensures largest { (level : ℕ) → IsLowest level strips.now → level ≤ MAX_LEVEL
+        → 2 ^ level ≤ rows → level ≤ result }
 {
     let fitting = rows.ilog2() as u8;
     match strips.last() {
@@ -102,12 +113,16 @@ pub(crate) fn band_strip<S: Squares>(
 ) -> Result<Option<Strip>, Kind>
     requires count { length rows.now ≡ 4 }
     requires rows { All (IsRow (S.knows squares.old) (S.content squares.old)) rows.now }
-    ensures sound { IfOk result (λ r. IfSome r (λ s. IsSound (S.knows squares.new) (S.content squares.new) s)) }
+    ensures sound { IfOk result
+        (λ r. IfSome r (λ s. IsSound (S.knows squares.new) (S.content squares.new) s)) }
     ensures level { IfOk result (λ r. IfSome r (λ s. s.level ≡ 2)) }
-    ensures picture { IfOk result (λ r. IfSome r (λ s. (column row : ℕ) → picture (S.content squares.new) (s ∷ []) column row ≡ picture (S.content squares.old) rows.now column row)) }
+    ensures picture { IfOk result (λ r. IfSome r (λ s. (column row : ℕ)
+        → picture (S.content squares.new) (s ∷ []) column row
+        ≡ picture (S.content squares.old) rows.now column row)) }
     ensures keeps { KeepsSquares S.knows S.content S.stored S.most squares.old squares.new }
     ensures refusals { IfErr result (IsWantKind (S.stored squares.new) (S.most squares.new)) }
-    ensures needed { result ≡ Err Full → SomeSquare (S.needs_node squares.new) 4 (picture (S.content squares.old) rows.now) }
+    ensures needed { result ≡ Err Full
+        → SomeSquare (S.needs_node squares.new) 4 (picture (S.content squares.old) rows.now) }
 {
     let first = rows[0].spans.as_slice();
     let second = rows[1].spans.as_slice();
@@ -125,7 +140,9 @@ pub(crate) fn whole<S: Squares>(squares: &S, strips: &[Strip]) -> Id
     requires full { height strips.now ≡ 2 ^ MAX_LEVEL }
     ensures known { S.knows squares.now result }
     ensures level { depth (S.content squares.now result) ≡ MAX_LEVEL }
-    ensures cells { (column row : ℕ) → column < 2 ^ MAX_LEVEL → row < 2 ^ MAX_LEVEL → state_at (S.content squares.now result) column row ≡ picture (S.content squares.now) strips.now column row }
+    ensures cells { (column row : ℕ) → column < 2 ^ MAX_LEVEL → row < 2 ^ MAX_LEVEL
+        → state_at (S.content squares.now result) column row
+        ≡ picture (S.content squares.now) strips.now column row }
 {
     let blank = squares.empty(MAX_LEVEL);
     match strips.first() {

@@ -4,7 +4,7 @@ ghost use Rattle.life_base.specs.declared.kind.Kind.TheVariants.{Full, Memory};
 ghost use Rattle.life_strip.specs.declared.spans.Span.{Span as SpanValue};
 ghost use Rattle.life_base.specs.Tree.{blank};
 ghost use Rattle.life_quad.specs.Keeping.{KeepsSquares, IsWantKind};
-ghost use Rattle.life_strip.specs.Strip.{IsStrip, AreBefore, AreWithin, HaveColumns, IsPaired, EndsAfter, IsPast, IsBefore, IsFound, IsNearer, IsExtended, quad_at};
+ghost use Rattle.life_strip.specs.Strip.{IsStrip, AreBefore, AreWithin, HaveColumns, IsPaired, EndsAfter, IsPast, IsBefore, IsFound, IsNearer, IsExtended, IsAt, Rise, quad_at, square_in, goes_to};
 
 use crate::spare::Spare;
 use life_base::{Kind, MAX_LEVEL};
@@ -36,12 +36,26 @@ pub(crate) struct Stretch {
     pub(crate) square: Id,
 }
 
-// A square of two columns of two strips, and where the eastern of the two columns stands in each.
+// A column beyond every plane.
+pub(crate) const NEVER: u64 = u64::MAX;
+
+// Where a strip stands in a column: the span that is there or comes next, without its columns before that one.
+#[derive(Clone, Copy)]
+pub(crate) struct Place {
+    pub(crate) index: usize,
+    // `NEVER` if no span is left.
+    pub(crate) start: u64,
+    // `NEVER` if no span is left.
+    pub(crate) end: u64,
+    pub(crate) square: Id,
+}
+
+// A square of two columns of two strips, and where each strip stands in the eastern of them.
 #[derive(Clone, Copy)]
 struct Joined {
     square: Id,
-    north: usize,
-    south: usize,
+    north: Place,
+    south: Place,
 }
 
 // The square in a column, where the spans before `from` end before it.
@@ -93,6 +107,76 @@ pub(crate) fn stretch_at(spans: &[Span], index: usize, column: u64, blank: Id) -
     }
 }
 
+// The place of a strip in a column, where the spans before the index end before it and the span there, if there is one, ends after it.
+#[inline(always)]
+fn place_at(spans: &[Span], index: usize, column: u64, blank: Id) -> Place
+    requires columns { HaveColumns spans.now }
+    requires past { IsPast spans.now index column }
+    requires ends { EndsAfter spans.now index column }
+    requires column { column < NEVER }
+    ensures { IsAt spans.now column result }
+{
+    if index >= spans.len() {
+        return Place {
+            index,
+            start: NEVER,
+            end: NEVER,
+            square: blank,
+        };
+    }
+    let span = spans[index];
+    Place {
+        index,
+        start: span.start.max(column),
+        end: span.end,
+        square: span.square,
+    }
+}
+
+// The place in a later column, no later than where the one before ends.
+#[inline(always)]
+fn pass(spans: &[Span], place: Place, column: u64, blank: Id) -> Place
+    requires columns { HaveColumns spans.now }
+    requires rises { Rise spans.now }
+    requires place { (before : ℕ) × (before ≤ column) × IsAt spans.now before place }
+    requires reach { column ≤ place.end }
+    requires column { column < NEVER }
+    ensures place { IsAt spans.now column result }
+    ensures later { place.end ≤ result.end }
+{
+    if column < place.end {
+        return Place {
+            start: place.start.max(column),
+            ..place
+        };
+    }
+    place_at(spans, place.index + 1, column, blank)
+}
+
+// The square in a column before the end of a place.
+#[inline(always)]
+fn square_of(place: Place, column: u64, blank: Id) -> Id
+    ensures { result ≡ square_in place blank column }
+{
+    if place.start <= column {
+        place.square
+    } else {
+        blank
+    }
+}
+
+// The column up to which it goes on.
+#[inline(always)]
+fn end_of(place: Place, column: u64) -> u64
+    ensures { result ≡ goes_to place column }
+{
+    if place.start <= column {
+        place.end
+    } else {
+        place.start
+    }
+}
+
 // The square of two columns of the upper strip above two of the lower.
 fn join_at<S: Squares>(
     squares: &mut S,
@@ -101,8 +185,8 @@ fn join_at<S: Squares>(
     level: u8,
     empty: Id,
     column: u64,
-    north: Stretch,
-    south: Stretch,
+    north: Place,
+    south: Place,
 ) -> Result<Joined, Kind>
     requires low { level < MAX_LEVEL }
     requires column { column ≤ 2 ^ MAX_LEVEL }
@@ -110,32 +194,44 @@ fn join_at<S: Squares>(
     requires lower { IsStrip (S.knows squares.old) (S.content squares.old) level lower.now }
     requires upper_columns { HaveColumns upper.now }
     requires lower_columns { HaveColumns lower.now }
+    requires upper_rises { Rise upper.now }
+    requires lower_rises { Rise lower.now }
     requires known { S.knows squares.old empty }
     requires blank { S.content squares.old empty ≡ blank level }
-    requires north { IsFound upper.now (2 * column) empty north }
-    requires south { IsFound lower.now (2 * column) empty south }
+    requires north { IsAt upper.now (2 * column) north }
+    requires south { IsAt lower.now (2 * column) south }
     ensures known { IfOk result (λ r. S.knows squares.new r.square) }
-    ensures square { IfOk result (λ r. S.content squares.new r.square ≡ quad_at (S.content squares.old) level upper.now lower.now column) }
-    ensures north { IfOk result (λ r. IsPast upper.now r.north (2 * column + 1)) }
-    ensures south { IfOk result (λ r. IsPast lower.now r.south (2 * column + 1)) }
+    ensures square { IfOk result (λ r. S.content squares.new r.square
+        ≡ quad_at (S.content squares.old) level upper.now lower.now column) }
+    ensures north { IfOk result (λ r. IsAt upper.now (2 * column + 1) r.north) }
+    ensures south { IfOk result (λ r. IsAt lower.now (2 * column + 1) r.south) }
+    ensures north_later { IfOk result (λ r. north.end ≤ r.north.end) }
+    ensures south_later { IfOk result (λ r. south.end ≤ r.south.end) }
     ensures keeps { KeepsSquares S.knows S.content S.stored S.most squares.old squares.new }
     ensures refusals { IfErr result (IsWantKind (S.stored squares.new) (S.most squares.new)) }
-    ensures needed { OnErr result (S.needs_node squares.new (quad_at (S.content squares.old) level upper.now lower.now column)) }
+    ensures needed { OnErr result (S.needs_node squares.new
+        (quad_at (S.content squares.old) level upper.now lower.now column)) }
 {
+    let west = 2 * column;
     let east = 2 * column + 1;
-    let ne = find(upper, north.index, east, empty);
-    let se = find(lower, south.index, east, empty);
-    let square = squares.join(north.square, ne.square, south.square, se.square)?;
+    let north_east = pass(upper, north, east, empty);
+    let south_east = pass(lower, south, east, empty);
+    let nw = square_of(north, west, empty);
+    let ne = square_of(north_east, east, empty);
+    let sw = square_of(south, west, empty);
+    let se = square_of(south_east, east, empty);
+    let square = squares.join(nw, ne, sw, se)?;
     Ok(Joined {
         square,
-        north: ne.index,
-        south: se.index,
+        north: north_east,
+        south: south_east,
     })
 }
 
 // The nearer of two ends.
 pub(crate) fn nearer(north: Option<u64>, south: Option<u64>) -> Option<u64>
-    ensures { MatchOption result ((north ≡ None) × (south ≡ None)) (λ end. IsNearer end north south) }
+    ensures { MatchOption result ((north ≡ None) × (south ≡ None))
+        (λ end. IsNearer end north south) }
 {
     match (north, south) {
         (Some(north), Some(south)) => Some(north.min(south)),
@@ -144,23 +240,10 @@ pub(crate) fn nearer(north: Option<u64>, south: Option<u64>) -> Option<u64>
     }
 }
 
-// The column up to which one square goes on, of squares half as wide that go on to `end`.
-fn next_column(column: u64, end: Option<u64>) -> u64
-    requires { column < 2 ^ MAX_LEVEL }
-    ensures beyond { column < result }
-    ensures within { (most : ℕ) → column < most → IfSome end (λ e. e ≤ 2 * most) → result ≤ most }
-    ensures goes_on { (c : ℕ) → column < c → c < result → IsBefore (2 * c + 1) end }
-    ensures fits { result < 2 ^ 63 }
-{
-    match end {
-        Some(end) => (end / 2).max(column + 1),
-        None => column + 1,
-    }
-}
-
 // The column behind the last span.
 fn covered(spans: &[Span]) -> u64
-    ensures last { (span : SpanValue) → slice_get spans.now (length spans.now - 1) ≡ Some span → result ≡ span.end }
+    ensures last { (span : SpanValue) → slice_get spans.now (length spans.now - 1) ≡ Some span
+        → result ≡ span.end }
 {
     match spans.last() {
         Some(span) => span.end,
@@ -181,12 +264,19 @@ pub(crate) fn pair<S: Squares>(
     requires lower { IsStrip (S.knows squares.old) (S.content squares.old) level lower.now }
     requires upper_within { AreWithin level upper.now }
     requires lower_within { AreWithin level lower.now }
-    ensures strip { IfOk result (λ r. IsStrip (S.knows squares.new) (S.content squares.new) (level + 1) r.items) }
+    requires upper_rises { Rise upper.now }
+    requires lower_rises { Rise lower.now }
+    ensures strip { IfOk result
+        (λ r. IsStrip (S.knows squares.new) (S.content squares.new) (level + 1) r.items) }
+    ensures rises { IfOk result (λ r. Rise r.items) }
     ensures within { IfOk result (λ r. AreWithin (level + 1) r.items) }
-    ensures paired { IfOk result (λ r. IsPaired (S.content squares.old) (S.content squares.new) level upper.now lower.now r.items) }
+    ensures paired { IfOk result (λ r. IsPaired (S.content squares.old) (S.content squares.new)
+        level upper.now lower.now r.items) }
     ensures keeps { KeepsSquares S.knows S.content S.stored S.most squares.old squares.new }
     ensures refusals { IfErr result (IsWantKind (S.stored squares.new) (S.most squares.new)) }
-    ensures needed { result ≡ Err Full → (column : ℕ) × (column < 2 ^ (MAX_LEVEL - (level + 1))) × S.needs_node squares.new (quad_at (S.content squares.old) level upper.now lower.now column) }
+    ensures needed { result ≡ Err Full → (column : ℕ) × (column < 2 ^ (MAX_LEVEL - (level + 1)))
+        × S.needs_node squares.new
+        (quad_at (S.content squares.old) level upper.now lower.now column) }
 {
     let blank = squares.empty(level);
     // As a rule each span of the two strips adds one span at most, and never more spans than columns come of them.
@@ -194,22 +284,23 @@ pub(crate) fn pair<S: Squares>(
     let room = (upper.len() + lower.len()).min(columns as usize);
     let mut spans = spare.take(room)?;
     let mut column: u64 = 0;
-    let mut north = find(upper, 0, 0, blank);
-    let mut south = find(lower, 0, 0, blank);
-    while let Some(first) = nearer(north.start, south.start) {
+    let mut north = place_at(upper, 0, 0, blank);
+    let mut south = place_at(lower, 0, 0, blank);
+    let mut first = north.start.min(south.start);
+    while first < NEVER {
         // Up to here all is blank.
         let start = first / 2;
-        let nw = stretch_at(upper, north.index, 2 * start, blank);
-        let sw = stretch_at(lower, south.index, 2 * start, blank);
-        let joined = join_at(squares, upper, lower, level, blank, start, nw, sw)?;
-        column = next_column(start, nearer(nw.end, sw.end));
+        let end = end_of(north, 2 * start).min(end_of(south, 2 * start));
+        let joined = join_at(squares, upper, lower, level, blank, start, north, south)?;
+        column = (end / 2).max(start + 1);
         spans.push(Span {
             start,
             end: column,
             square: joined.square,
         })?;
-        north = find(upper, joined.north, 2 * column, blank);
-        south = find(lower, joined.south, 2 * column, blank);
+        north = pass(upper, joined.north, 2 * column, blank);
+        south = pass(lower, joined.south, 2 * column, blank);
+        first = north.start.min(south.start);
     }
     Ok(spans)
 }
@@ -218,7 +309,8 @@ pub(crate) fn pair<S: Squares>(
 #[inline(always)]
 pub(crate) fn extend(spans: &mut Vec<Span>, column: u64, end: u64, square: Id) -> Result<(), Kind>
     requires { column < end }
-    ensures columns { OnOk result (AreBefore column spans.old.items → IsExtended spans.old.items spans.new.items column end square) }
+    ensures columns { OnOk result (AreBefore column spans.old.items
+        → IsExtended spans.old.items spans.new.items column end square) }
     ensures refusals { IfErr result (λ e. e ≡ Memory) }
 {
     if let Some(last) = spans.last_mut() {

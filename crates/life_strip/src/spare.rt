@@ -48,6 +48,7 @@ impl Spare {
 
     // Keeps a vector whose spans are of no more use. One without memory of its own is dropped, a long one goes back to the allocator, and so does
     // one that finds no room here.
+    #[inline(always)]
     pub(crate) fn give(&mut self, spans: Vec<Span>) {
         let room = spans.capacity();
         if LEAST_ROOM <= room && room <= MOST_ROOM {

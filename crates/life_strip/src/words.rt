@@ -1,5 +1,5 @@
 //! Rows of cells of the states 0 and 1, 64 columns at a time: a word has a bit for each column, and that of the westernmost is the highest.
-ghost use Rattle.std.specs.Prelude.{◌≡◌, ℕ, ◌+◌, ◌-◌, ◌*◌, ◌/◌, ◌%◌, ◌^◌, ◌<◌, ◌≤◌, IfSome};
+ghost use Rattle.std.specs.Prelude.{◌≡◌, ℕ, ◌+◌, ◌-◌, ◌*◌, ◌/◌, ◌%◌, ◌^◌, ◌<◌, ◌≤◌, IfSome, bit_or};
 ghost use Rattle.life_base.specs.Tree.{point};
 ghost use Rattle.life_strip.specs.Strip.{IsStrip, HaveColumns, IsPast};
 ghost use Rattle.life_strip.specs.Band.{cell_in, IsWord, nibble_of, west_at, east_at, cells_at};
@@ -59,7 +59,8 @@ pub(crate) fn read_word<S: Squares>(
     requires row { IsStrip (S.knows squares.now) (S.content squares.now) 0 row.now }
     requires columns { HaveColumns row.now }
     requires past { IsPast row.now from start }
-    ensures cells { IfSome result (λ w. IsWord (cell_in (S.content squares.now) row.now) start w.cells) }
+    ensures cells { IfSome result
+        (λ w. IsWord (cell_in (S.content squares.now) row.now) start w.cells) }
     ensures past { IfSome result (λ w. IsPast row.now w.index (start + 64)) }
 {
     let one = squares.cell(1);
@@ -99,8 +100,10 @@ pub(crate) fn two_words<S: Squares>(
     requires lower_columns { HaveColumns lower.now }
     requires north { IsPast upper.now north start }
     requires south { IsPast lower.now south start }
-    ensures north { IfSome result (λ r. IsWord (cell_in (S.content squares.now) upper.now) start r.north.cells) }
-    ensures south { IfSome result (λ r. IsWord (cell_in (S.content squares.now) lower.now) start r.south.cells) }
+    ensures north { IfSome result
+        (λ r. IsWord (cell_in (S.content squares.now) upper.now) start r.north.cells) }
+    ensures south { IfSome result
+        (λ r. IsWord (cell_in (S.content squares.now) lower.now) start r.south.cells) }
     ensures north_past { IfSome result (λ r. IsPast upper.now r.north.index (start + 64)) }
     ensures south_past { IfSome result (λ r. IsPast lower.now r.south.index (start + 64)) }
 {
@@ -138,18 +141,42 @@ pub(crate) fn cells_of(upper: Words, lower: Words, square: u64) -> u16
     4096 * nw + 256 * ne + 16 * sw + se
 }
 
+// The cells of all four rows.
+fn all_rows(upper: Words, lower: Words) -> u64
+    ensures { result ≡ bit_or
+        (bit_or (bit_or upper.north.cells upper.south.cells) lower.north.cells) lower.south.cells }
+{
+    upper.north.cells | upper.south.cells | lower.north.cells | lower.south.cells
+}
+
+// The first square of level 2 from this one on with a cell, or the one behind the last.
+pub(crate) fn blank_to(upper: Words, lower: Words, square: u64) -> u64
+    requires { square < 16 }
+    ensures within { result ≤ 16 }
+    ensures blank { (i : ℕ) → square ≤ i → i < result → cells_at upper lower i ≡ 0 }
+{
+    let rest = all_rows(upper, lower) & bits_after(4 * square);
+    u64::from(rest.leading_zeros() / 4)
+}
+
+// The square of level 2 behind the last one with a cell.
+pub(crate) fn blank_from(upper: Words, lower: Words) -> u64
+    ensures within { result ≤ 16 }
+    ensures blank { (i : ℕ) → result ≤ i → i < 16 → cells_at upper lower i ≡ 0 }
+{
+    16 - u64::from(all_rows(upper, lower).trailing_zeros() / 4)
+}
+
 // The square of level 2 before which the one with these cells goes on at least: as far as it is blank, and else for one column.
 pub(crate) fn next_square(upper: Words, lower: Words, square: u64, cells: u16) -> u64
     requires { square < 16 }
     ensures beyond { square < result }
     ensures within { result ≤ 16 }
-    ensures goes_on { (i : ℕ) → square ≤ i → i < result → cells_at upper lower i ≡ cells_at upper lower square }
+    ensures goes_on { (i : ℕ) → square ≤ i → i < result
+        → cells_at upper lower i ≡ cells_at upper lower square }
 {
     if cells > 0 {
         return square + 1;
     }
-    let all = upper.north.cells | upper.south.cells | lower.north.cells | lower.south.cells;
-    let rest = all & bits_after(4 * square);
-    let blank = u64::from(rest.leading_zeros() / 4);
-    blank.max(square + 1)
+    blank_to(upper, lower, square).max(square + 1)
 }

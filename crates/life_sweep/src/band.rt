@@ -41,9 +41,11 @@ impl<'a> Band<'a> {
         requires inside { All IsInside cells.now }
         requires sorted { IsSortedList cells.now }
         ensures sound { IsSoundBand result }
-        ensures below { (bound : ℕ) → All (λ cell. cell.state < bound) cells.now → IsBandBelow bound result }
+        ensures below { (bound : ℕ) → All (λ cell. cell.state < bound) cells.now
+            → IsBandBelow bound result }
         ensures start { result.y ≡ start_of_sweep }
-        ensures band { (plane : ℤ → ℤ → ℕ) → IsBlankBefore plane → IsRestOf plane first_coordinate first_coordinate cells.now → IsBand plane result }
+        ensures band { (plane : ℤ → ℤ → ℕ) → IsBlankBefore plane
+            → IsRestOf plane first_coordinate first_coordinate cells.now → IsBand plane result }
     {
         Band {
             y: START,
@@ -61,7 +63,8 @@ impl<'a> Band<'a> {
         requires sound { IsSoundBand self.now }
         ensures within { IfSome result IsOfSweep }
         ensures row { IfSome result (IsNextRow self.now) }
-        ensures none { result ≡ None → (length self.now.rows.here.now ≡ 0) × (length self.now.rows.south.now ≡ 0) × (length self.now.rest.now ≡ 0) }
+        ensures none { result ≡ None → (length self.now.rows.here.now ≡ 0)
+            × (length self.now.rows.south.now ≡ 0) × (length self.now.rest.now ≡ 0) }
     {
         if !self.rows.here.is_empty() || !self.rows.south.is_empty() {
             return Some(self.y + 1);
@@ -78,8 +81,10 @@ impl<'a> Band<'a> {
         ensures sound { IsSoundBand self.new }
         ensures south { result ≡ true → self.old.y <ℤ self.new.y }
         ensures below { (bound : ℕ) → IsBandBelow bound self.old → IsBandBelow bound self.new }
-        ensures band { result ≡ true → (cells : ℤ → ℤ → ℕ) → IsBlankBefore cells → IsBand cells self.old → GoesSouth cells self.old self.new }
-        ensures over { result ≡ false → (cells : ℤ → ℤ → ℕ) → IsBlankBefore cells → IsBand cells self.old → (r : ℤ) → self.old.y <ℤ r → IsFarRow cells r }
+        ensures band { result ≡ true → (cells : ℤ → ℤ → ℕ) → IsBlankBefore cells
+            → IsBand cells self.old → GoesSouth cells self.old self.new }
+        ensures over { result ≡ false → (cells : ℤ → ℤ → ℕ) → IsBlankBefore cells
+            → IsBand cells self.old → (r : ℤ) → self.old.y <ℤ r → IsFarRow cells r }
         ensures smaller { result ≡ true → rows_left self.new < rows_left self.old }
     {
         let Some(next) = self.next_row() else {

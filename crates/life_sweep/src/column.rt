@@ -39,11 +39,14 @@ impl Column<State> {
 // The state in a column of a row that has no cell west of it, and the row's cells east of it.
 fn take(row: &[Cell], x: i64) -> (State, &[Cell])
     ensures state { (states : ℤ → ℕ) → IsRest states x row.now → result.0 ≡ states x }
-    ensures rest { (states : ℤ → ℕ) → IsRest states x row.now → IsRest states (after x) result.1.now }
+    ensures rest { (states : ℤ → ℕ) → IsRest states x row.now
+        → IsRest states (after x) result.1.now }
     ensures inside { All IsInside row.now → All IsInside result.1.now }
-    ensures below { (bound : ℕ) → 0 < bound → All (λ cell. cell.state < bound) row.now → All (λ cell. cell.state < bound) result.1.now × (result.0 < bound) }
+    ensures below { (bound : ℕ) → 0 < bound → All (λ cell. cell.state < bound) row.now
+        → All (λ cell. cell.state < bound) result.1.now × (result.0 < bound) }
     ensures column { All IsInside row.now → (result.0 ≡ 0) ⊎ (x <ℤ far) }
-    ensures fewer { (length result.1.now ≡ length row.now × (result.0 ≡ 0)) ⊎ (length result.1.now + 1 ≡ length row.now) }
+    ensures fewer { (length result.1.now ≡ length row.now × (result.0 ≡ 0))
+        ⊎ (length result.1.now + 1 ≡ length row.now) }
     ensures taken { StartsAt x row.now → length result.1.now + 1 ≡ length row.now }
 {
     match row.split_first() {
@@ -92,12 +95,16 @@ impl<'a> Rows<'a> {
 
     /// The column `x`, before which there is no cell left. What is left is east of it.
     pub(crate) fn take_column(&mut self, x: i64) -> Column<State>
-        ensures column { (cells : ℤ → ℤ → ℕ) (y : ℤ) → AreRows cells y x self.old → result ≡ column_at cells y x }
-        ensures rest { (cells : ℤ → ℤ → ℕ) (y : ℤ) → AreRows cells y x self.old → AreRows cells y (after x) self.new }
+        ensures column { (cells : ℤ → ℤ → ℕ) (y : ℤ) → AreRows cells y x self.old
+            → result ≡ column_at cells y x }
+        ensures rest { (cells : ℤ → ℤ → ℕ) (y : ℤ) → AreRows cells y x self.old
+            → AreRows cells y (after x) self.new }
         ensures inside { AreInside self.old → AreInside self.new }
-        ensures below { (bound : ℕ) → 0 < bound → AreBelow bound self.old → AreBelow bound self.new × IsColumn bound result }
+        ensures below { (bound : ℕ) → 0 < bound → AreBelow bound self.old
+            → AreBelow bound self.new × IsColumn bound result }
         ensures end { AreInside self.old → (is_blank_column result ≡ true) ⊎ (x <ℤ far) }
-        ensures fewer { ((left_in self.new ≡ left_in self.old) × (is_blank_column result ≡ true)) ⊎ (left_in self.new < left_in self.old) }
+        ensures fewer { ((left_in self.new ≡ left_in self.old) × (is_blank_column result ≡ true))
+            ⊎ (left_in self.new < left_in self.old) }
         ensures taken { SomeStartsAt x self.old → left_in self.new < left_in self.old }
     {
         let (north, north_rest) = take(self.north, x);

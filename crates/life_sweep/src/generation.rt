@@ -39,10 +39,17 @@ pub fn next_generation<S: Squares, L: Law>(
     requires high { 1 ≤ depth (S.content squares.old id) }
     ensures known { IfOk result (S.knows squares.new) }
     ensures level { IfOk result (λ r. depth (S.content squares.new r) ≡ MAX_LEVEL) }
-    ensures next { IfOk result (λ r. (x y : ℤ) → L.answers law.old (states_at (tree_cell (S.content squares.old id)) x y) (Becomes (tree_cell (S.content squares.new r) x y))) }
-    ensures accepted { IfOk result (λ _. GenerationRefusal (L.answers law.old) (L.bound law.old) most (S.content squares.old id) None) }
-    ensures refusals { IfErr result (λ f. IsWantFault (S.stored squares.new) (S.most squares.new) f ⊎ GenerationRefusal (L.answers law.old) (L.bound law.old) most (S.content squares.old id) (Some f)) }
-    ensures needed { result ≡ Err (fault_of Kind.Full) → SomeNext (S.needs_node squares.new) (L.answers law.old) (tree_cell (S.content squares.old id)) }
+    ensures next { IfOk result (λ r. (x y : ℤ)
+        → L.answers law.old (states_at (tree_cell (S.content squares.old id)) x y)
+        (Becomes (tree_cell (S.content squares.new r) x y))) }
+    ensures accepted { IfOk result (λ _. GenerationRefusal (L.answers law.old) (L.bound law.old)
+        most (S.content squares.old id) None) }
+    ensures refusals { IfErr result (λ f. IsWantFault (S.stored squares.new) (S.most squares.new)
+        f ⊎ GenerationRefusal (L.answers law.old) (L.bound law.old) most
+        (S.content squares.old id) (Some f)) }
+    ensures needed { result ≡ Err (fault_of Kind.Full)
+        → SomeNext (S.needs_node squares.new) (L.answers law.old)
+        (tree_cell (S.content squares.old id)) }
     ensures same { law.new ≡ law.old }
     ensures keeps { KeepsSquares S.knows S.content S.stored S.most squares.old squares.new }
 {

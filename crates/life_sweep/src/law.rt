@@ -41,7 +41,8 @@ pub trait Law {
         ensures same { self.new ≡ self.old }
         ensures next { IfOk result (λ s. answers self.old around.now (Becomes s)) }
         ensures kind { IfErr result (λ f. f.kind ≡ Kind.Ambiguous) }
-        ensures ambiguous { IfErr result (λ f. answers self.old around.now (Ambiguous f.place.line)) };
+        ensures ambiguous { IfErr result
+            (λ f. answers self.old around.now (Ambiguous f.place.line)) };
 
     // There is a state.
     ghost positive: { (law : Self) → 0 < bound law };
@@ -207,7 +208,8 @@ fn least_turn(around: &[State; 9]) -> [State; 9]
 fn representative(table: &Table, around: &[State; 9]) -> [State; 9]
     requires { All (λ s. s < table.now.n_states) around.now }
     ensures states { All (λ s. s < table.now.n_states) result }
-    ensures same { (answer : Answer) → TableAnswers table.now result answer ↔ TableAnswers table.now around.now answer }
+    ensures same { (answer : Answer)
+        → TableAnswers table.now result answer ↔ TableAnswers table.now around.now answer }
 {
     match table.neighborhood {
         Neighborhood::VonNeumann => without_corners(around),
@@ -224,7 +226,8 @@ fn decide(index: &Index, around: &[State; 9]) -> Result<State, Fault>
     requires { All (λ s. s < index.now.n_states) around.now }
     ensures next { IfOk result (λ s. TableAnswers index.now around.now (Becomes s)) }
     ensures kind { IfErr result (λ f. f.kind ≡ Kind.Ambiguous) }
-    ensures ambiguous { IfErr result (λ f. TableAnswers index.now around.now (Ambiguous f.place.line)) }
+    ensures ambiguous { IfErr result
+        (λ f. TableAnswers index.now around.now (Ambiguous f.place.line)) }
 {
     let neighbours = match index.table().neighborhood {
         Neighborhood::VonNeumann => {

@@ -22,7 +22,8 @@ pub(crate) struct Pen {
 // Whether the cell is the one east of the run, and has its state.
 fn is_continued_by(run: &Run, x: i64, y: i64, state: State) -> bool
     requires { IsOnPlane run.now.x run.now.y run.now.len }
-    ensures { IsTrue result ↔ ((run.now.y ≡ y) × ((run.now.x +ℤ pos run.now.len) ≡ x) × (run.now.state ≡ state)) }
+    ensures { IsTrue result ↔ ((run.now.y ≡ y) × ((run.now.x +ℤ pos run.now.len) ≡ x)
+        × (run.now.state ≡ state)) }
 {
     run.y == y && run.x + run.len as i64 == x && run.state == state
 }
@@ -43,12 +44,14 @@ impl Pen {
     // Gives the builder the open run.
     fn close<S: Squares>(&mut self, squares: &mut S) -> Result<(), Kind>
         requires holding { IsHolding (S.knows squares.old) (S.content squares.old) self.old }
-        ensures filling { OnOk result (IsFilling (S.knows squares.new) (S.content squares.new) self.new.builder) }
+        ensures filling { OnOk result
+            (IsFilling (S.knows squares.new) (S.content squares.new) self.new.builder) }
         ensures drawn { OnOk result (self.new.builder.runs ≡ drawn_runs self.old) }
         ensures none { OnOk result (self.new.unclosed ≡ None) }
         ensures keeps { KeepsSquares S.knows S.content S.stored S.most squares.old squares.new }
         ensures refusals { IfErr result (IsWantKind (S.stored squares.new) (S.most squares.new)) }
-        ensures needed { result ≡ Err Kind.Full → SomeAbove (S.needs_node squares.new) (drawn_runs self.old) }
+        ensures needed { result ≡ Err Kind.Full
+            → SomeAbove (S.needs_node squares.new) (drawn_runs self.old) }
     {
         let Some(run) = self.unclosed else {
             return Ok(());
@@ -70,13 +73,17 @@ impl Pen {
         requires inside { IsOnPlane x y 1 }
         requires next { IsNext (drawn_runs self.old) x y }
         requires nonzero { state ≢ 0 }
-        ensures holding { OnOk result (IsHolding (S.knows squares.new) (S.content squares.new) self.new) }
+        ensures holding { OnOk result
+            (IsHolding (S.knows squares.new) (S.content squares.new) self.new) }
         ensures here { OnOk result (state_by (drawn_runs self.new) x y ≡ state) }
-        ensures others { OnOk result ((c r : ℤ) → (c ≡ x → r ≡ y → ⊥) → state_by (drawn_runs self.new) c r ≡ state_by (drawn_runs self.old) c r) }
-        ensures next { OnOk result ((c r : ℤ) → IsBehind (one_cell x y state) c r → IsNext (drawn_runs self.new) c r) }
+        ensures others { OnOk result ((c r : ℤ) → (c ≡ x → r ≡ y → ⊥)
+            → state_by (drawn_runs self.new) c r ≡ state_by (drawn_runs self.old) c r) }
+        ensures next { OnOk result
+            ((c r : ℤ) → IsBehind (one_cell x y state) c r → IsNext (drawn_runs self.new) c r) }
         ensures keeps { KeepsSquares S.knows S.content S.stored S.most squares.old squares.new }
         ensures refusals { IfErr result (IsWantKind (S.stored squares.new) (S.most squares.new)) }
-        ensures needed { result ≡ Err Kind.Full → SomeAbove (S.needs_node squares.new) (drawn_runs self.old) }
+        ensures needed { result ≡ Err Kind.Full
+            → SomeAbove (S.needs_node squares.new) (drawn_runs self.old) }
     {
         if let Some(run) = self.unclosed {
             if is_continued_by(&run, x, y, state) {
@@ -100,10 +107,13 @@ impl Pen {
         requires holding { IsHolding (S.knows squares.old) (S.content squares.old) self }
         ensures known { IfOk result (S.knows squares.new) }
         ensures level { IfOk result (λ r. depth (S.content squares.new r) ≡ MAX_LEVEL) }
-        ensures cells { IfOk result (λ r. (x y : ℤ) → tree_cell (S.content squares.new r) x y ≡ state_by (drawn_runs self) x y) }
+        ensures cells { IfOk result (λ r. (x y : ℤ)
+            → tree_cell (S.content squares.new r) x y ≡ state_by (drawn_runs self) x y) }
         ensures keeps { KeepsSquares S.knows S.content S.stored S.most squares.old squares.new }
         ensures refusals { IfErr result (IsWantKind (S.stored squares.new) (S.most squares.new)) }
-        ensures needed { result ≡ Err Kind.Full → SomeAbove (S.needs_node squares.new) (drawn_runs self) ⊎ SomeOfAll (S.needs_node squares.new) (drawn_runs self) }
+        ensures needed { result ≡ Err Kind.Full
+            → SomeAbove (S.needs_node squares.new) (drawn_runs self)
+            ⊎ SomeOfAll (S.needs_node squares.new) (drawn_runs self) }
     {
         self.close(squares)?;
         self.builder.finish(squares)

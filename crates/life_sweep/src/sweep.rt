@@ -44,13 +44,20 @@ fn draw_place<S: Squares, L: Law>(
     requires holding { IsHolding (S.knows squares.old) (S.content squares.old) pen.old }
     requires ready { IsReady (drawn_runs pen.old) window.now.x y }
     ensures same { law.new ≡ law.old }
-    ensures holding { OnOk result (IsHolding (S.knows squares.new) (S.content squares.new) pen.new) }
+    ensures holding { OnOk result
+        (IsHolding (S.knows squares.new) (S.content squares.new) pen.new) }
     ensures ready { OnOk result (IsReady (drawn_runs pen.new) (after window.now.x) y) }
-    ensures put { IfOk result (λ all. state_by (drawn_runs pen.old) window.now.x y ≡ 0 → IsPut (L.answers law.old) (states_of window.now) (state_by (drawn_runs pen.new)) leaves all window.now.x y) }
-    ensures others { OnOk result ((c r : ℤ) → (c ≡ window.now.x → r ≡ y → ⊥) → state_by (drawn_runs pen.new) c r ≡ state_by (drawn_runs pen.old) c r) }
+    ensures put { IfOk result (λ all. state_by (drawn_runs pen.old) window.now.x y ≡ 0
+        → IsPut (L.answers law.old) (states_of window.now) (state_by (drawn_runs pen.new)) leaves
+        all window.now.x y) }
+    ensures others { OnOk result ((c r : ℤ) → (c ≡ window.now.x → r ≡ y → ⊥)
+        → state_by (drawn_runs pen.new) c r ≡ state_by (drawn_runs pen.old) c r) }
     ensures keeps { KeepsSquares S.knows S.content S.stored S.most squares.old squares.new }
-    ensures refusals { IfErr result (λ f. IsWantFault (S.stored squares.new) (S.most squares.new) f ⊎ ((f.kind ≡ Kind.Ambiguous) × L.answers law.old (states_of window.now) (Ambiguous f.place.line))) }
-    ensures needed { result ≡ Err (fault_of Kind.Full) → SomeAbove (S.needs_node squares.new) (drawn_runs pen.old) }
+    ensures refusals { IfErr result (λ f. IsWantFault (S.stored squares.new) (S.most squares.new)
+        f ⊎ ((f.kind ≡ Kind.Ambiguous)
+        × L.answers law.old (states_of window.now) (Ambiguous f.place.line))) }
+    ensures needed { result ≡ Err (fault_of Kind.Full)
+        → SomeAbove (S.needs_node squares.new) (drawn_runs pen.old) }
 {
     let state = law.next(&window.around())?;
     if state == 0 {
@@ -79,12 +86,21 @@ fn draw_row<S: Squares, L: Law>(
     requires holding { IsHolding (S.knows squares.old) (S.content squares.old) pen.old }
     requires ready { IsReadyRow (drawn_runs pen.old) y }
     ensures same { law.new ≡ law.old }
-    ensures holding { OnOk result (IsHolding (S.knows squares.new) (S.content squares.new) pen.new) }
+    ensures holding { OnOk result
+        (IsHolding (S.knows squares.new) (S.content squares.new) pen.new) }
     ensures ready { OnOk result (IsReadyRow (drawn_runs pen.new) (after y)) }
-    ensures swept { IfOk result (λ left. (cells : ℤ → ℤ → ℕ) → IsScene cells y rows.entry → IsSweptRows (L.answers law.old) cells (state_by (drawn_runs pen.old)) leaves y → IsSweptRows (L.answers law.old) cells (state_by (drawn_runs pen.new)) left (after y)) }
+    ensures swept { IfOk result (λ left. (cells : ℤ → ℤ → ℕ) → IsScene cells y rows.entry
+        → IsSweptRows (L.answers law.old) cells (state_by (drawn_runs pen.old)) leaves y
+        → IsSweptRows (L.answers law.old) cells (state_by (drawn_runs pen.new)) left (after y)) }
     ensures keeps { KeepsSquares S.knows S.content S.stored S.most squares.old squares.new }
-    ensures refusals { IfErr result (λ f. IsWantFault (S.stored squares.new) (S.most squares.new) f ⊎ ((f.kind ≡ Kind.Ambiguous) × ((cells : ℤ → ℤ → ℕ) → IsScene cells y rows.entry → IsSweptRows (L.answers law.old) cells (state_by (drawn_runs pen.old)) leaves y → IsFirstAmbiguous (L.answers law.old) cells f.place.line))) }
-    ensures needed { result ≡ Err (fault_of Kind.Full) → (cells : ℤ → ℤ → ℕ) → IsScene cells y rows.entry → IsSweptRows (L.answers law.old) cells (state_by (drawn_runs pen.old)) leaves y → SomeNext (S.needs_node squares.new) (L.answers law.old) cells }
+    ensures refusals { IfErr result (λ f. IsWantFault (S.stored squares.new) (S.most squares.new)
+        f ⊎ ((f.kind ≡ Kind.Ambiguous) × ((cells : ℤ → ℤ → ℕ) → IsScene cells y rows.entry
+        → IsSweptRows (L.answers law.old) cells (state_by (drawn_runs pen.old)) leaves y
+        → IsFirstAmbiguous (L.answers law.old) cells f.place.line))) }
+    ensures needed { result ≡ Err (fault_of Kind.Full) → (cells : ℤ → ℤ → ℕ)
+        → IsScene cells y rows.entry
+        → IsSweptRows (L.answers law.old) cells (state_by (drawn_runs pen.old)) leaves y
+        → SomeNext (S.needs_node squares.new) (L.answers law.old) cells }
 {
     let mut left = leaves;
     let mut window = Window::new(rows);
@@ -107,10 +123,15 @@ pub(crate) fn next_square<S: Squares, L: Law>(
     ensures same { law.new ≡ law.old }
     ensures known { IfOk result (S.knows squares.new) }
     ensures level { IfOk result (λ r. depth (S.content squares.new r) ≡ MAX_LEVEL) }
-    ensures next { IfOk result (λ r. (plane : ℤ → ℤ → ℕ) → IsSorted plane cells.now → (x y : ℤ) → L.answers law.old (states_at plane x y) (Becomes (tree_cell (S.content squares.new r) x y))) }
+    ensures next { IfOk result (λ r. (plane : ℤ → ℤ → ℕ) → IsSorted plane cells.now → (x y : ℤ)
+        → L.answers law.old (states_at plane x y)
+        (Becomes (tree_cell (S.content squares.new r) x y))) }
     ensures keeps { KeepsSquares S.knows S.content S.stored S.most squares.old squares.new }
-    ensures refusals { IfErr result (λ f. IsWantFault (S.stored squares.new) (S.most squares.new) f ⊎ ((plane : ℤ → ℤ → ℕ) → IsSorted plane cells.now → RefusesStep (L.answers law.old) plane f)) }
-    ensures needed { result ≡ Err (fault_of Kind.Full) → (plane : ℤ → ℤ → ℕ) → IsSorted plane cells.now → SomeNext (S.needs_node squares.new) (L.answers law.old) plane }
+    ensures refusals { IfErr result (λ f. IsWantFault (S.stored squares.new) (S.most squares.new)
+        f ⊎ ((plane : ℤ → ℤ → ℕ) → IsSorted plane cells.now
+        → RefusesStep (L.answers law.old) plane f)) }
+    ensures needed { result ≡ Err (fault_of Kind.Full) → (plane : ℤ → ℤ → ℕ)
+        → IsSorted plane cells.now → SomeNext (S.needs_node squares.new) (L.answers law.old) plane }
 {
     let mut pen = Pen::new(alloc);
     empty_builder_fills::<S>();

@@ -22,9 +22,13 @@ impl<'a> Window<'a> {
         requires inside { AreInside rows }
         requires sorted { AreSorted rows }
         ensures sound { IsSoundWindow result }
-        ensures below { (bound : ℕ) → 0 < bound → AreBelow bound rows.entry → IsWindowBelow bound result }
+        ensures below { (bound : ℕ) → 0 < bound → AreBelow bound rows.entry
+            → IsWindowBelow bound result }
         ensures start { result.x ≡ start_of_sweep }
-        ensures window { (cells : ℤ → ℤ → ℕ) (y : ℤ) → AreRows cells y (start_of_sweep +ℤ pos 2) rows.entry → ((c : ℤ) → c <ℤ (start_of_sweep +ℤ pos 2) → column_at cells y c ≡ no_column) → IsWindow cells y result }
+        ensures window { (cells : ℤ → ℤ → ℕ) (y : ℤ)
+            → AreRows cells y (start_of_sweep +ℤ pos 2) rows.entry
+            → ((c : ℤ) → c <ℤ (start_of_sweep +ℤ pos 2) → column_at cells y c ≡ no_column)
+            → IsWindow cells y result }
     {
         Window {
             x: START,
@@ -40,7 +44,8 @@ impl<'a> Window<'a> {
         requires sound { IsSoundWindow self.now }
         ensures within { IfSome result IsOfSweep }
         ensures place { IfSome result (IsNextPlace self.now) }
-        ensures none { result ≡ None → (is_blank_column self.now.middle ≡ true) × (is_blank_column self.now.east ≡ true) × (left_in self.now.rows ≡ 0) }
+        ensures none { result ≡ None → (is_blank_column self.now.middle ≡ true)
+            × (is_blank_column self.now.east ≡ true) × (left_in self.now.rows ≡ 0) }
     {
         if !self.middle.is_blank() || !self.east.is_blank() {
             return Some(self.x + 1);
@@ -56,9 +61,12 @@ impl<'a> Window<'a> {
         requires sound { IsSoundWindow self.old }
         ensures sound { IsSoundWindow self.new }
         ensures east { result ≡ true → self.old.x <ℤ self.new.x }
-        ensures below { (bound : ℕ) → 0 < bound → IsWindowBelow bound self.old → IsWindowBelow bound self.new }
-        ensures window { result ≡ true → (cells : ℤ → ℤ → ℕ) (y : ℤ) → IsWindow cells y self.old → GoesOn cells y self.old self.new }
-        ensures over { result ≡ false → (cells : ℤ → ℤ → ℕ) (y : ℤ) → IsWindow cells y self.old → (c : ℤ) → self.old.x <ℤ c → IsFar cells y c }
+        ensures below { (bound : ℕ) → 0 < bound → IsWindowBelow bound self.old
+            → IsWindowBelow bound self.new }
+        ensures window { result ≡ true → (cells : ℤ → ℤ → ℕ) (y : ℤ) → IsWindow cells y self.old
+            → GoesOn cells y self.old self.new }
+        ensures over { result ≡ false → (cells : ℤ → ℤ → ℕ) (y : ℤ) → IsWindow cells y self.old
+            → (c : ℤ) → self.old.x <ℤ c → IsFar cells y c }
         ensures smaller { result ≡ true → steps_left self.new < steps_left self.old }
     {
         let Some(next) = self.next_place() else {

@@ -2,6 +2,8 @@
 use Rattle.std.proofs.Common.{◌≡◌, ℕ, List, [], ◌∷◌, ◌++◌, drop, Bool, true, false, not, refl, ap, sym, ◌∙◌, ◌||◌, ◌⊎◌, inl, inr}
 use Rattle.std.specs.Prelude.{Option, None, if◌then◌else◌, option_and_then, slice_get}
 use Rattle.std.specs.List.{list_any}
+use Rattle.std.proofs.lemmas.List.Folds.{list_any-append}
+use Rattle.std.proofs.Math.Bool.{or-false}
 use Rattle.life_base.specs.Text.{is_empty}
 use Rattle.life_table.specs.Reading.{Numbered, from_first, up_to, from_rule, from_table, table_texts, contents, content, name_of, name_on, section_of, is_passed_over, is_table_line, is_section_line}
 use Rattle.life_table.specs.declared.directive.Section.{Section}
@@ -52,18 +54,8 @@ module _ {X : Type 0} (p : X → Bool) where
   up_to_all [] h = refl
   up_to_all (x ∷ xs) h = all_step (p x) x xs refl (up_to_all xs) h
 
-  any_step : (b : Bool) (x : X) (xs : List X) (z : X) → p x ≡ b → (list_any p (xs ++ z ∷ []) ≡ (list_any p xs || p z))
-      → list_any p (x ∷ (xs ++ z ∷ [])) ≡ (list_any p (x ∷ xs) || p z)
-  any_step true x xs z e ih = rw e refl
-  any_step false x xs z e ih = rw e ih
-
   pub any_more : (xs : List X) (z : X) → list_any p (xs ++ z ∷ []) ≡ (list_any p xs || p z)
-  any_more [] z = or_false (p z)
-    where
-      or_false : (b : Bool) → (b || false) ≡ b
-      or_false true = refl
-      or_false false = refl
-  any_more (x ∷ xs) z = any_step (p x) x xs z refl (any_more xs z)
+  any_more xs z = list_any-append p xs (z ∷ []) ∙ ap (λ (b : Bool). list_any p xs || b) (or-false (p z))
 
   end_step : (b : Bool) (x : X) (xs : List X) (z : X) → p x ≡ b → (list_any p xs ≡ false → up_to p (xs ++ z ∷ []) ≡ xs)
       → list_any p (x ∷ xs) ≡ false → up_to p (x ∷ (xs ++ z ∷ [])) ≡ x ∷ xs

@@ -26,6 +26,7 @@ use Rattle.life_table.specs.declared.table.Var.{Var}
 use Rattle.life_table.specs.declared.table.Entry.{Entry}
 use Rattle.life_table.specs.declared.table.Entry.TheVariants as entries
 use Rattle.life_table.specs.declared.table.Transition.{Transition}
+use Rattle.life_table.proofs.Fronts.{any_more}
 use Rattle.life_table.proofs.Cases.{Says, states, neighbors, orders, variable, transition, Case, passed, named, ahead, opens, ends, silent, says, behind}
 use Rattle.life_table.proofs.Texts.{all_more}
 use Rattle.life_table.proofs.Values.{tested, below_limit, is_variable_written, is_transition}
@@ -274,18 +275,6 @@ sound_of parsed g n h y en eh ey = record {
 kept_most : (o : Option ℕ) → ((n : ℕ) → o ≡ Some n → (2 ≤ n) × (n ≤ 256)) → IfSome o (λ n. n ≤ 256)
 kept_most None f = tt
 kept_most (Some n) f = (f n refl).1
-
-any_more : (p : Transition → Bool) (ts : List Transition) (t : Transition) → list_any p (ts ++ t ∷ []) ≡ (list_any p ts || p t)
-any_more p [] t = or_false (p t)
-  where
-    or_false : (b : Bool) → (b || false) ≡ b
-    or_false true = refl
-    or_false false = refl
-any_more p (u ∷ ts) t = ap (λ (b : Bool). p u || b) (any_more p ts t) ∙ or_assoc (p u) (list_any p ts) (p t)
-  where
-    or_assoc : (a b c : Bool) → (a || (b || c)) ≡ ((a || b) || c)
-    or_assoc true b c = refl
-    or_assoc false b c = refl
 
 fits_says : (parsed : Parsed) (number : ℕ) (text : List ℕ) (directive : Directive) (fit : Bool) → IsGood parsed
     → fit ≡ list_any (fits_zero parsed.vars) parsed.lines → Says parsed number text directive

@@ -1,7 +1,7 @@
 -- What each line of a file is, and that no line breaks a rule, are the same.
 use Rattle.std.proofs.Common.{◌≡◌, ◌⊎◌, inl, inr, ℕ, ◌+◌, ◌-◌, ◌^◌, ◌≤◌, min, List, [], ◌∷◌, ◌++◌, length, take, get_or, Bool, true, false, cond, refl, sym, ap, subst, ◌∙◌, arith, append_assoc, length-append, ◌&&◌}
-use Rattle.std.specs.Prelude.{Option, Some, None, Result, Ok, Err, if◌then◌else◌, is_some, is_none, not, codes, ◌≢◌, ◌||◌, bytes_eq}
-use Rattle.std.proofs.lemmas.Bool.{ltb-false}
+use Rattle.std.specs.Prelude.{Option, Some, None, Result, Ok, Err, if◌then◌else◌, is_some, is_none, not, codes, ◌≢◌, bytes_eq}
+use Rattle.std.proofs.lemmas.Bool.{ltb-false, or_cases}
 use Rattle.std.proofs.lemmas.Bool.Decides.{nat_tests}
 use Rattle.std.proofs.lemmas.List.{append-nil}
 use Rattle.std.proofs.lemmas.Slice.Eq.{bytes_eq-Decides}
@@ -39,10 +39,6 @@ not_nothing : (text : List ℕ) → text ≢ [] → is_empty text ≡ false
 not_nothing [] h = absurd (h refl)
 not_nothing (b ∷ text) h = refl
 
-either_of : (a b : Bool) → (a || b) ≡ true → (a ≡ true) ⊎ (b ≡ true)
-either_of true b e = inl refl
-either_of false b e = inr e
-
 all_given : (parsed : Parsed) (on : Option ℕ) (oh : Option Neighborhood) (oy : Option Symmetry) → parsed.n_states ≡ on → parsed.neighborhood ≡ oh
     → parsed.symmetry ≡ oy
     → (is_some on && is_some oh && is_some oy) ≡ true → (n : ℕ) × (h : Neighborhood) × (y : Symmetry) × AreGiven parsed n h y
@@ -73,7 +69,7 @@ module _ (parsed : Parsed) (number : ℕ) (text : List ℕ) (directive : Directi
       }) o t
   text_is (cases.neighbors d s k o h e a t) =
       let spelled : (key_of text ≡ codes "neighborhood") ⊎ (key_of text ≡ codes "neighbourhood") =
-      elim (either_of (bytes_eq (key_of text) (codes "neighborhood")) (bytes_eq (key_of text) (codes "neighbourhood")) k) [
+      elim (or_cases (bytes_eq (key_of text) (codes "neighborhood")) (bytes_eq (key_of text) (codes "neighbourhood")) k) [
         | inl f ↦ inl ((bytes_eq-Decides (key_of text) (codes "neighborhood")).0 f)
         | inr f ↦ inr ((bytes_eq-Decides (key_of text) (codes "neighbourhood")).0 f)
       ] in

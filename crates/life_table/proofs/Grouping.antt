@@ -10,6 +10,7 @@ use Rattle.std.proofs.lemmas.List.Folds.{list_any-append}
 use Rattle.std.proofs.Math.Seq.{take-set-lt}
 use Rattle.std.proofs.lemmas.List.{get_or-take, length-take-le, take_more_set}
 use Rattle.std.proofs.lemmas.List.Sums.{sum_by-cons, sum_by_push}
+use Rattle.std.proofs.lemmas.Bool.{or_parts, or_from, or_cases, or_left, or_right}
 use Rattle.life_table.specs.Valid.{IsEntry, is_variable}
 use Rattle.life_table.specs.Taking.{of_state, open_state, wanted, add_to, has_group, IsDistinct, first_variable, IsGrouped, AreGroups}
 use Rattle.life_table.proofs.Free.{of_sum, zero_of}
@@ -41,14 +42,6 @@ wanted_add choice t number (g ∷ groups) = elim (eqb_tells number g.variable) [
       omega (arith, e, f, old, r)
 ]
 
-pub neither : (a b : Bool) → (a || b) ≡ false → (a ≡ false) × (b ≡ false)
-neither true b h = absurd (let z : ⊥ = cc in z)
-neither false true h = absurd (let z : ⊥ = cc in z)
-neither false false h = (refl, refl)
-
-both_false : (a b : Bool) → a ≡ false → b ≡ false → (a || b) ≡ false
-both_false a b h k = ap (λ x. x || b) h ∙ k
-
 not_same : (a b : ℕ) → a ≢ b → nat_eq a b ≡ false
 not_same a b h = elim (eqb_tells a b) [ inl same ↦ absurd (h same.1) | inr other ↦ other.0 ]
 
@@ -56,13 +49,13 @@ pub are_other : (a b : ℕ) → nat_eq a b ≡ false → a ≢ b
 are_other a b h e = let t : nat_eq a b ≡ true = eq-eqb a b e in absurd (let z : true ≡ false = sym t ∙ h in let y : ⊥ = cc in y)
 
 has_add : (v number : ℕ) (groups : List Group) → has_group v groups ≡ false → nat_eq v number ≡ false → has_group v (add_to number groups) ≡ false
-has_add v number [] h other = both_false (nat_eq v number) false other refl
+has_add v number [] h other = or_from (nat_eq v number) false other refl
 has_add v number (g ∷ groups) h other =
-    let parts = neither (nat_eq v g.variable) (has_group v groups) h in
+    let parts = or_parts (nat_eq v g.variable) (has_group v groups) h in
     elim (eqb_tells number g.variable) [
       | inl same ↦ ap (λ b. has_group v (cond b (record { variable = g.variable; times = g.times + 1 } ∷ groups) (g ∷ add_to number groups))) same.0 ∙ h
       | inr diff ↦ ap (λ b. has_group v (cond b (record { variable = g.variable; times = g.times + 1 } ∷ groups) (g ∷ add_to number groups))) diff.0
-          ∙ both_false (nat_eq v g.variable) (has_group v (add_to number groups)) parts.0 (has_add v number groups parts.1 other)
+          ∙ or_from (nat_eq v g.variable) (has_group v (add_to number groups)) parts.0 (has_add v number groups parts.1 other)
     ]
 
 distinct_add : (number : ℕ) (groups : List Group) → IsDistinct groups → IsDistinct (add_to number groups)
@@ -78,7 +71,7 @@ distinct_add number (g ∷ groups) h = elim (eqb_tells number g.variable) [
 pub all_other : (v : ℕ) (groups : List Group) → has_group v groups ≡ false → All (λ (g : Group). nat_eq v g.variable ≡ false) groups
 all_other v [] h = λ k d below. absurd (omega (arith, below))
 all_other v (g ∷ groups) h =
-    let parts = neither (nat_eq v g.variable) (has_group v groups) h in
+    let parts = or_parts (nat_eq v g.variable) (has_group v groups) h in
     All-cons (λ (g : Group). nat_eq v g.variable ≡ false) g groups parts.0 (all_other v groups parts.1)
 
 all_add : (P Q : Group → Type 0) (number : ℕ) (groups : List Group) → IsDistinct groups → All P groups
@@ -110,17 +103,6 @@ first_add number (g ∷ groups) h = elim (eqb_tells number g.variable) [
       (0 < length new) × (first_variable new ≡ g.variable)) (sym diff.0) (omega arith, refl)
 ]
 
-pub either : (a b : Bool) → (a || b) ≡ true → (a ≡ true) ⊎ (b ≡ true)
-either true b h = inl refl
-either false b h = inr h
-
-pub left_true : (a b : Bool) → a ≡ true → (a || b) ≡ true
-left_true a b h = ap (λ x. x || b) h
-
-pub right_true : (a b : Bool) → b ≡ true → (a || b) ≡ true
-right_true true b h = refl
-right_true false b h = h
-
 push_any : (v : ℕ) (es : List Entry) (e : Entry) → list_any (is_variable v) (es ++ e ∷ []) ≡ (list_any (is_variable v) es || (is_variable v e || false))
 push_any v es e = list_any-append (is_variable v) es (e ∷ [])
 
@@ -144,24 +126,24 @@ module _ (first output : Entry) (es : List Entry) (groups : List Group) (h : IsG
         (λ g. IsTrue (list_any (is_variable g.variable) (es ++ entries.Var i ∷ [])) ⊎ (output ≡ entries.Var g.variable)) i groups h.distinct h.stands
         (λ g p o. elim p [
           | inl s ↦ inl
-              (push_any g.variable es (entries.Var i) ∙ left_true (list_any (is_variable g.variable) es) (nat_eq g.variable i || false) s)
+              (push_any g.variable es (entries.Var i) ∙ or_left (list_any (is_variable g.variable) es) (nat_eq g.variable i || false) s)
           | inr s ↦ inr s
         ])
         (λ g p o. inl (here g.variable (sym o)))
         (inl (here i refl));
     some = all_add (λ g. IsTrue (list_any (is_variable g.variable) es) → 0 < g.times)
         (λ g. IsTrue (list_any (is_variable g.variable) (es ++ entries.Var i ∷ [])) → 0 < g.times) i groups h.distinct h.some
-        (λ g p o s. elim (either (list_any (is_variable g.variable) es) (nat_eq g.variable i || false) (sym (push_any g.variable es (entries.Var i)) ∙ s)) [
+        (λ g p o s. elim (or_cases (list_any (is_variable g.variable) es) (nat_eq g.variable i || false) (sym (push_any g.variable es (entries.Var i)) ∙ s)) [
           | inl old ↦ p old
           | inr new ↦ absurd (is_clash (nat_eq g.variable i || false) new
-              (both_false (nat_eq g.variable i) false (not_same g.variable i (λ e. are_other i g.variable o (sym e))) refl))
+              (or_from (nat_eq g.variable i) false (not_same g.variable i (λ e. are_other i g.variable o (sym e))) refl))
         ])
         (λ g p o s. omega arith)
         (λ s. omega arith);
     output_first = λ j is open_j. let old = h.output_first j is open_j in let new = first_add i groups old.0 in (new.0, new.1 ∙ old.1);
   } where
     here : (v : ℕ) → v ≡ i → list_any (is_variable v) (es ++ entries.Var i ∷ []) ≡ true
-    here v e = push_any v es (entries.Var i) ∙ right_true (list_any (is_variable v) es) (nat_eq v i || false) (left_true (nat_eq v i) false (eq-eqb v i e))
+    here v e = push_any v es (entries.Var i) ∙ or_right (list_any (is_variable v) es) (nat_eq v i || false) (or_left (nat_eq v i) false (eq-eqb v i e))
 
   -- one more input that the centre settles
   pub grouped_skip : (e : Entry) → ((choice : ℕ → ℕ) (t : ℕ) → open_state first choice t e ≡ 0)
@@ -171,15 +153,15 @@ module _ (first output : Entry) (es : List Entry) (groups : List Group) (h : IsG
     distinct = h.distinct;
     unsettled = h.unsettled;
     stands = λ k d below. elim (h.stands k d below) [
-      | inl s ↦ inl (push_any (get_or groups k d).variable es e ∙ left_true (list_any (is_variable (get_or groups k d).variable) es)
+      | inl s ↦ inl (push_any (get_or groups k d).variable es e ∙ or_left (list_any (is_variable (get_or groups k d).variable) es)
           (is_variable (get_or groups k d).variable e || false) s)
       | inr s ↦ inr s
     ];
-    some = λ k d below s. elim (either (list_any (is_variable (get_or groups k d).variable) es) (is_variable (get_or groups k d).variable e || false)
+    some = λ k d below s. elim (or_cases (list_any (is_variable (get_or groups k d).variable) es) (is_variable (get_or groups k d).variable e || false)
         (sym (push_any (get_or groups k d).variable es e) ∙ s)) [
           | inl old ↦ h.some k d below old
           | inr new ↦ absurd (is_clash (is_variable (get_or groups k d).variable e || false) new
-              (both_false (is_variable (get_or groups k d).variable e) false (other (get_or groups k d).variable (h.unsettled k d below)) refl))
+              (or_from (is_variable (get_or groups k d).variable e) false (other (get_or groups k d).variable (h.unsettled k d below)) refl))
         ];
     output_first = h.output_first;
   }
@@ -252,7 +234,7 @@ are_groups vars first output es groups entries_are bound h = record {
   stands : (k : ℕ) (d : Group) → k < length groups → list_any (is_variable (get_or groups k d).variable) es ≡ true
   stands k d below = elim (h.stands k d below) [
     | inl s ↦ s
-    | inr s ↦ elim (either (is_variable (get_or groups k d).variable first) (list_any (is_variable (get_or groups k d).variable) es)
+    | inr s ↦ elim (or_cases (is_variable (get_or groups k d).variable first) (list_any (is_variable (get_or groups k d).variable) es)
         (bound (get_or groups k d).variable s)) [
           | inl at_first ↦ absurd (is_clash (is_variable (get_or groups k d).variable first) at_first (h.unsettled k d below))
           | inr later ↦ later

@@ -1,9 +1,10 @@
 -- What descriptors and variables say is kept.
-use Rattle.std.proofs.Common.{◌≡◌, ℕ, List, [], ◌∷◌, ◌++◌, map, Bool, true, false, not, refl, ap, sym, ◌∙◌, ◌&&◌, ◌⊎◌, inl, inr}
+use Rattle.std.proofs.Common.{◌≡◌, ℕ, List, [], ◌∷◌, ◌++◌, map, Bool, true, false, not, refl, ap, sym, ◌∙◌, ◌⊎◌, inl, inr}
 use Rattle.std.specs.Prelude.{Option, Some, None, if◌then◌else◌, option_map, option_and_then, All, slice_get, filter}
 use Rattle.std.proofs.lemmas.List.{map-append, append-nil}
 use Rattle.std.proofs.lemmas.List.Elements.{All-nil, All-cons, All-head, All-tail, filter-append}
 use Rattle.std.proofs.lemmas.Option.{slice_get_within}
+use Rattle.std.proofs.lemmas.Bool.{and_right}
 use Rattle.life_table.specs.Reading.{Numbered, all_some, is_descriptor, key_of, setting_of, is_states_key, is_neighborhood_key, is_symmetry_key, states_named, neighborhood_named, symmetry_named, is_variable_line, entry_of, states_of_entry, states_listed, between_commas, within_braces, name_text, list_text, variable_states, variable_of, union_of}
 use Rattle.life_table.specs.Laws.{is_variable_text, variable_on}
 use Rattle.life_table.specs.declared.table.Neighborhood.{Neighborhood}
@@ -160,12 +161,8 @@ no_texts : (ts : List Numbered) → AreDescriptors ts → variable_texts ts ≡ 
 no_texts [] h = refl
 no_texts (t ∷ ts) h =
     let d = All-head (λ (u : Numbered). is_descriptor u.1 ≡ true) t ts h in
-    ap (λ (b : Bool). if b then t ∷ variable_texts ts else variable_texts ts) (no_variable (is_variable_line t.1) (is_descriptor t.1) d)
+    ap (λ (b : Bool). if b then t ∷ variable_texts ts else variable_texts ts) (and_right (is_variable_line t.1) (not (is_descriptor t.1)) (ap not d))
     ∙ no_texts ts (All-tail (λ (u : Numbered). is_descriptor u.1 ≡ true) t ts h)
-  where
-    no_variable : (a b : Bool) → b ≡ true → (a && not b) ≡ false
-    no_variable true b e = ap not e
-    no_variable false b e = refl
 
 pub variables_none : (n : ℕ) (vars : List Var) (ts : List Numbered) → AreDescriptors ts → vars ≡ [] → AreVariables n vars ts
 variables_none n vars ts d e = ap (map directive) e ∙ sym (ap (on_lines n vars) (no_texts ts d))

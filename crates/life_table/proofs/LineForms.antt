@@ -2,7 +2,7 @@
 use Rattle.std.proofs.Common.{◌≡◌, inl, inr, ℕ, zero, suc, ◌+◌, ◌<◌, ◌≤◌, List, [], ◌∷◌, ◌++◌, length, take, map, Bool, true, false, refl, sym, ap, subst, ◌∙◌, arith}
 use Rattle.std.specs.Prelude.{Option, Some, None, if◌then◌else◌, is_some, nat_le, nat_lt, ◌==◌, ◌&&◌, bytes_eq, codes, slice_get, option_map, option_and_then}
 use Rattle.std.specs.List.{AllZip}
-use Rattle.std.proofs.lemmas.Bool.{le-leb, leb-true}
+use Rattle.std.proofs.lemmas.Bool.{le-leb, leb-true, and_from, and_parts}
 use Rattle.std.proofs.lemmas.Bool.Decides.{nat_tests}
 use Rattle.std.proofs.lemmas.List.{length-append, length-take-le}
 use Rattle.std.proofs.lemmas.Slice.Eq.{bytes_eq-Decides}
@@ -19,7 +19,7 @@ use Rattle.life_table.specs.declared.table.Transition.{Transition}
 use Rattle.life_table.specs.declared.table.Var.{Var}
 use Rattle.life_table.proofs.Cases.{known, then_part, else_part, not_some}
 use Rattle.life_table.proofs.Texts.{split_some}
-use Rattle.life_table.proofs.Values.{mapped, followed, tested, tested_not, both, below_limit}
+use Rattle.life_table.proofs.Values.{mapped, followed, tested, tested_not, below_limit}
 
 -- ---- tests that were taken
 
@@ -40,10 +40,6 @@ equal a b h = grind (arith, nat_tests)
 equals : (a b : ℕ) → (a == b) ≡ true → a ≡ b
 equals a b h = grind (arith, nat_tests)
 
-both_true : (a b : Bool) → a ≡ true → b ≡ true → (a && b) ≡ true
-both_true true b e f = f
-both_true false b e f = cc
-
 -- ---- the words of descriptors
 
 pub states_are : (word : List ℕ) (n : ℕ) → is_digit_text word ≡ true → value_of word ≡ n → 2 ≤ n → n ≤ 256 → states_named word ≡ Some n
@@ -52,7 +48,7 @@ states_are word n d v l m =
     let high : nat_lt (value_of word) 257 ≡ true = below (value_of word) 257 (omega (arith, v, m)) in
     take_then (nat_le 2 (value_of word)) (number_below 257 word) None low
     ∙ take_then (is_digit_text word && nat_lt (value_of word) 257) (Some (value_of word)) None
-    (both_true (is_digit_text word) (nat_lt (value_of word) 257) d high)
+    (and_from (is_digit_text word) (nat_lt (value_of word) 257) d high)
     ∙ ap Some v
 
 pub states_parsed : (word : List ℕ) (n : ℕ) → states_named word ≡ Some n → (is_digit_text word ≡ true) × (value_of word ≡ n) × (2 ≤ n) × (n ≤ 256)
@@ -61,7 +57,7 @@ states_parsed word n h =
     let b = tested (is_digit_text word && nat_lt (value_of word) 257) (Some (value_of word)) n a.1 in
     let c = below_limit 257 word n a.1 in
     let low : 2 ≤ value_of word = leb-true 2 (value_of word) a.0 in
-    ((both (is_digit_text word) (nat_lt (value_of word) 257) b.0).0, sym c.0, omega (arith, low, c.0), omega (arith, c.1))
+    ((and_parts (is_digit_text word) (nat_lt (value_of word) 257) b.0).0, sym c.0, omega (arith, low, c.0), omega (arith, c.1))
 
 -- a chain of words: the first that fits is what is meant
 one_word : {X : Type 0} (word_of : X → List ℕ) (word own : List ℕ) (x : X) (rest : Option X) → own ≡ word_of x → ((y : X) → rest ≡ Some y → word ≡ word_of y)

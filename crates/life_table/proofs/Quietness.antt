@@ -2,6 +2,7 @@
 use Rattle.std.proofs.Common.{◌≡◌, List, [], ◌∷◌, ◌++◌, Bool, true, false, not, refl, ap, sym, ◌∙◌, ◌||◌}
 use Rattle.std.specs.Prelude.{Some, Result, Ok, Err, if◌then◌else◌}
 use Rattle.std.specs.List.{list_any}
+use Rattle.std.proofs.Math.Bool.{or_assoc}
 use Rattle.life_base.specs.declared.kind.Kind.{Kind}
 use Rattle.life_base.specs.declared.kind.Kind.TheVariants.{UnboundOutput, NotQuiet}
 use Rattle.life_table.specs.Valid.{fits_zero, is_quiet_output, is_quiet}
@@ -21,10 +22,6 @@ step : (fits output rest all any last : Bool) → (if fits then output else rest
 step true true rest all any last q ih = refl
 step true false rest all any last q ih = cc
 step false output rest all any last q ih = ih q
-
-or_assoc : (a b c : Bool) → (a || b || c) ≡ (a || (b || c))
-or_assoc true b c = refl
-or_assoc false b c = refl
 
 more : (vars : List Var) (earlier : List Transition) (line : Transition) → is_quiet vars earlier ≡ true
     → is_quiet vars (earlier ++ line ∷ []) ≡ (list_any (fits_zero vars) earlier || (not (fits_zero vars line) || is_quiet_output line.output))

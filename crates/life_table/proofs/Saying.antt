@@ -1,9 +1,10 @@
 -- What lines say together with one more that breaks no rule.
-use Rattle.std.proofs.Common.{◌≡◌, ℕ, List, [], ◌∷◌, ◌++◌, Bool, true, false, not, refl, ap, sym, ◌∙◌, subst, ◌&&◌, ◌||◌, ◌⊎◌, inl, inr}
+use Rattle.std.proofs.Common.{◌≡◌, ℕ, List, [], ◌∷◌, ◌++◌, Bool, true, false, not, refl, ap, sym, ◌∙◌, subst, ◌&&◌, ◌⊎◌, inl, inr}
 use Rattle.std.specs.Prelude.{Option, Some, None, if◌then◌else◌, is_some, option_to_list, All, codes, bytes_eq}
 use Rattle.std.specs.List.{cons_option}
 use Rattle.std.proofs.lemmas.List.{append-nil}
 use Rattle.std.proofs.lemmas.Slice.Eq.{bytes_eq-Decides}
+use Rattle.std.proofs.lemmas.Bool.{or_cases}
 use Rattle.life_table.specs.Valid.{neighbour_count}
 use Rattle.life_table.specs.Reading.{Numbered, texts_of, parsed_in, is_descriptor, key_of, setting_of, is_states_key, is_neighborhood_key, is_symmetry_key, states_named, neighborhood_named, symmetry_named, states_of, neighborhood_of, symmetry_of, is_variable_line, variable_of, variables_written, variables_in, is_transition_line, transition_of, transitions_written, transitions_in}
 use Rattle.life_table.specs.Reader.{after}
@@ -36,10 +37,6 @@ states_alone key e = let k : key ≡ codes "n_states" = (bytes_eq-Decides key (c
 states_alone_too : (key : List ℕ) → is_states_key key ≡ true → is_symmetry_key key ≡ false
 states_alone_too key e = let k : key ≡ codes "n_states" = (bytes_eq-Decides key (codes "n_states")).0 e in
     subst (λ (w : List ℕ). is_symmetry_key w ≡ false) (sym k) refl
-
-or_cases : (a b : Bool) → (a || b) ≡ true → (a ≡ true) ⊎ (b ≡ true)
-or_cases true b e = inl refl
-or_cases false b e = inr e
 
 neighbors_alone : (key : List ℕ) → is_neighborhood_key key ≡ true → is_symmetry_key key ≡ false
 neighbors_alone key e = elim (or_cases (bytes_eq key (codes "neighborhood")) (bytes_eq key (codes "neighbourhood")) e) [

@@ -7,6 +7,7 @@ use Rattle.std.proofs.Common.{add-one}
 use Rattle.std.proofs.lemmas.Bool.Decides.{eqb_tells}
 use Rattle.std.proofs.lemmas.List.{get_or-set_same, get_or-set_other, drop_all}
 use Rattle.std.proofs.lemmas.List.Sums.{sum_by-cons}
+use Rattle.std.proofs.lemmas.Bool.{or_parts}
 use Rattle.life_table.specs.Meaning.{HasState}
 use Rattle.life_table.specs.Found.{Consistent, Tells, Adds}
 use Rattle.life_table.specs.declared.found.Found.{Found}
@@ -15,7 +16,7 @@ use Rattle.life_table.proofs.Adding.{directives_same, adds_more}
 use Rattle.life_table.specs.Taking.{of_state, free_count, wanted, has_group, IsDistinct, first_variable, AreGroups, Completes, CompletesWith, AreFailed, Takes}
 use Rattle.life_table.proofs.Choices.{changed, changed_same, changed_choice}
 use Rattle.life_table.proofs.Free.{same_state, none_free, no_count, at_place}
-use Rattle.life_table.proofs.Grouping.{of_group, neither, no_group}
+use Rattle.life_table.proofs.Grouping.{of_group, no_group}
 use Rattle.life_table.specs.declared.table.Var.{Var}
 use Rattle.life_table.specs.declared.groups.Group.{Group}
 
@@ -27,7 +28,7 @@ pub wanted_changed : (choice : ℕ → ℕ) (v s t : ℕ) (groups : List Group) 
     ≡ wanted choice groups t
 wanted_changed choice v s t [] h = refl
 wanted_changed choice v s t (g ∷ groups) h =
-    let parts = neither (nat_eq v g.variable) (has_group v groups) h in
+    let parts = or_parts (nat_eq v g.variable) (has_group v groups) h in
     let a = sum_by-cons (of_group (changed choice v s) t) g groups in
     let b = sum_by-cons (of_group choice t) g groups in
     let r = wanted_changed choice v s t groups parts.1 in

@@ -8,12 +8,13 @@ use Rattle.std.proofs.lemmas.List.{get_or_default, get_or-set_same, get_or-set_o
 use Rattle.std.proofs.lemmas.List.Folds.{list_any-append, list_any_more}
 use Rattle.std.proofs.lemmas.List.Sums.{count_by_more_yes, count_by_more_no, sum_by-cons, sum_by-take-drop}
 use Rattle.std.proofs.lemmas.Map.Views.{Contains-from_any}
+use Rattle.std.proofs.lemmas.Bool.{or_cases, or_left, or_right}
 use Rattle.life_table.specs.Index.{is_among, AreCounts, MayBeBehind, MayFit}
 use Rattle.life_table.specs.Orders.{orders}
 use Rattle.life_table.specs.Meaning.{count_of}
 use Rattle.life_table.proofs.Counts.{sum-order, count-order, count-cons, is_one}
-use Rattle.life_table.proofs.Grouping.{either, left_true, right_true, is_clash}
-use Rattle.life_table.proofs.Seeing.{or_left, or_right}
+use Rattle.life_table.proofs.Grouping.{is_clash}
+use Rattle.life_table.proofs.Seeing.{or_left as bits_left, or_right as bits_right}
 use Rattle.life_table.specs.declared.block.Block.{Block}
 use Rattle.life_table.specs.declared.some_order.Counts.{Counts}
 
@@ -56,11 +57,11 @@ order_length v w h = sym (length_is_sum w) ∙ sum-order (λ _. 1) v w h ∙ len
 among_counted : (t : ℕ) (v : List ℕ) → 0 < count_of t v → is_among v t ≡ true
 among_counted t [] h = absurd (omega (arith, h))
 among_counted t (y ∷ ys) h = elim (eqb_tells t y) [
-  | inl same ↦ left_true (nat_eq y t) (is_among ys t) (eq-eqb y t (sym same.1))
+  | inl same ↦ or_left (nat_eq y t) (is_among ys t) (eq-eqb y t (sym same.1))
   | inr other ↦
       let first = count-cons t y ys in
       let none : is_one t y ≡ 0 = ap (λ b. cond b 1 0) other.0 in
-      right_true (nat_eq y t) (is_among ys t) (among_counted t ys (omega (arith, h, first, none)))
+      or_right (nat_eq y t) (is_among ys t) (among_counted t ys (omega (arith, h, first, none)))
 ]
 
 -- what stands in an order of numbers is among them
@@ -76,7 +77,7 @@ among_order v w p order inside =
 module _ (others states : List ℕ) (i count : ℕ) (inside : i < length others)
     (each : (s : ℕ) → is_among (take i others) s ≡ true → is_among (take count states) s ≡ true) where
   one_of : (s : ℕ) → is_among (take (i + 1) others) s ≡ true → (is_among (take i others) s ≡ true) ⊎ (nat_eq (slice_index others i) s ≡ true)
-  one_of s h = either (is_among (take i others) s) (nat_eq (slice_index others i) s) (sym (list_any_more (λ t. nat_eq t s) others i 0 inside) ∙ h)
+  one_of s h = or_cases (is_among (take i others) s) (nat_eq (slice_index others i) s) (sym (list_any_more (λ t. nat_eq t s) others i 0 inside) ∙ h)
 
   pub among_before : is_among (take i others) (slice_index others i) ≡ true → (s : ℕ) → is_among (take (i + 1) others) s ≡ true
       → is_among (take count states) s ≡ true
@@ -94,8 +95,8 @@ module _ (others states : List ℕ) (i count : ℕ) (inside : i < length others)
       let y = slice_index others i in
       ap (λ xs. is_among xs s) (take_more_set states count y room) ∙ list_any-append (λ t. nat_eq t s) (take count states) (y ∷ [])
       ∙ elim (one_of s h) [
-        | inl before ↦ left_true (is_among (take count states) s) (nat_eq y s || false) (each s before)
-        | inr here ↦ right_true (is_among (take count states) s) (nat_eq y s || false) (left_true (nat_eq y s) false here)
+        | inl before ↦ or_left (is_among (take count states) s) (nat_eq y s || false) (each s before)
+        | inr here ↦ or_right (is_among (take count states) s) (nat_eq y s || false) (or_left (nat_eq y s) false here)
       ]
 
 -- one more state is counted
@@ -162,10 +163,10 @@ pair_fits block centre others v k p q set order fit inside before in_set =
     elim (eqb_tells s (slice_index v q)) [
       | inl same ↦
           let P = is_among (s ∷ []) in
-          let is : (t : ℕ) → s ≡ t → P t ≡ true = λ t e. left_true (nat_eq s t) false (eq-eqb s t e) in
+          let is : (t : ℕ) → s ≡ t → P t ≡ true = λ t e. or_left (nat_eq s t) false (eq-eqb s t e) in
           let twice = counted_twice P v q p before inside (is (slice_index v q) same.1) (is s refl) in
           let moved = counts_same P others v order in
-          or_right apart set k (in_set s (among_order others v p order inside) (omega (arith, twice, moved)) (behind block centre v k fit p inside))
-      | inr other ↦ or_left apart set k
+          bits_right apart set k (in_set s (among_order others v p order inside) (omega (arith, twice, moved)) (behind block centre v k fit p inside))
+      | inr other ↦ bits_left apart set k
           (fit.apart (p + 1) (q + 1) (omega (arith, inside)) (omega (arith, before)) (λ e. other.1 (sym (next p) ∙ e ∙ next q)))
     ]

@@ -1,6 +1,6 @@
 -- One more text of the table: what it changes of what is said.
 use Rattle.std.proofs.Common.{◌≡◌, ℕ, ◌+◌, ◌<◌, List, [], ◌∷◌, ◌++◌, map, length, Bool, true, false, not, refl, ap, sym, ◌∙◌, ◌&&◌, ◌⊎◌, inl, inr, arith, cond, eqb, length-append}
-use Rattle.std.proofs.lemmas.Bool.{ltb-true, lt-ltb}
+use Rattle.std.proofs.lemmas.Bool.{ltb-true, lt-ltb, and_right}
 use Rattle.std.specs.Prelude.{Option, Some, None, if◌then◌else◌, option_map, option_and_then, option_to_list, All, nat_lt, bytes_eq}
 use Rattle.std.specs.List.{fold, position_or_len, position, cons_option}
 use Rattle.std.proofs.lemmas.List.Folds.{position_or_len_push}
@@ -59,11 +59,7 @@ pub value_some : {X : Type 0} (is_key : List ℕ → Bool) (named : List ℕ →
 value_some is_key named text e = ap (λ (b : Bool). if b then named (setting_of text) else None) e
 
 pub other_key : (is_key : List ℕ → Bool) (text : List ℕ) → is_key (key_of text) ≡ false → describes_by is_key text ≡ false
-other_key is_key text e = and_false (is_descriptor text) (is_key (key_of text)) e
-  where
-    and_false : (a b : Bool) → b ≡ false → (a && b) ≡ false
-    and_false true b e = e
-    and_false false b e = refl
+other_key is_key text e = and_right (is_descriptor text) (is_key (key_of text)) e
 
 pub this_key : (is_key : List ℕ → Bool) (text : List ℕ) → is_descriptor text ≡ true → is_key (key_of text) ≡ true → describes_by is_key text ≡ true
 this_key is_key text d e = ap (λ (b : Bool). b && is_key (key_of text)) d ∙ e
@@ -208,11 +204,7 @@ AreDescriptors ts = All (λ (t : Numbered). is_descriptor t.1 ≡ true) ts
 
 written_none : (n : ℕ) (vars : List Var) (text : List ℕ) → is_descriptor text ≡ true → written n vars text ≡ []
 written_none n vars text e = ap (λ (b : Bool). if b then option_to_list (variable_of n vars text) else [])
-    (and_not (is_variable_line text) (is_descriptor text) e)
-  where
-    and_not : (a b : Bool) → b ≡ true → (a && not b) ≡ false
-    and_not true b e = ap not e
-    and_not false b e = refl
+    (and_right (is_variable_line text) (not (is_descriptor text)) (ap not e))
 
 no_variables_from : (n : ℕ) (ts : List Numbered) → AreDescriptors ts → fold (λ (vars : List Var) (text : List ℕ). vars ++ written n vars text) [] (texts_of ts)
     ≡ []

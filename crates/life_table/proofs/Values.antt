@@ -3,11 +3,12 @@ use Rattle.std.proofs.Common.{◌≡◌, ℕ, zero, suc, ◌+◌, ◌/◌, ◌%�
 use Rattle.std.specs.Prelude.{Option, Some, None, if◌then◌else◌, is_some, option_map, option_and_then, All, IsTrue, nat_lt, ◌==◌, slice_get, slice_index, bit_or, bytes_eq}
 use Rattle.std.specs.Int.{bit_at}
 use Rattle.std.specs.List.{fold, list_any, position, slice_split, position_or_len, onto_first}
-use Rattle.std.proofs.lemmas.Bool.{ltb-true}
+use Rattle.std.proofs.lemmas.Bool.{ltb-true, and_parts}
 use Rattle.std.proofs.lemmas.Bool.Decides.{eqb_tells}
 use Rattle.std.proofs.lemmas.List.Elements.{All-nil, All-cons, All-head, All-tail, All-take}
 use Rattle.std.proofs.lemmas.Option.{get_or_from_slice_get}
 use Rattle.std.proofs.lemmas.Nat.Bits.{bit_at_or, bit_at-pow_same, bit_at-pow_other, bit_at-zero, bit_at-lt}
+use Rattle.std.proofs.lemmas.List.{get_or_past}
 use Rattle.life_base.specs.Text.{is_digit_text, value_of, trim}
 use Rattle.life_table.specs.Valid.{IsEntry, IsTransition, IsVariable, is_variable}
 use Rattle.life_table.specs.Reading.{entry_of, number_below, variable_named, entries_of, all_some, transition_words, transition_of, transition_from, is_bound, single, union, union_of, states_of_entry, states_listed, between_commas, variable_states, variable_of, is_variable_name, is_list, within_braces, name_text, list_text}
@@ -39,18 +40,13 @@ pub tested_not : {X : Type 0} (b : Bool) (o : Option X) (x : X) → (if b then N
 tested_not true o x h = absurd (let z : ⊥ = cc in z)
 tested_not false o x h = (refl, h)
 
-pub both : (a b : Bool) → (a && b) ≡ true → (a ≡ true) × (b ≡ true)
-both true true h = (refl, refl)
-both true false h = absurd (let z : ⊥ = cc in z)
-both false b h = absurd (let z : ⊥ = cc in z)
-
 -- 2. Entries
 
 pub below_limit : (limit : ℕ) (word : List ℕ) (s : ℕ) → number_below limit word ≡ Some s → (s ≡ value_of word) × (s < limit)
 below_limit limit word s h =
     let t = tested (is_digit_text word && nat_lt (value_of word) limit) (Some (value_of word)) s h in
     let same : value_of word ≡ s = (let e : Some (value_of word) ≡ Some s = t.1 in cc) in
-    let less : value_of word < limit = ltb-true (value_of word) limit (both (is_digit_text word) (nat_lt (value_of word) limit) t.0).1 in
+    let less : value_of word < limit = ltb-true (value_of word) limit (and_parts (is_digit_text word) (nat_lt (value_of word) limit) t.0).1 in
     (sym same, omega (arith, same, less))
 
 fixed_entry : (n : ℕ) (vars : List Var) (word : List ℕ) (e : Entry) → option_map entries.Fixed (number_below n word) ≡ Some e → IsEntry n vars e
@@ -147,13 +143,6 @@ union_at a b (suc (suc zero)) h = refl
 union_at a b (suc (suc (suc zero))) h = refl
 union_at a b (suc (suc (suc (suc k)))) h = absurd (omega (arith, h))
 
-union_past : (a b : List ℕ) (k : ℕ) → 4 ≤ k → slice_index (union a b) k ≡ 0
-union_past a b zero h = absurd (omega (arith, h))
-union_past a b (suc zero) h = absurd (omega (arith, h))
-union_past a b (suc (suc zero)) h = absurd (omega (arith, h))
-union_past a b (suc (suc (suc zero))) h = absurd (omega (arith, h))
-union_past a b (suc (suc (suc (suc k)))) h = refl
-
 abbrev bit_of : List ℕ → ℕ → ℕ
 bit_of states s = bit_at (slice_index states (s / 64)) (s % 64)
 
@@ -164,7 +153,7 @@ union_of_either : (a b : List ℕ) (s : ℕ) → bit_of (union a b) s ≡ 1 → 
 union_of_either a b s h = elim (known (nat_lt (s / 64) 4)) [
   | inl within ↦ one_of (bit_of a s) (bit_of b s) (sym (union_has a b s (ltb-true (s / 64) 4 within)) ∙ h)
   | inr beyond ↦ absurd (
-      let past : slice_index (union a b) (s / 64) ≡ 0 = union_past a b (s / 64) (grind (arith, beyond)) in
+      let past : slice_index (union a b) (s / 64) ≡ 0 = get_or_past (union a b) (s / 64) 0 (grind (arith, beyond)) in
       let none : bit_of (union a b) s ≡ 0 = ap (λ (w : ℕ). bit_at w (s % 64)) past ∙ bit_at-zero (s % 64) in
       omega (arith, none, h))
 ]

@@ -37,7 +37,8 @@ fn put(sets: &mut [u64], i: usize, lines: u64)
 fn put_variable(sets: &mut [u64], var: &Var, p: usize, lines: u64)
     requires room { length sets.old ≡ 2304 }
     requires place { p < 9 }
-    ensures put { (k s : ℕ) → bit_at lines k ≡ 1 → s < 256 → IsTrue (has_state var.now s) → bit_at (slice_index sets.new (256 * p + s)) k ≡ 1 }
+    ensures put { (k s : ℕ) → bit_at lines k ≡ 1 → s < 256 → IsTrue (has_state var.now s)
+        → bit_at (slice_index sets.new (256 * p + s)) k ≡ 1 }
     ensures stay { Stay sets.old sets.new }
 {
     for s in 0..256 {
@@ -72,8 +73,10 @@ fn is_same(entry: Entry, other: Entry) -> bool
 fn lines_with(lines: &[Transition], p: usize, entry: Entry) -> u64
     requires room { length lines.now ≤ 64 }
     requires place { All (λ (line : Transition). p < length line.inputs) lines.now }
-    ensures only { (k : ℕ) (d : Transition) → bit_at result k ≡ 1 → k < length lines.now → entry_at (slice_index_or lines.now k d).inputs p ≡ entry }
-    ensures all { (k : ℕ) (d : Transition) → k < length lines.now → entry_at (slice_index_or lines.now k d).inputs p ≡ entry → bit_at result k ≡ 1 }
+    ensures only { (k : ℕ) (d : Transition) → bit_at result k ≡ 1 → k < length lines.now
+        → entry_at (slice_index_or lines.now k d).inputs p ≡ entry }
+    ensures all { (k : ℕ) (d : Transition) → k < length lines.now
+        → entry_at (slice_index_or lines.now k d).inputs p ≡ entry → bit_at result k ≡ 1 }
 {
     let mut found = 0;
     for (k, line) in lines.iter().enumerate() {
@@ -90,8 +93,10 @@ fn put_place(sets: &mut [u64], vars: &[Var], lines: &[Transition], p: usize)
     requires room { length lines.now ≤ 64 }
     requires place { p < 9 }
     requires inputs { All (λ (line : Transition). p < length line.inputs) lines.now }
-    requires entries { All (λ (line : Transition). All (IsEntry 256 vars.now) line.inputs) lines.now }
-    ensures put { (k : ℕ) (d : Transition) → k < length lines.now → InSets vars.now (entry_at (slice_index_or lines.now k d).inputs p) p k sets.new }
+    requires entries { All (λ (line : Transition). All (IsEntry 256 vars.now) line.inputs)
+        lines.now }
+    ensures put { (k : ℕ) (d : Transition) → k < length lines.now
+        → InSets vars.now (entry_at (slice_index_or lines.now k d).inputs p) p k sets.new }
     ensures stay { Stay sets.old sets.new }
 {
     let mut done = 0;
@@ -128,8 +133,10 @@ impl Block {
     fn put_pairs(&mut self, lines: &[Transition], p: usize)
         requires room { length lines.now ≤ 64 }
         requires place { p < 9 }
-        requires inputs { All (λ (line : Transition). (p < length line.inputs) × (length line.inputs ≤ 9)) lines.now }
-        ensures put { (k : ℕ) (d : Transition) → k < length lines.now → IsApart (slice_index_or lines.now k d).inputs p k self.new.apart }
+        requires inputs { All
+            (λ (line : Transition). (p < length line.inputs) × (length line.inputs ≤ 9)) lines.now }
+        ensures put { (k : ℕ) (d : Transition) → k < length lines.now
+            → IsApart (slice_index_or lines.now k d).inputs p k self.new.apart }
         ensures stay { Stay self.old.apart self.new.apart }
         ensures same { self.new.sets ≡ self.old.sets }
     {
@@ -143,8 +150,10 @@ impl Block {
         requires room { length lines.now ≤ 64 }
         requires few { n ≤ 9 }
         requires inputs { All (λ (line : Transition). length line.inputs ≡ n) lines.now }
-        requires entries { All (λ (line : Transition). All (IsEntry 256 vars.now) line.inputs) lines.now }
-        ensures { (k : ℕ) (d : Transition) → k < length lines.now → HasLine vars.now (slice_index_or lines.now k d).inputs k result }
+        requires entries { All (λ (line : Transition). All (IsEntry 256 vars.now) line.inputs)
+            lines.now }
+        ensures { (k : ℕ) (d : Transition) → k < length lines.now
+            → HasLine vars.now (slice_index_or lines.now k d).inputs k result }
     {
         let mut block = Block {
             sets: [0; 2304],
@@ -172,7 +181,10 @@ impl Block {
     /// The lines whose inputs, each alone, may be these states.
     fn with_states(&self, image: &[State]) -> u64
         requires { length image.now ≤ 9 }
-        ensures { (k : ℕ) → k < 64 → ((p : ℕ) → p < length image.now → slice_index image.now p < 256 → bit_at (slice_index self.now.sets (256 * p + slice_index image.now p)) k ≡ 1) → bit_at result k ≡ 1 }
+        ensures { (k : ℕ) → k < 64 → ((p : ℕ) → p < length image.now
+            → slice_index image.now p < 256
+            → bit_at (slice_index self.now.sets (256 * p + slice_index image.now p)) k ≡ 1)
+            → bit_at result k ≡ 1 }
     {
         let mut lines = u64::MAX;
         for (p, state) in image.iter().enumerate() {
@@ -188,7 +200,9 @@ impl Block {
     fn apart_at(&self, image: &[State], p: usize, lines: u64) -> u64
         requires place { p < length image.now }
         requires few { length image.now ≤ 9 }
-        ensures { (k : ℕ) → k < 64 → bit_at lines k ≡ 1 → ((q : ℕ) → q < p → slice_index image.now p ≢ slice_index image.now q → bit_at (slice_index self.now.apart (9 * p + q)) k ≡ 1) → bit_at result k ≡ 1 }
+        ensures { (k : ℕ) → k < 64 → bit_at lines k ≡ 1
+            → ((q : ℕ) → q < p → slice_index image.now p ≢ slice_index image.now q
+            → bit_at (slice_index self.now.apart (9 * p + q)) k ≡ 1) → bit_at result k ≡ 1 }
     {
         let mut rest = lines;
         for q in 0..p {
@@ -217,7 +231,9 @@ impl Block {
     pub(crate) fn that_may_give(&self, images: &Images, n: usize) -> u64
         requires room { n ≤ 9 }
         requires few { images.now.count ≤ 16 }
-        ensures { (k j : ℕ) → k < 64 → j < images.now.count → MayFit self.now (take n (slice_index_or images.now.cells j [])) k → bit_at result k ≡ 1 }
+        ensures { (k j : ℕ) → k < 64 → j < images.now.count
+            → MayFit self.now (take n (slice_index_or images.now.cells j [])) k
+            → bit_at result k ≡ 1 }
     {
         let mut lines = 0;
         for j in 0..images.count {

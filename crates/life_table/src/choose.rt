@@ -37,7 +37,8 @@ pub(crate) fn allows(vars: &[Var], inputs: &[Entry], given: &[State], s: State) 
     requires short { length given.now < length inputs.now }
     requires entries { All (IsEntry 256 vars.now) inputs.now }
     requires consistent { Consistent vars.now (take (length given.now) inputs.now) given.now }
-    ensures { IsTrue result ↔ Consistent vars.now (take (length given.now + 1) inputs.now) (given.now ++ s ∷ []) }
+    ensures { IsTrue result ↔ Consistent vars.now (take (length given.now + 1) inputs.now)
+        (given.now ++ s ∷ []) }
 {
     match inputs[given.len()] {
         Entry::Fixed(fixed) => fixed == s,
@@ -55,7 +56,8 @@ pub(crate) fn allows(vars: &[Var], inputs: &[Entry], given: &[State], s: State) 
 /// The output, where the inputs are these states.
 pub(crate) fn output_of(line: &Transition, given: &[State]) -> State
     requires whole { length given.now ≡ length line.now.inputs }
-    requires bound { (i : ℕ) → line.now.output ≡ Entry.Var i → IsTrue (list_any (is_variable i) line.now.inputs) }
+    requires bound { (i : ℕ) → line.now.output ≡ Entry.Var i
+        → IsTrue (list_any (is_variable i) line.now.inputs) }
     ensures { (vars : List Var) (s : ℕ) → GivesAs vars line.now given.now s → s ≡ result }
 {
     match line.output {
@@ -75,7 +77,8 @@ pub(crate) fn output_of(line: &Transition, given: &[State]) -> State
 pub(crate) fn with_image(vars: &[Var], line: &Transition, states: &[State], found: Found) -> Found
     requires count { length line.now.inputs ≡ length states.now }
     requires entries { All (IsEntry 256 vars.now) line.now.inputs }
-    requires bound { (i : ℕ) → line.now.output ≡ Entry.Var i → IsTrue (list_any (is_variable i) line.now.inputs) }
+    requires bound { (i : ℕ) → line.now.output ≡ Entry.Var i
+        → IsTrue (list_any (is_variable i) line.now.inputs) }
     requires choosable { Consistent vars.now [] [] }
     ensures { Adds (GivesAs vars.now line.now states.now) found result }
 {
@@ -92,7 +95,8 @@ pub(crate) fn with_image(vars: &[Var], line: &Transition, states: &[State], foun
 pub(crate) fn can_be(vars: &[Var], entry: Entry, s: State) -> bool
     requires entry { IsEntry 256 vars.now entry }
     ensures exact { result ≡ can_be_state vars.now entry s }
-    ensures needed { (choice : ℕ → ℕ) → IsChoice vars.now choice → state_of choice entry ≡ s → IsTrue result }
+    ensures needed { (choice : ℕ → ℕ) → IsChoice vars.now choice → state_of choice entry ≡ s
+        → IsTrue result }
 {
     match entry {
         Entry::Fixed(fixed) => fixed == s,
@@ -104,7 +108,9 @@ pub(crate) fn can_be(vars: &[Var], entry: Entry, s: State) -> bool
 pub(crate) fn by_counts(site: &Site, line: &Transition) -> Found
     requires site { IsSite site.now }
     requires line { IsLineAt site.now line.now }
-    ensures { Tells (GivesByCounts site.now.vars.now line.now (centre_of site.now) (others_of site.now)) result }
+    ensures { Tells
+        (GivesByCounts site.now.vars.now line.now (centre_of site.now) (others_of site.now))
+        result }
 {
     let vars = site.vars;
     let centre = site.cells[0];

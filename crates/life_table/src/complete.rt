@@ -18,7 +18,10 @@ fn with_place(vars: &[Var], group: Group, states: &[State], free: u8, place: usi
     requires place { place < length states.now }
     requires variable { group.variable < length vars.now }
     ensures some { IfSome result (λ rest. Takes vars.now group states.now place free rest) }
-    ensures none { result ≡ None → bit_at free place ≡ 1 → IfSome (slice_get vars.now group.variable) (λ var. HasState var (slice_index states.now place)) → free_count (slice_index states.now place) free states.now < group.times }
+    ensures none { result ≡ None → bit_at free place ≡ 1
+        → IfSome (slice_get vars.now group.variable)
+        (λ var. HasState var (slice_index states.now place))
+        → free_count (slice_index states.now place) free states.now < group.times }
 {
     let s = states[place];
     if free >> place & 1 == 1 && has_state(&vars[group.variable as usize], s) {

@@ -119,7 +119,8 @@ fn is_neighborhood_key(key: &[u8]) -> bool
 /// What a descriptor says, or which rule it breaks.
 #[tactic(auto, unfolding(crate::specs::Reading::parse_descriptor))]
 pub(crate) fn parse_descriptor(parsed: &Parsed, text: &[u8]) -> Result<Directive, Kind>
-    ensures { result ≡ parse_descriptor parsed.now.n_states parsed.now.neighborhood parsed.now.symmetry text.now }
+    ensures { result ≡ parse_descriptor parsed.now.n_states parsed.now.neighborhood
+        parsed.now.symmetry text.now }
 {
     let (key, setting) = split_at_byte(text, b':');
     let (key, word) = (trimmed(key), trimmed(setting));

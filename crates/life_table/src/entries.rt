@@ -64,7 +64,8 @@ impl<'a> Scope<'a> {
     /// The states of the entry that a word writes.
     fn states_named(&self, word: &[u8]) -> Option<[u64; 4]>
         requires most { self.now.n_states ≤ 256 }
-        ensures { result ≡ option_and_then (states_of_entry self.now.vars.now) (entry_of self.now.n_states self.now.vars.now word.now) }
+        ensures { result ≡ option_and_then (states_of_entry self.now.vars.now)
+            (entry_of self.now.n_states self.now.vars.now word.now) }
     {
         states_of_entry(self.vars, self.entry_of(word)?)
     }
@@ -88,7 +89,9 @@ impl<'a> Scope<'a> {
     /// The entries of a text between its commas, if each is one.
     fn between_commas(&self, alloc: Global, text: &[u8]) -> Result<Option<Vec<Entry>>, Kind>
         requires most { self.now.n_states ≤ 256 }
-        ensures ok { IfOk result (λ found. option_map (λ entries. entries.items) found ≡ all_some (map (entry_of self.now.n_states self.now.vars.now) (between_commas text.now))) }
+        ensures ok { IfOk result (λ found. option_map (λ entries. entries.items) found
+            ≡ all_some
+            (map (entry_of self.now.n_states self.now.vars.now) (between_commas text.now))) }
         ensures err { IfErr result (λ kind. kind ≡ Memory) }
     {
         let mut entries = Vec::new(alloc);
@@ -107,7 +110,9 @@ impl<'a> Scope<'a> {
     /// The entries of a text without commas, one for each byte that isn't whitespace, if each is one.
     fn of_bytes(&self, alloc: Global, text: &[u8]) -> Result<Option<Vec<Entry>>, Kind>
         requires most { self.now.n_states ≤ 256 }
-        ensures ok { IfOk result (λ found. option_map (λ entries. entries.items) found ≡ all_some (map (entry_of self.now.n_states self.now.vars.now) (bytes_alone text.now))) }
+        ensures ok { IfOk result (λ found. option_map (λ entries. entries.items) found
+            ≡ all_some
+            (map (entry_of self.now.n_states self.now.vars.now) (bytes_alone text.now))) }
         ensures err { IfErr result (λ kind. kind ≡ Memory) }
     {
         let mut entries = Vec::new(alloc);
@@ -126,7 +131,8 @@ impl<'a> Scope<'a> {
     #[tactic(auto, unfolding(crate::specs::Reading::entries_of))]
     pub(crate) fn entries_of(&self, alloc: Global, text: &[u8]) -> Result<Option<Vec<Entry>>, Kind>
         requires most { self.now.n_states ≤ 256 }
-        ensures ok { IfOk result (λ found. option_map (λ entries. entries.items) found ≡ entries_of self.now.n_states self.now.vars.now text.now) }
+        ensures ok { IfOk result (λ found. option_map (λ entries. entries.items) found
+            ≡ entries_of self.now.n_states self.now.vars.now text.now) }
         ensures err { IfErr result (λ kind. kind ≡ Memory) }
     {
         if has_byte(text, b',') {

@@ -16,9 +16,9 @@ use crate::turn::{image_of, place_before};
 /// The turns, or the reflected ones, in which each input alone may be the neighbour that comes to its place: bit `r` is the turn by `r`.
 fn turns_that_may_fit(seen: &Seen, inputs: &[Entry], reflect: bool) -> u16
     requires { length inputs.now ≤ 8 }
-    ensures { (r : ℕ) → r < 8
-        → ((i : ℕ) → i < length inputs.now → bit_at (places seen.now (slice_index_or inputs.now i (Entry.Fixed 0))) ((if reflect then length inputs.now - i else i) + r) ≡ 1)
-        → bit_at result r ≡ 1 }
+    ensures { (r : ℕ) → r < 8 → ((i : ℕ) → i < length inputs.now
+        → bit_at (places seen.now (slice_index_or inputs.now i (Entry.Fixed 0)))
+        ((if reflect then length inputs.now - i else i) + r) ≡ 1) → bit_at result r ≡ 1 }
 {
     let mut fits = 255;
     for (i, entry) in inputs.iter().enumerate() {
@@ -36,7 +36,9 @@ fn with_turns(site: &Site, line: &Transition, reflect: bool, found: Found) -> Fo
     requires site { IsSite site.now }
     requires line { IsLineAt site.now line.now }
     requires turns { GoesRound site.now }
-    ensures { Adds (SomeGives site.now.vars.now line.now (map (λ v. centre_of site.now ∷ v) (if reflect then reflected_turns (others_of site.now) site.now.ways.step else turns (others_of site.now) site.now.ways.step))) found result }
+    ensures { Adds (SomeGives site.now.vars.now line.now (map (λ v. centre_of site.now ∷ v)
+        (if reflect then reflected_turns (others_of site.now) site.now.ways.step else turns
+        (others_of site.now) site.now.ways.step))) found result }
 {
     let inputs = line.inputs.as_slice();
     let fits = turns_that_may_fit(site.seen, &inputs[1..], reflect);
@@ -57,7 +59,9 @@ pub(crate) fn by_images(site: &Site, line: &Transition) -> Found
     requires site { IsSite site.now }
     requires line { IsLineAt site.now line.now }
     requires turns { GoesRound site.now }
-    ensures { Tells (SomeGives site.now.vars.now line.now (map (λ v. centre_of site.now ∷ v) (family site.now.ways.reflect site.now.ways.step (others_of site.now)))) result }
+    ensures { Tells (SomeGives site.now.vars.now line.now
+        (map (λ v. centre_of site.now ∷ v)
+        (family site.now.ways.reflect site.now.ways.step (others_of site.now)))) result }
 {
     let found = with_turns(site, line, false, Found::Nothing);
     if site.ways.reflect {

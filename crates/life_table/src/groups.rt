@@ -41,8 +41,11 @@ pub(crate) fn free_after(
 ) -> Option<u8>
     requires { length states.now ≤ 8 }
     ensures below { IfSome result (λ free. free < 2 ^ length states.now) }
-    ensures counts { IfSome result (λ free. (t : ℕ) → settled_count first centre t inputs.now + free_count t free states.now ≡ count_of t states.now) }
-    ensures none { result ≡ None → (t : ℕ) × (count_of t states.now < settled_count first centre t inputs.now) }
+    ensures counts { IfSome result (λ free. (t : ℕ)
+        → settled_count first centre t inputs.now + free_count t free states.now
+        ≡ count_of t states.now) }
+    ensures none { result ≡ None → (t : ℕ)
+        × (count_of t states.now < settled_count first centre t inputs.now) }
 {
     let mut free = all_free(states.len());
     for entry in inputs {

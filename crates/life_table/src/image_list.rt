@@ -37,7 +37,10 @@ impl Images {
         requires positive { 0 < ways.step }
         requires turns { ways.count ≡ (length cells.now - 1) / ways.step }
         ensures few { result.count ≤ 16 }
-        ensures each { (v : List ℕ) → Contains (family ways.reflect ways.step (drop 1 cells.now)) v → (j : ℕ) × (j < result.count) × (take (length cells.now) (slice_index_or result.cells j []) ≡ slice_index cells.now 0 ∷ v) }
+        ensures each { (v : List ℕ)
+            → Contains (family ways.reflect ways.step (drop 1 cells.now)) v
+            → (j : ℕ) × (j < result.count) × (take (length cells.now)
+            (slice_index_or result.cells j []) ≡ slice_index cells.now 0 ∷ v) }
     {
         let mut images = [[0; 9]; 16];
         let count = if ways.reflect {

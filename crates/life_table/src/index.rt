@@ -55,12 +55,18 @@ fn answer_among(
 ) -> Option<Result<State, Fault>>
     requires site { IsSite site.now }
     requires turns { GoesRound site.now }
-    requires images { symmetry ≢ Symmetry.Permute → images symmetry (others_of site.now) ≡ family site.now.ways.reflect site.now.ways.step (others_of site.now) }
+    requires images { symmetry ≢ Symmetry.Permute
+        → images symmetry (others_of site.now)
+        ≡ family site.now.ways.reflect site.now.ways.step (others_of site.now) }
     requires lines { All (IsLineAt site.now) lines.now }
     requires from { from ≤ length lines.now }
-    requires may { MayGive symmetry site.now.vars.now (centre_of site.now) (others_of site.now) lines.now from may }
-    requires silent { All (GivesNothing symmetry site.now.vars.now (centre_of site.now) (others_of site.now)) (take from lines.now) }
-    ensures { AnswersAmong symmetry site.now.vars.now (centre_of site.now) (others_of site.now) lines.now (from + 64) result }
+    requires may { MayGive symmetry site.now.vars.now (centre_of site.now) (others_of site.now)
+        lines.now from may }
+    requires silent { All
+        (GivesNothing symmetry site.now.vars.now (centre_of site.now) (others_of site.now))
+        (take from lines.now) }
+    ensures { AnswersAmong symmetry site.now.vars.now (centre_of site.now) (others_of site.now)
+        lines.now (from + 64) result }
 {
     for k in 0..LINES.min(lines.len() - from) {
         if may >> k == 0 {
@@ -94,9 +100,12 @@ pub(crate) enum Query {
 fn query_of(symmetry: Symmetry, site: &Site) -> Query
     requires site { IsSite site.now }
     requires turns { GoesRound site.now }
-    requires images { symmetry ≢ Symmetry.Permute → images symmetry (others_of site.now) ≡ family site.now.ways.reflect site.now.ways.step (others_of site.now) }
+    requires images { symmetry ≢ Symmetry.Permute
+        → images symmetry (others_of site.now)
+        ≡ family site.now.ways.reflect site.now.ways.step (others_of site.now) }
     ensures query { IsQuery site.now result }
-    ensures asks { (v : List ℕ) → Contains (images symmetry (others_of site.now)) v → Asks site.now result v }
+    ensures asks { (v : List ℕ) → Contains (images symmetry (others_of site.now)) v
+        → Asks site.now result v }
 {
     match symmetry {
         Symmetry::Permute => Query::Counts(Counts::of(&site.cells[1..])),
@@ -109,7 +118,8 @@ fn of_block(site: &Site, block: &Block, query: &Query) -> u64
     requires some { 0 < length site.now.cells.now }
     requires room { length site.now.cells.now ≤ 9 }
     requires query { IsQuery site.now query.now }
-    ensures { (k : ℕ) (v : List ℕ) → k < 64 → Asks site.now query.now v → MayFit block.now (centre_of site.now ∷ v) k → bit_at result k ≡ 1 }
+    ensures { (k : ℕ) (v : List ℕ) → k < 64 → Asks site.now query.now v
+        → MayFit block.now (centre_of site.now ∷ v) k → bit_at result k ≡ 1 }
 {
     match query {
         Query::Images(turned) => block.that_may_give(turned, site.cells.len()),
@@ -126,10 +136,13 @@ fn answer_by_blocks(
 ) -> Option<Result<State, Fault>>
     requires site { IsSite site.now }
     requires turns { GoesRound site.now }
-    requires images { symmetry ≢ Symmetry.Permute → images symmetry (others_of site.now) ≡ family site.now.ways.reflect site.now.ways.step (others_of site.now) }
+    requires images { symmetry ≢ Symmetry.Permute
+        → images symmetry (others_of site.now)
+        ≡ family site.now.ways.reflect site.now.ways.step (others_of site.now) }
     requires lines { All (IsLineAt site.now) lines.now }
     requires blocks { AreBlocks site.now.vars.now lines.now blocks.now }
-    ensures { AnswersAmong symmetry site.now.vars.now (centre_of site.now) (others_of site.now) lines.now (length lines.now) result }
+    ensures { AnswersAmong symmetry site.now.vars.now (centre_of site.now) (others_of site.now)
+        lines.now (length lines.now) result }
 {
     let query = query_of(symmetry, site);
     for b in 0..lines.len() / LINES + 1 {
@@ -147,11 +160,14 @@ fn answer_by_blocks(
 
 /// The next state of a cell by a table and blocks of its lines.
 fn next_by_blocks(table: &Table, blocks: &[Block], around: &Neighbours) -> Result<State, Fault>
-    requires neighbours { length (cells_of around.now) ≡ neighbour_count table.now.neighborhood + 1 }
+    requires neighbours { length (cells_of around.now)
+        ≡ neighbour_count table.now.neighborhood + 1 }
     requires blocks { AreBlocks table.now.vars table.now.lines blocks.now }
-    ensures { MatchResult result
-        (λ s. Decides table.now.symmetry table.now.vars (slice_index (cells_of around.now) 0) (drop 1 (cells_of around.now)) table.now.lines (Becomes s))
-        (λ fault. (fault.kind ≡ Kind.Ambiguous) × Decides table.now.symmetry table.now.vars (slice_index (cells_of around.now) 0) (drop 1 (cells_of around.now)) table.now.lines (Ambiguous fault.place.line)) }
+    ensures { MatchResult result (λ s. Decides table.now.symmetry table.now.vars
+        (slice_index (cells_of around.now) 0) (drop 1 (cells_of around.now)) table.now.lines
+        (Becomes s)) (λ fault. (fault.kind ≡ Kind.Ambiguous)
+        × Decides table.now.symmetry table.now.vars (slice_index (cells_of around.now) 0)
+        (drop 1 (cells_of around.now)) table.now.lines (Ambiguous fault.place.line)) }
 {
     let cells = around.as_slice();
     let vars = table.vars.as_slice();
@@ -214,11 +230,14 @@ impl<'a> Index<'a> {
     ///
     /// `Ambiguous`, as there.
     pub fn next(&self, around: &Neighbours) -> Result<State, Fault>
-        requires neighbours { length (cells_of around.now) ≡ neighbour_count self.now.neighborhood + 1 }
+        requires neighbours { length (cells_of around.now)
+            ≡ neighbour_count self.now.neighborhood + 1 }
         requires states { All (λ s. s < self.now.n_states) (cells_of around.now) }
-        ensures { MatchResult result
-            (λ s. Decides self.now.symmetry self.now.vars (slice_index (cells_of around.now) 0) (drop 1 (cells_of around.now)) self.now.lines (Becomes s))
-            (λ fault. (fault.kind ≡ Kind.Ambiguous) × Decides self.now.symmetry self.now.vars (slice_index (cells_of around.now) 0) (drop 1 (cells_of around.now)) self.now.lines (Ambiguous fault.place.line)) }
+        ensures { MatchResult result (λ s. Decides self.now.symmetry self.now.vars
+            (slice_index (cells_of around.now) 0) (drop 1 (cells_of around.now)) self.now.lines
+            (Becomes s)) (λ fault. (fault.kind ≡ Kind.Ambiguous)
+            × Decides self.now.symmetry self.now.vars (slice_index (cells_of around.now) 0)
+            (drop 1 (cells_of around.now)) self.now.lines (Ambiguous fault.place.line)) }
     {
         if self.blocks.is_empty() {
             return self.table.next(around);

@@ -18,7 +18,8 @@ use std::alloc::Global;
 
 /// What stands behind `@RULE`, where that is followed by whitespace.
 fn text_of_rule_line(line: &[u8]) -> Option<&[u8]>
-    ensures { MatchOption result (begins_rule_line line.now ≡ false) (λ text. (begins_rule_line line.now ≡ true) × (text.now ≡ drop 5 line.now)) }
+    ensures { MatchOption result (begins_rule_line line.now ≡ false)
+        (λ text. (begins_rule_line line.now ≡ true) × (text.now ≡ drop 5 line.now)) }
 {
     match line {
         [b'@', b'R', b'U', b'L', b'E', text @ ..] => match text {
@@ -90,7 +91,8 @@ impl TableLines {
     ) -> Result<Directive, Kind>
         requires most { n_states ≤ 256 }
         requires kept { IsKept self.now.parsed self.now.fits }
-        ensures { Answers result (parse_settled n_states neighborhood self.now.parsed.vars self.now.parsed.lines number text.now) }
+        ensures { Answers result (parse_settled n_states neighborhood self.now.parsed.vars
+            self.now.parsed.lines number text.now) }
     {
         let vars = &self.parsed.vars;
         if is_variable_line(text) {
@@ -108,7 +110,9 @@ impl TableLines {
     /// What a variable or a transition says.
     fn parse_rest(&self, alloc: Global, number: u64, text: &[u8]) -> Result<Directive, Kind>
         requires kept { IsKept self.now.parsed self.now.fits }
-        ensures { Answers result (parse_rest self.now.parsed.n_states self.now.parsed.neighborhood self.now.parsed.symmetry self.now.parsed.vars self.now.parsed.lines number text.now) }
+        ensures { Answers result (parse_rest self.now.parsed.n_states
+            self.now.parsed.neighborhood self.now.parsed.symmetry self.now.parsed.vars
+            self.now.parsed.lines number text.now) }
     {
         let parsed = &self.parsed;
         match (parsed.n_states, parsed.neighborhood, parsed.symmetry) {

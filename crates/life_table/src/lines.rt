@@ -44,9 +44,11 @@ impl TableLines {
 
     /// Keeps what a line says.
     fn keep(&mut self, directive: Directive) -> Result<(), Kind>
-        requires unnamed { (var : Var) → directive ≡ Directive.Variable var → variable_named self.old.parsed.vars var.name ≡ None }
+        requires unnamed { (var : Var) → directive ≡ Directive.Variable var
+            → variable_named self.old.parsed.vars var.name ≡ None }
         ensures parsed { OnOk result (self.new.parsed ≡ after self.old.parsed directive) }
-        ensures fits { OnOk result (self.new.fits ≡ fits_after self.old.fits self.old.parsed.vars directive) }
+        ensures fits { OnOk result
+            (self.new.fits ≡ fits_after self.old.fits self.old.parsed.vars directive) }
         ensures err { IfErr result (λ kind. kind ≡ Memory) }
     {
         match directive {
@@ -70,9 +72,13 @@ impl TableLines {
     #[tactic(auto, using(crate::proofs::Unnamed::unnamed))]
     pub(crate) fn line(&mut self, alloc: Global, number: u64, line: &[u8]) -> Result<(), Fault>
         requires kept { IsKept self.old.parsed self.old.fits }
-        ensures ok { OnOk result ((directive : Directive) × (parse_line self.old.parsed number line.now ≡ Ok directive) × (self.new.parsed ≡ after self.old.parsed directive)
+        ensures ok { OnOk result ((directive : Directive)
+            × (parse_line self.old.parsed number line.now ≡ Ok directive)
+            × (self.new.parsed ≡ after self.old.parsed directive)
             × (self.new.fits ≡ fits_after self.old.fits self.old.parsed.vars directive)) }
-        ensures err { IfErr result (λ fault. OrMemory fault ((parse_line self.old.parsed number line.now ≡ Err fault.kind) × (fault.place.line ≡ number))) }
+        ensures err { IfErr result (λ fault. OrMemory fault
+            ((parse_line self.old.parsed number line.now ≡ Err fault.kind)
+            × (fault.place.line ≡ number))) }
     {
         match self.parse_line(alloc, number, line) {
             Ok(directive) => Ok(self.keep(directive)?),

@@ -41,8 +41,12 @@ pub(crate) fn given_by(symmetry: Symmetry, site: &Site, line: &Transition) -> Fo
     requires site { IsSite site.now }
     requires line { IsLineAt site.now line.now }
     requires turns { GoesRound site.now }
-    requires images { symmetry ≢ Symmetry.Permute → images symmetry (others_of site.now) ≡ family site.now.ways.reflect site.now.ways.step (others_of site.now) }
-    ensures { Tells (Gives symmetry site.now.vars.now line.now (centre_of site.now) (others_of site.now)) result }
+    requires images { symmetry ≢ Symmetry.Permute
+        → images symmetry (others_of site.now)
+        ≡ family site.now.ways.reflect site.now.ways.step (others_of site.now) }
+    ensures { Tells
+        (Gives symmetry site.now.vars.now line.now (centre_of site.now) (others_of site.now))
+        result }
 {
     if !can_be(site.vars, line.inputs.as_slice()[0], site.cells[0]) {
         return Found::Nothing;
@@ -60,11 +64,14 @@ impl Table {
     ///
     /// `Ambiguous` where that line gives two states, with the number of the line in the table's file.
     pub fn next(&self, around: &Neighbours) -> Result<State, Fault>
-        requires neighbours { length (cells_of around.now) ≡ neighbour_count self.now.neighborhood + 1 }
+        requires neighbours { length (cells_of around.now)
+            ≡ neighbour_count self.now.neighborhood + 1 }
         requires states { All (λ s. s < self.now.n_states) (cells_of around.now) }
-        ensures { MatchResult result
-            (λ s. Decides self.now.symmetry self.now.vars (slice_index (cells_of around.now) 0) (drop 1 (cells_of around.now)) self.now.lines (Becomes s))
-            (λ fault. (fault.kind ≡ Kind.Ambiguous) × Decides self.now.symmetry self.now.vars (slice_index (cells_of around.now) 0) (drop 1 (cells_of around.now)) self.now.lines (Ambiguous fault.place.line)) }
+        ensures { MatchResult result (λ s. Decides self.now.symmetry self.now.vars
+            (slice_index (cells_of around.now) 0) (drop 1 (cells_of around.now)) self.now.lines
+            (Becomes s)) (λ fault. (fault.kind ≡ Kind.Ambiguous)
+            × Decides self.now.symmetry self.now.vars (slice_index (cells_of around.now) 0)
+            (drop 1 (cells_of around.now)) self.now.lines (Ambiguous fault.place.line)) }
     {
         let cells = around.as_slice();
         let vars = self.vars.as_slice();

@@ -16,7 +16,8 @@ pub(crate) fn all_free(count: usize) -> u8
 pub(crate) fn without_one(states: &[State], free: u8, s: State) -> Option<u8>
     requires { length states.now ≤ 8 }
     ensures less { IfSome result (λ rest. rest ≤ free) }
-    ensures counts { IfSome result (λ rest. (t : ℕ) → free_count t free states.now ≡ of_state t s 1 + free_count t rest states.now) }
+    ensures counts { IfSome result (λ rest. (t : ℕ)
+        → free_count t free states.now ≡ of_state t s 1 + free_count t rest states.now) }
     ensures none { result ≡ None → free_count s free states.now ≡ 0 }
 {
     for (place, state) in states.iter().enumerate() {
@@ -31,7 +32,8 @@ pub(crate) fn without_one(states: &[State], free: u8, s: State) -> Option<u8>
 pub(crate) fn without(states: &[State], free: u8, s: State, times: u8) -> Option<u8>
     requires { length states.now ≤ 8 }
     ensures less { IfSome result (λ rest. rest ≤ free) }
-    ensures counts { IfSome result (λ rest. (t : ℕ) → free_count t free states.now ≡ of_state t s times + free_count t rest states.now) }
+    ensures counts { IfSome result (λ rest. (t : ℕ)
+        → free_count t free states.now ≡ of_state t s times + free_count t rest states.now) }
     ensures none { result ≡ None → free_count s free states.now < times }
 {
     let mut rest = free;

@@ -18,7 +18,8 @@ use std::alloc::Global;
 fn table_of(alloc: Global, parsed: Parsed, end: u64) -> Result<Table, Fault>
     requires good { IsGood parsed }
     ensures ok { IfOk result (λ table. (lacking parsed ≡ None) × Describes parsed table) }
-    ensures err { IfErr result (λ fault. OrMemory fault ((lacking parsed ≡ Some fault.kind) × (fault.place.line ≡ end))) }
+    ensures err { IfErr result
+        (λ fault. OrMemory fault ((lacking parsed ≡ Some fault.kind) × (fault.place.line ≡ end))) }
 {
     let Parsed {
         name,

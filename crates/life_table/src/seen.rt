@@ -21,7 +21,8 @@ pub(crate) struct Seen {
 /// The neighbours, and then again those from the first on.
 fn round(others: &[State]) -> [State; 16]
     requires { 0 < length others.now }
-    ensures { (k : ℕ) → k < 16 → slice_index result k ≡ slice_index others.now (k % length others.now) }
+    ensures { (k : ℕ) → k < 16
+        → slice_index result k ≡ slice_index others.now (k % length others.now) }
 {
     let mut around = [0; 16];
     for k in 0..16 {
@@ -43,7 +44,8 @@ fn places_of_states(around: &[State; 16]) -> [u16; 256]
 
 /// The places where a state of the variable stands.
 fn places_of_variable(var: &Var, around: &[State; 16]) -> u16
-    ensures { (k : ℕ) → k < 16 → IsTrue (has_state var.now (slice_index around.now k)) → bit_at result k ≡ 1 }
+    ensures { (k : ℕ) → k < 16 → IsTrue (has_state var.now (slice_index around.now k))
+        → bit_at result k ≡ 1 }
 {
     let mut places = 0;
     for k in 0..16 {
@@ -56,7 +58,9 @@ fn places_of_variable(var: &Var, around: &[State; 16]) -> u16
 
 /// For each of the first variables, the places where its states stand.
 fn places_of_variables(vars: &[Var], around: &[State; 16]) -> [u16; LISTED]
-    ensures { (i k : ℕ) → i < length vars.now → i < LISTED → k < 16 → (var : Var) → var ≡ slice_index_or vars.now i var → IsTrue (has_state var (slice_index around.now k)) → bit_at (slice_index result i) k ≡ 1 }
+    ensures { (i k : ℕ) → i < length vars.now → i < LISTED → k < 16 → (var : Var)
+        → var ≡ slice_index_or vars.now i var → IsTrue (has_state var (slice_index around.now k))
+        → bit_at (slice_index result i) k ≡ 1 }
 {
     let mut places = [0; LISTED];
     for i in 0..vars.len().min(LISTED) {
@@ -80,7 +84,8 @@ impl Seen {
 
     /// Nothing is told: each entry may be each neighbour.
     fn untold() -> Seen
-        ensures { (vars : List Var) (others : List ℕ) → ((i : ℕ) → slice_index others i < 256) → IsSeen vars others result }
+        ensures { (vars : List Var) (others : List ℕ) → ((i : ℕ) → slice_index others i < 256)
+            → IsSeen vars others result }
     {
         Seen {
             fixed: [u16::MAX; 256],
@@ -118,8 +123,10 @@ impl Seen {
 
     /// Tells whether each entry may be some neighbour, and each neighbour some entry.
     pub(crate) fn may_take_all(&self, inputs: &[Entry]) -> bool
-        ensures { ((i : ℕ) → i < length inputs.now → places self.now (slice_index_or inputs.now i (Entry.Fixed 0)) ≢ 0)
-            → ((k : ℕ) → k < 16 → (i : ℕ) × (i < length inputs.now) × (bit_at (places self.now (slice_index_or inputs.now i (Entry.Fixed 0))) k ≡ 1))
+        ensures { ((i : ℕ) → i < length inputs.now
+            → places self.now (slice_index_or inputs.now i (Entry.Fixed 0)) ≢ 0)
+            → ((k : ℕ) → k < 16 → (i : ℕ) × (i < length inputs.now)
+            × (bit_at (places self.now (slice_index_or inputs.now i (Entry.Fixed 0))) k ≡ 1))
             → IsTrue result }
     {
         let mut taken = 0;

@@ -76,7 +76,8 @@ fn chosen(states: &[State], bits: usize) -> ([State; 8], usize)
 fn count_set(reached: &mut [u64; 9], set: u64, to: usize)
     requires { to ≤ 8 }
     ensures stay { Stay reached.old reached.new }
-    ensures more { (k c : ℕ) → c < to → bit_at (slice_index reached.old c) k ≡ 1 → bit_at set k ≡ 1 → bit_at (slice_index reached.new (c + 1)) k ≡ 1 }
+    ensures more { (k c : ℕ) → c < to → bit_at (slice_index reached.old c) k ≡ 1
+        → bit_at set k ≡ 1 → bit_at (slice_index reached.new (c + 1)) k ≡ 1 }
 {
     for c in (0..to).rev() {
         reached[c + 1] |= reached[c] & set;
@@ -87,7 +88,10 @@ impl Block {
     /// The lines whose input at place `p` may be one of these states.
     fn with_input_among(&self, p: usize, states: &[State]) -> u64
         requires { p < 9 }
-        ensures { (k i : ℕ) → i < length states.now → (slice_index states.now i < 256 → bit_at (slice_index self.now.sets (256 * p + slice_index states.now i)) k ≡ 1) → bit_at result k ≡ 1 }
+        ensures { (k i : ℕ) → i < length states.now
+            → (slice_index states.now i < 256
+            → bit_at (slice_index self.now.sets (256 * p + slice_index states.now i)) k ≡ 1)
+            → bit_at result k ≡ 1 }
     {
         let mut lines = 0;
         for s in states {
@@ -100,7 +104,8 @@ impl Block {
     fn with_inputs_among(&self, n: usize, states: &[State], times: usize) -> u64
         requires room { n ≤ 8 }
         requires few { times ≤ n }
-        ensures { (k : ℕ) (v : List ℕ) → k < 64 → length v ≡ n → MayBeBehind self.now v k → times ≤ count_by (is_among states.now) v → bit_at result k ≡ 1 }
+        ensures { (k : ℕ) (v : List ℕ) → k < 64 → length v ≡ n → MayBeBehind self.now v k
+            → times ≤ count_by (is_among states.now) v → bit_at result k ≡ 1 }
     {
         let mut reached = [0; 9];
         reached[0] = u64::MAX;
@@ -114,7 +119,8 @@ impl Block {
     /// The lines that have inputs enough for the neighbours of these states.
     fn with_enough_among(&self, others: &[State], states: &[State]) -> u64
         requires { length others.now ≤ 8 }
-        ensures { (k : ℕ) (v : List ℕ) → k < 64 → Contains (orders others.now) v → MayBeBehind self.now v k → bit_at result k ≡ 1 }
+        ensures { (k : ℕ) (v : List ℕ) → k < 64 → Contains (orders others.now) v
+            → MayBeBehind self.now v k → bit_at result k ≡ 1 }
     {
         let times = count_among(others, states);
         self.with_inputs_among(others.len(), states, times)
@@ -124,7 +130,8 @@ impl Block {
     fn with_each_input(&self, others: &[State], counts: &Counts, lines: u64) -> u64
         requires room { length others.now ≤ 8 }
         requires counts { AreCounts others.now counts.now }
-        ensures { (k : ℕ) (v : List ℕ) → k < 64 → Contains (orders others.now) v → MayBeBehind self.now v k → bit_at lines k ≡ 1 → bit_at result k ≡ 1 }
+        ensures { (k : ℕ) (v : List ℕ) → k < 64 → Contains (orders others.now) v
+            → MayBeBehind self.now v k → bit_at lines k ≡ 1 → bit_at result k ≡ 1 }
     {
         let mut rest = lines;
         for p in 0..others.len() {
@@ -140,7 +147,8 @@ impl Block {
     fn with_each_state(&self, others: &[State], counts: &Counts, lines: u64) -> u64
         requires room { length others.now ≤ 8 }
         requires counts { AreCounts others.now counts.now }
-        ensures { (k : ℕ) (v : List ℕ) → k < 64 → Contains (orders others.now) v → MayBeBehind self.now v k → bit_at lines k ≡ 1 → bit_at result k ≡ 1 }
+        ensures { (k : ℕ) (v : List ℕ) → k < 64 → Contains (orders others.now) v
+            → MayBeBehind self.now v k → bit_at lines k ≡ 1 → bit_at result k ≡ 1 }
     {
         let mut rest = lines;
         for i in 0..counts.count {
@@ -156,7 +164,10 @@ impl Block {
     fn with_input_of_two(&self, counts: &Counts, p: usize) -> u64
         requires place { p < 9 }
         requires few { counts.now.count ≤ 8 }
-        ensures { (k i : ℕ) → i < counts.now.count → 1 < slice_index counts.now.times i → (slice_index counts.now.states i < 256 → bit_at (slice_index self.now.sets (256 * p + slice_index counts.now.states i)) k ≡ 1) → bit_at result k ≡ 1 }
+        ensures { (k i : ℕ) → i < counts.now.count → 1 < slice_index counts.now.times i
+            → (slice_index counts.now.states i < 256
+            → bit_at (slice_index self.now.sets (256 * p + slice_index counts.now.states i)) k
+            ≡ 1) → bit_at result k ≡ 1 }
     {
         let mut lines = 0;
         for i in 0..counts.count {
@@ -173,7 +184,8 @@ impl Block {
         requires place { p < length others.now }
         requires room { length others.now ≤ 8 }
         requires counts { AreCounts others.now counts.now }
-        ensures { (k centre : ℕ) (v : List ℕ) → k < 64 → Contains (orders others.now) v → MayFit self.now (centre ∷ v) k → bit_at lines k ≡ 1 → bit_at result k ≡ 1 }
+        ensures { (k centre : ℕ) (v : List ℕ) → k < 64 → Contains (orders others.now) v
+            → MayFit self.now (centre ∷ v) k → bit_at lines k ≡ 1 → bit_at result k ≡ 1 }
     {
         let of_two = self.with_input_of_two(counts, p + 1);
         let mut rest = lines;
@@ -187,7 +199,8 @@ impl Block {
     fn with_pairs(&self, others: &[State], counts: &Counts, lines: u64) -> u64
         requires room { length others.now ≤ 8 }
         requires counts { AreCounts others.now counts.now }
-        ensures { (k centre : ℕ) (v : List ℕ) → k < 64 → Contains (orders others.now) v → MayFit self.now (centre ∷ v) k → bit_at lines k ≡ 1 → bit_at result k ≡ 1 }
+        ensures { (k centre : ℕ) (v : List ℕ) → k < 64 → Contains (orders others.now) v
+            → MayFit self.now (centre ∷ v) k → bit_at lines k ≡ 1 → bit_at result k ≡ 1 }
     {
         let mut rest = lines;
         for p in 0..others.len() {
@@ -202,7 +215,8 @@ impl Block {
     fn with_all_but_one(&self, others: &[State], states: &[State], lines: u64) -> u64
         requires room { length others.now ≤ 8 }
         requires few { length states.now ≤ 8 }
-        ensures { (k : ℕ) (v : List ℕ) → k < 64 → Contains (orders others.now) v → MayBeBehind self.now v k → bit_at lines k ≡ 1 → bit_at result k ≡ 1 }
+        ensures { (k : ℕ) (v : List ℕ) → k < 64 → Contains (orders others.now) v
+            → MayBeBehind self.now v k → bit_at lines k ≡ 1 → bit_at result k ≡ 1 }
     {
         let mut rest = lines;
         for i in 0..states.len() {
@@ -219,7 +233,8 @@ impl Block {
     fn with_every_choice(&self, others: &[State], states: &[State], lines: u64) -> u64
         requires room { length others.now ≤ 8 }
         requires few { length states.now ≤ 8 }
-        ensures { (k : ℕ) (v : List ℕ) → k < 64 → Contains (orders others.now) v → MayBeBehind self.now v k → bit_at lines k ≡ 1 → bit_at result k ≡ 1 }
+        ensures { (k : ℕ) (v : List ℕ) → k < 64 → Contains (orders others.now) v
+            → MayBeBehind self.now v k → bit_at lines k ≡ 1 → bit_at result k ≡ 1 }
     {
         let mut rest = lines;
         for bits in 1..1 << states.len() {

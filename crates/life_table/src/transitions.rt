@@ -34,7 +34,8 @@ pub(crate) fn transition_of(
     text: &[u8],
 ) -> Result<Option<Transition>, Kind>
     requires most { n_states ≤ 256 }
-    ensures ok { IfOk result (λ found. found ≡ transition_of n_states (neighbour_count neighborhood) vars.now number text.now) }
+    ensures ok { IfOk result (λ found. found ≡ transition_of n_states
+        (neighbour_count neighborhood) vars.now number text.now) }
     ensures err { IfErr result (λ kind. kind ≡ Memory) }
 {
     let scope = Scope { n_states, vars };
@@ -114,7 +115,8 @@ fn is_quiet_output(output: Entry) -> bool
 
 /// Whether a transition keeps the table quiet, where this tells whether an earlier one fits the neighbourhood in which each cell is 0.
 fn stays_quiet(vars: &Variables, fits: bool, line: &Transition) -> bool
-    ensures { result ≡ (fits || not (fits_zero vars.now line.now) || is_quiet_output line.now.output) }
+    ensures { result ≡ (fits || not (fits_zero vars.now line.now) || is_quiet_output
+        line.now.output) }
 {
     fits || !fits_zero(vars, line.inputs.as_slice()) || is_quiet_output(line.output)
 }
@@ -126,8 +128,8 @@ pub(crate) fn parse_transition(
     fits: bool,
     line: Transition,
 ) -> Result<Directive, Kind>
-    ensures { (earlier : List Transition) → fits ≡ list_any (fits_zero vars.now) earlier → is_quiet vars.now earlier ≡ true
-        → result ≡ if_transition vars.now earlier (Some line) }
+    ensures { (earlier : List Transition) → fits ≡ list_any (fits_zero vars.now) earlier
+        → is_quiet vars.now earlier ≡ true → result ≡ if_transition vars.now earlier (Some line) }
 {
     if !is_bound(line.inputs.as_slice(), line.output) {
         return Err(Kind::UnboundOutput);

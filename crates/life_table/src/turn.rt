@@ -26,7 +26,9 @@ pub(crate) fn image_of(cells: &[State], reflect: bool, r: usize) -> [State; 9]
     requires some { 1 < length cells.now }
     requires room { length cells.now ≤ 9 }
     requires step { r ≤ 8 }
-    ensures { take (length cells.now) result ≡ slice_index cells.now 0 ∷ (if reflect then reflected_turn (drop 1 cells.now) r else turn (drop 1 cells.now) r) }
+    ensures { take (length cells.now) result
+        ≡ slice_index cells.now 0
+        ∷ (if reflect then reflected_turn (drop 1 cells.now) r else turn (drop 1 cells.now) r) }
 {
     let n = cells.len() - 1;
     let mut image = [0; 9];
@@ -43,7 +45,8 @@ pub(crate) fn turns_of(symmetry: Symmetry, n: usize) -> Turns
     requires { 3 < n }
     ensures positive { 0 < result.step }
     ensures count { result.count ≡ n / result.step }
-    ensures images { symmetry ≢ Symmetry.Permute → (v : List ℕ) → length v ≡ n → images symmetry v ≡ family result.reflect result.step v }
+    ensures images { symmetry ≢ Symmetry.Permute → (v : List ℕ) → length v ≡ n
+        → images symmetry v ≡ family result.reflect result.step v }
 {
     let (step, reflect) = match symmetry {
         Symmetry::Identity => (n, false),

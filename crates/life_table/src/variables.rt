@@ -48,7 +48,8 @@ fn is_variable_name(word: &[u8]) -> bool
 
 /// What stands between the braces of a list.
 fn within_braces(text: &[u8]) -> Option<&[u8]>
-    ensures { MatchOption result (is_list text.now ≡ false) (λ within. (is_list text.now ≡ true) × (within.now ≡ within_braces text.now)) }
+    ensures { MatchOption result (is_list text.now ≡ false)
+        (λ within. (is_list text.now ≡ true) × (within.now ≡ within_braces text.now)) }
 {
     match text {
         [b'{', within @ .., b'}'] => Some(within),

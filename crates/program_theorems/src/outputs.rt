@@ -38,7 +38,8 @@ pub fn written_text_is_that_of_canon<A: Source, B: Source, O: Sink, E: Sink>(
     requires tells { E.failures err.old ≡ 0 }
     requires hears { E.stalled err.old ≡ false }
     requires limit { limit ≤ 2 ^ 62 }
-    ensures { (held : List ℕ) → A.remaining first.old ≡ Some file.now → O.contents out.old ≡ Some held → result.0 < 2
+    ensures { (held : List ℕ) → A.remaining first.old ≡ Some file.now
+        → O.contents out.old ≡ Some held → result.0 < 2
         → (job.now ≡ Job.Canon Form.Placed) ⊎ (job.now ≡ Job.Convert Target.Mc)
         → IfOk result.1 (λ text. O.contents out.new ≡ Some (held ++ text.items)) }
 {
@@ -80,20 +81,26 @@ pub fn outputs_of_two_runs<A: Source, B: Source, O: Sink, E: Sink>(
     requires other_takes { O.stalled other_out.old ≡ false }
     requires other_tells { E.failures other_err.old ≡ 0 }
     requires other_hears { E.stalled other_err.old ≡ false }
-    ensures equal { (held kept : List ℕ) → O.contents out.old ≡ Some held → O.contents other_out.old ≡ Some kept
-        → result.0 < 2 → result.1 < 2 → WritesCanonical job.now → WritesCanonical other_job.now
-        → (text : List ℕ) × (other : List ℕ) × (O.contents out.new ≡ Some (held ++ text)) × (O.contents other_out.new ≡ Some (kept ++ other))
-        × ((text ≡ other) ↔ Same text other) }
-    ensures forms { (form : FormValue) (file other_file held kept : List ℕ) → O.contents out.old ≡ Some held → O.contents other_out.old ≡ Some kept
-        → result.0 < 2 → result.1 < 2 → job.now ≡ Job.Canon form → other_job.now ≡ Job.Canon form
+    ensures equal { (held kept : List ℕ) → O.contents out.old ≡ Some held
+        → O.contents other_out.old ≡ Some kept → result.0 < 2 → result.1 < 2
+        → WritesCanonical job.now → WritesCanonical other_job.now
+        → (text : List ℕ) × (other : List ℕ) × (O.contents out.new ≡ Some (held ++ text))
+        × (O.contents other_out.new ≡ Some (kept ++ other)) × ((text ≡ other) ↔ Same text other) }
+    ensures forms { (form : FormValue) (file other_file held kept : List ℕ)
+        → O.contents out.old ≡ Some held → O.contents other_out.old ≡ Some kept → result.0 < 2
+        → result.1 < 2 → job.now ≡ Job.Canon form → other_job.now ≡ Job.Canon form
         → A.remaining first.old ≡ Some file → A.remaining other_first.old ≡ Some other_file
-        → (text : List ℕ) × (other : List ℕ) × (O.contents out.new ≡ Some (held ++ text)) × (O.contents other_out.new ≡ Some (kept ++ other))
+        → (text : List ℕ) × (other : List ℕ) × (O.contents out.new ≡ Some (held ++ text))
+        × (O.contents other_out.new ≡ Some (kept ++ other))
         × ((text ≡ other) ↔ SameIn form file other_file) }
-    ensures shown { (file held kept : List ℕ) → O.contents out.old ≡ Some held → O.contents other_out.old ≡ Some kept
-        → result.0 < 2 → result.1 < 2 → job.now ≡ Job.Canon Form.Placed → other_job.now ≡ Job.Show
+    ensures shown { (file held kept : List ℕ) → O.contents out.old ≡ Some held
+        → O.contents other_out.old ≡ Some kept → result.0 < 2 → result.1 < 2
+        → job.now ≡ Job.Canon Form.Placed → other_job.now ≡ Job.Show
         → A.remaining first.old ≡ Some file → A.remaining other_first.old ≡ Some file
-        → (text : List ℕ) × (lines : List ℕ) × (O.contents out.new ≡ Some (held ++ text)) × (O.contents other_out.new ≡ Some (kept ++ lines))
-        × ((pattern : Pattern) × (pattern_of file ≡ Ok pattern) × IsShown pattern (node_lines text) lines) }
+        → (text : List ℕ) × (lines : List ℕ) × (O.contents out.new ≡ Some (held ++ text))
+        × (O.contents other_out.new ≡ Some (kept ++ lines))
+        × ((pattern : Pattern) × (pattern_of file ≡ Ok pattern)
+        × IsShown pattern (node_lines text) lines) }
 {
     layers_agree();
     let status = work(alloc, seeds, job, first, second, out, err);

@@ -28,25 +28,36 @@ pub fn does_its_job<A: Source, B: Source, O: Sink, E: Sink>(
     requires takes { O.stalled out.old ≡ false }
     requires tells { E.failures err.old ≡ 0 }
     requires hears { E.stalled err.old ≡ false }
-    ensures done { (file other : List ℕ) → A.remaining first.old ≡ Some file → IfSome second.old (λ b. B.remaining b ≡ Some other) → result < 2
+    ensures done { (file other : List ℕ) → A.remaining first.old ≡ Some file
+        → IfSome second.old (λ b. B.remaining b ≡ Some other) → result < 2
         → (text : List ℕ) × Answers job.now file other result text
-        × ((held : List ℕ) → O.contents out.old ≡ Some held → O.contents out.new ≡ Some (held ++ text)) }
+        × ((held : List ℕ) → O.contents out.old ≡ Some held
+        → O.contents out.new ≡ Some (held ++ text)) }
     ensures flushed { result < 2 → O.flushed out.new ≡ true }
     ensures quiet { result < 2 → err.new ≡ err.old }
-    ensures whole { (file : List ℕ) → A.remaining first.old ≡ Some file → result < 2 → (A.remaining first.new ≡ Some []) × IsShort file }
-    ensures second_whole { (other : List ℕ) → HasSecond job.now → IfSome second.old (λ b. B.remaining b ≡ Some other) → result < 2
+    ensures whole { (file : List ℕ) → A.remaining first.old ≡ Some file → result < 2
+        → (A.remaining first.new ≡ Some []) × IsShort file }
+    ensures second_whole { (other : List ℕ) → HasSecond job.now
+        → IfSome second.old (λ b. B.remaining b ≡ Some other) → result < 2
         → IsSomeAnd second.new (λ b. B.remaining b ≡ Some []) × IsShort other }
-    ensures refused { (file other : List ℕ) → A.remaining first.old ≡ Some file → IfSome second.old (λ b. B.remaining b ≡ Some other) → 1 < result
-        → (line : List ℕ) × IsRefused job.now file other ((A.failures first.new ≡ 1) ⊎ IsSomeAnd second.new (λ b. B.failures b ≡ 1))
+    ensures refused { (file other : List ℕ) → A.remaining first.old ≡ Some file
+        → IfSome second.old (λ b. B.remaining b ≡ Some other) → 1 < result
+        → (line : List ℕ) × IsRefused job.now file other
+        ((A.failures first.new ≡ 1) ⊎ IsSomeAnd second.new (λ b. B.failures b ≡ 1))
         ((O.failures out.new ≡ 1) ⊎ (O.stalled out.new ≡ true)) result line
         × ((heard : List ℕ) → E.contents err.old ≡ Some heard
-        → Holds heard line ((E.failures err.new ≡ 1) ⊎ (E.stalled err.new ≡ true)) (E.contents err.new)) }
-    ensures unwritten { 1 < result → O.failures out.new ≡ 0 → O.stalled out.new ≡ false → out.new ≡ out.old }
-    ensures broken { (file other : List ℕ) → A.remaining first.old ≡ Some file → IfSome second.old (λ b. B.remaining b ≡ Some other)
+        → Holds heard line ((E.failures err.new ≡ 1) ⊎ (E.stalled err.new ≡ true))
+        (E.contents err.new)) }
+    ensures unwritten { 1 < result → O.failures out.new ≡ 0 → O.stalled out.new ≡ false
+        → out.new ≡ out.old }
+    ensures broken { (file other : List ℕ) → A.remaining first.old ≡ Some file
+        → IfSome second.old (λ b. B.remaining b ≡ Some other)
         → (O.failures out.new ≡ 1) ⊎ (O.stalled out.new ≡ true)
         → (result ≡ 3) × ((status : ℕ) × (text : List ℕ) × Answers job.now file other status text
-        × ((held : List ℕ) → O.contents out.old ≡ Some held → (n : ℕ) × (O.contents out.new ≡ Some (held ++ take n text)))) }
-    ensures unread { (A.failures first.new ≡ 1) ⊎ IsSomeAnd second.new (λ b. B.failures b ≡ 1) → result ≡ 3 }
+        × ((held : List ℕ) → O.contents out.old ≡ Some held
+        → (n : ℕ) × (O.contents out.new ≡ Some (held ++ take n text)))) }
+    ensures unread { (A.failures first.new ≡ 1) ⊎ IsSomeAnd second.new (λ b. B.failures b ≡ 1)
+        → result ≡ 3 }
 {
     layers_agree();
     work(alloc, seeds, job, first, second, out, err)

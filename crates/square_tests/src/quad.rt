@@ -33,7 +33,8 @@ fn put<S: Squares>(
 ) -> Result<Id, Kind>
     requires { S.knows squares.old root }
     ensures known { IfOk result (S.knows squares.new) }
-    ensures level { IfOk result (λ r. depth (S.content squares.new r) ≡ depth (S.content squares.old root)) }
+    ensures level { IfOk result
+        (λ r. depth (S.content squares.new r) ≡ depth (S.content squares.old root)) }
     ensures high { IfOk result (λ r. 1 ≤ depth (S.content squares.new r)) }
     ensures keeps { KeepsSquares S.knows S.content S.stored S.most squares.old squares.new }
 {
@@ -52,7 +53,8 @@ fn put<S: Squares>(
 fn whole_row<S: Squares>(squares: &mut S, root: Id, y: i64) -> Result<Id, Kind>
     requires { S.knows squares.old root }
     ensures known { IfOk result (S.knows squares.new) }
-    ensures level { IfOk result (λ r. depth (S.content squares.new r) ≡ depth (S.content squares.old root)) }
+    ensures level { IfOk result
+        (λ r. depth (S.content squares.new r) ≡ depth (S.content squares.old root)) }
     ensures high { IfOk result (λ r. 1 ≤ depth (S.content squares.new r)) }
 {
     put(squares, root, -(1 << 61), y, 1 << 62, 1)

@@ -31,7 +31,8 @@ fn run(x: i64, y: i64, len: u64, state: State) -> Run
 fn add_runs<S: Squares>(builder: &mut Builder, store: &mut S) -> Result<(), Kind>
     requires filling { IsFilling (S.knows store.old) (S.content store.old) builder.old }
     requires next { (x y : ℤ) → IsNext builder.old.runs x y }
-    ensures filling { OnOk result (IsFilling (S.knows store.new) (S.content store.new) builder.new) }
+    ensures filling { OnOk result
+        (IsFilling (S.knows store.new) (S.content store.new) builder.new) }
 {
     builder.add_run(store, run(-(1 << 61), -(1 << 61), 1, 1))?;
     builder.add_run(store, run((1 << 61) - 1, -(1 << 61), 1, 2))?;

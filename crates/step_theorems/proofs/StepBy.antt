@@ -1,10 +1,10 @@
 -- A step by a table in the words of the claims is one in the layer below.
-use Rattle.std.proofs.Common.{◌≡◌, ◌≢◌, ℕ, ◌+◌, ◌-◌, ◌^◌, ◌<◌, ◌≤◌, List, length, Bool, true, false, cond, ◌&&◌, refl, ap, ◌∙◌, sym, subst, arith, ◌⊎◌, inl, inr, ◌↔◌}
-use Rattle.std.specs.Prelude.{Option, Some, None, Ok, Err, ℤ, pos, neg_ℤ, ◌≤ℤ◌, ◌<ℤ◌, int_le, int_lt, bytes_eq, ◌==◌}
+use Rattle.std.proofs.Common.{◌≡◌, ◌≢◌, ℕ, ◌+◌, ◌-◌, ◌^◌, ◌<◌, ◌≤◌, List, length, Bool, true, false, cond, refl, ap, ◌∙◌, sym, subst, arith, ◌⊎◌, inl, inr, ◌↔◌}
+use Rattle.std.specs.Prelude.{Option, Some, None, Ok, Err, ℤ, bytes_eq, ◌==◌}
 use Rattle.std.specs.Option.{unwrap_or}
-use Rattle.std.proofs.lemmas.Int.{ints}
 use Rattle.std.proofs.lemmas.Slice.Eq.{bytes_eq-Decides}
 use Rattle.std.proofs.lemmas.Bool.Decides.{leb_tells}
+use Rattle.theorems.proofs.PlaneLaw.{not_of_plane, outside_is}
 use Rattle.life_base.specs.Refusal.{fault_of}
 use Rattle.life_base.specs.declared.cell.Cell.{Cell}
 use Rattle.life_base.specs.declared.fault.Fault.{Fault}
@@ -26,13 +26,12 @@ use Rattle.life_canon.specs.Store.{IsWant}
 use Rattle.life_canon.specs.Laws.{FilesAreUnique}
 use Rattle.life_canon.specs.Listing.{canon_text}
 use Rattle.life_canon.specs.Texts.{AreCellsOf, IsCanonical}
-use Rattle.life_canon.specs.Universe.{Universe, IsWithin, corner}
+use Rattle.life_canon.specs.Universe.{Universe}
 use Rattle.life_step.specs.Stepped.{IsSteppedBy as LayerSteppedBy}
-use Rattle.life_step.specs.Refusals.{IsOfPlane, TableRefusal}
+use Rattle.life_step.specs.Refusals.{TableRefusal}
 use Rattle.life_step.specs.Refusals.{HasMoreCells as LayerMoreCells, LeavesPlane as LayerLeaves, SomeAmbiguous, IsFirstAmbiguous as LayerFirst}
 use Rattle.claims.specs.ByTable.{IsSteppedBy, HasStateBeyond, IsFirstAmbiguous, LeavesPlaneBy, IsFirstReasonBy, other_rule, last_generation, many_cells, state_beyond, two_states, leaves_plane, IsUnsteppedBy}
 use Rattle.claims.specs.Generation.{four_around, eight_around, AreCells, HasMoreCells, decided_at}
-use Rattle.claims.specs.Pattern.{is_coordinate}
 use Rattle.claims.specs.Rules.{named}
 use Rattle.claims.specs.Table.{Table, becomes, decided, table_of}
 use Rattle.claims.specs.Files.{pattern_of}
@@ -55,39 +54,6 @@ none_some f e = cc
 
 same_fault : (a b : Fault) → Some a ≡ Some b → a ≡ b
 same_fault a b e = cc
-
--- ---- the plane
-
-within : (x : ℤ) (h : ℕ) → neg_ℤ (pos h) ≤ℤ x → x <ℤ pos h → (int_le (neg_ℤ (pos h)) x && int_lt x (pos h)) ≡ true
-within x h l m = grind (arith, ints)
-
-without : (x : ℤ) (h : ℕ) → (int_le (neg_ℤ (pos h)) x && int_lt x (pos h)) ≡ true → (neg_ℤ (pos h) ≤ℤ x) × (x <ℤ pos h)
-without x h e = (grind (arith, ints), grind (arith, ints))
-
-coordinate : (x : ℤ) → IsWithin 62 x → is_coordinate x ≡ true
-unfolding corner
-coordinate x h = within x (2 ^ 61) h.0 h.1
-
-of_coordinate : (x : ℤ) → is_coordinate x ≡ true → IsWithin 62 x
-unfolding corner
-of_coordinate x e = without x (2 ^ 61) e
-
-not_both : (a b : Bool) → a ≡ true → b ≡ true → (a && b) ≡ false → ⊥
-not_both true true e f h = cc
-not_both true false e f h = cc
-not_both false b e f h = cc
-
--- a pair that is not of the plane
-not_of_plane : (x y : ℤ) → (is_coordinate x && is_coordinate y) ≡ false → IsOfPlane 62 x y → ⊥
-not_of_plane x y e h = not_both (is_coordinate x) (is_coordinate y) (coordinate x h.0) (coordinate y h.1) e
-
-off_plane : (x y : ℤ) → (IsOfPlane 62 x y → ⊥) → (is_coordinate x && is_coordinate y) ≡ false
-off_plane x y h = by (is_coordinate x) (is_coordinate y) (λ e f. h (of_coordinate x e, of_coordinate y f))
-  where
-    by : (a b : Bool) → (a ≡ true → b ≡ true → ⊥) → (a && b) ≡ false
-    by true true h = absurd (h refl refl)
-    by true false h = refl
-    by false b h = refl
 
 -- ---- cells
 
@@ -228,7 +194,7 @@ module _ (decide : TablesDecide) (layer : LayerTable) (table : Table) (is : IsTa
     }
 
     leaves_is : LayerLeaves (AnswersAt layer u.cell) 62 → LeavesPlaneBy table p.pattern.cell
-    leaves_is l = (l.0, l.1, l.2, off_plane l.0 l.1 l.3, l.4, decides_here l.0 l.1 (Becomes l.2) l.5)
+    leaves_is l = (l.0, l.1, l.2, outside_is l.0 l.1 l.3, l.4, decides_here l.0 l.1 (Becomes l.2) l.5)
 
     module _ (rule : p.pattern.rule ≡ named table.name) where
       module _ (room : p.pattern.generation ≢ 2 ^ 64 - 1) (few : HasMoreCells (2 ^ 20) p.pattern.cell → ⊥) where

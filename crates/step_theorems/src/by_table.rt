@@ -31,9 +31,11 @@ pub fn next_generation_by_table(
     room: Room,
     names: NameSeed,
 ) -> Result<Vec<u8>, Fault>
-    ensures stepped { IfOk result (λ text. (t : Table) × (table_of rules.now ≡ Ok t) × IsSteppedBy t file.now text.items) }
-    ensures refused { IfErr result (λ fault. (table_of rules.now ≡ Err fault) ⊎ (IsWant fault
-        ⊎ ((t : Table) × (table_of rules.now ≡ Ok t) × ((pattern_of file.now ≡ Err fault) ⊎ IsUnsteppedBy t file.now fault)))) }
+    ensures stepped { IfOk result
+        (λ text. (t : Table) × (table_of rules.now ≡ Ok t) × IsSteppedBy t file.now text.items) }
+    ensures refused { IfErr result (λ fault. (table_of rules.now ≡ Err fault)
+        ⊎ (IsWant fault ⊎ ((t : Table) × (table_of rules.now ≡ Ok t)
+        × ((pattern_of file.now ≡ Err fault) ⊎ IsUnsteppedBy t file.now fault)))) }
 {
     files_are_on_plane();
     grammars_agree();

@@ -5,6 +5,7 @@ use Rattle.std.specs.List.{list_any}
 use Rattle.std.specs.Option.{unwrap_or}
 use Rattle.std.proofs.lemmas.Bool.Decides.{eqb_tells}
 use Rattle.std.proofs.lemmas.List.Elements.{All-contains}
+use Rattle.std.proofs.lemmas.Bool.{or_left, or_right}
 use Rattle.life_table.proofs.LawProofs.{permute_law}
 use Rattle.life_table.specs.Grammar.{symmetry_word}
 use Rattle.life_table.specs.Meaning.{Gives, count_of}
@@ -21,7 +22,7 @@ use Rattle.claims.specs.Table.{variable, Transition, Table, states_of, gives}
 use Rattle.table_laws.specs.ByCounts.{state_of, GivesByCounts, PermuteByCounts}
 use Rattle.table_laws.specs.Tables.{entry_in, transition_in, IsTable}
 use Rattle.table_laws.proofs.Decided.{in_head, in_tail, in_either, in_none, gave, gets}
-use Rattle.table_laws.proofs.Given.{turned_about, some_of, or_first, or_second, has_state_of, is_state_of}
+use Rattle.table_laws.proofs.Given.{turned_about, some_of, has_state_of, is_state_of}
 use Rattle.table_laws.proofs.Read.{tables_read}
 use Rattle.table_laws.proofs.Text.{word_listed}
 use Rattle.table_laws.proofs.Words.{length_is}
@@ -31,8 +32,8 @@ use Rattle.table_laws.proofs.Words.{length_is}
 any_in : (s : ℕ) (xs : List ℕ) → Contains xs s → list_any (λ t. t == s) xs ≡ true
 any_in s [] c = absurd (in_none s c)
 any_in s (x ∷ xs) c = elim (in_either x s xs c) [
-  | inl e ↦ or_first (x == s) _ (eq-eqb x s e)
-  | inr d ↦ or_second (x == s) _ (any_in s xs d)
+  | inl e ↦ or_left (x == s) _ (eq-eqb x s e)
+  | inr d ↦ or_right (x == s) _ (any_in s xs d)
 ]
 
 in_any : (s : ℕ) (xs : List ℕ) → list_any (λ t. t == s) xs ≡ true → Contains xs s

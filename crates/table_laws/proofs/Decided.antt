@@ -5,6 +5,7 @@ use Rattle.std.specs.List.{list_all, list_any, cons_option}
 use Rattle.std.specs.Option.{option_map_or, unwrap_or}
 use Rattle.std.proofs.lemmas.Bool.Decides.{eqb_tells}
 use Rattle.std.proofs.lemmas.List.Elements.{All-nil, All-cons, All-head, All-tail, All-contains}
+use Rattle.std.proofs.lemmas.Bool.{or_left}
 use Rattle.life_base.proofs.Numbers.{first, second}
 use Rattle.life_table.proofs.LawProofs.{one_law}
 use Rattle.life_table.specs.Meaning.{has_state, HasState, IsChoice, Gives, GivesNothing, LineAnswers, Decides}
@@ -17,7 +18,7 @@ use Rattle.life_table.specs.declared.table.Table.{Table as LayerTable}
 use Rattle.claims.specs.Table.{Variable, variable, Transition, Table, states_of, images, given, gives, decided, Answer, becomes, ambiguous}
 use Rattle.table_laws.specs.Laws.{TablesDecide}
 use Rattle.table_laws.specs.Tables.{transition_in, answer_in, AreVariables, IsTable}
-use Rattle.table_laws.proofs.Given.{known, same_number, or_first, given_is_choice, choice_is_given}
+use Rattle.table_laws.proofs.Given.{known, same_number, given_is_choice, choice_is_given}
 use Rattle.table_laws.proofs.Imaged.{images_agree, image_length, Agrees}
 
 -- ---- lists
@@ -89,7 +90,7 @@ module _ (vars : List Var) (variables : List Variable) (same : AreVariables vars
   some_state : (i : ℕ) (var : Var) (xs : List ℕ) → ((s : ℕ) → list_any (λ t. t == s) xs ≡ has_state var s) → ¬ ((s : ℕ) → ¬ (HasState var s))
       → HasState var (head_of xs)
   some_state i var [] h k = absurd (k (λ s e. let f : false ≡ true = h s ∙ e in cc))
-  some_state i var (x ∷ xs) h k = sym (h x) ∙ or_first (x == x) _ (eq-eqb x x refl)
+  some_state i var (x ∷ xs) h k = sym (h x) ∙ or_left (x == x) _ (eq-eqb x x refl)
 
   base : ℕ → ℕ
   base i = head_of (states_of variables (variable i))

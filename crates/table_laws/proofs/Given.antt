@@ -5,6 +5,7 @@ use Rattle.std.specs.List.{list_all, list_any}
 use Rattle.std.specs.Option.{option_map_or}
 use Rattle.std.proofs.lemmas.Bool.Decides.{eqb_tells, nat_tests}
 use Rattle.std.proofs.lemmas.List.Elements.{All-head, All-tail}
+use Rattle.std.proofs.lemmas.Bool.{or_left, or_right, and_from}
 use Rattle.life_base.proofs.Numbers.{first, second}
 use Rattle.life_table.specs.Meaning.{has_state, HasState, IsChoice, state_of, GivesAs}
 use Rattle.life_table.specs.Valid.{is_variable, IsEntry}
@@ -27,21 +28,9 @@ same_number a b h = elim (eqb_tells a b) [ inl e ↦ e.1 | inr n ↦ absurd (let
 pub turned_about : (a b : ℕ) → (a == b) ≡ (b == a)
 turned_about a b = grind (arith, nat_tests)
 
-pub or_first : (a b : Bool) → a ≡ true → (a || b) ≡ true
-or_first true b h = refl
-or_first false b h = cc
-
-pub or_second : (a b : Bool) → b ≡ true → (a || b) ≡ true
-or_second true b h = refl
-or_second false b h = h
-
 pub or_rest : (a b : Bool) → a ≡ false → (a || b) ≡ true → b ≡ true
 or_rest true b e h = cc
 or_rest false b e h = h
-
-pub both : (a b : Bool) → a ≡ true → b ≡ true → (a && b) ≡ true
-both true b e h = h
-both false b e h = cc
 
 pub some_of : {X : Type 0} (a b : X) → Some a ≡ Some b → a ≡ b
 some_of a b e = cc
@@ -80,8 +69,8 @@ module _ (vars : List Var) (variables : List Variable) (same : AreVariables vars
       let tail : map (state_of choice) es ≡ ss = all_values value choice es ss (omega (arith, l)) (second _ _ a) h in
       ap (λ (n : ℕ). n ∷ map (state_of choice) es) head ∙ ap (λ (t : List ℕ). s ∷ t) tail
   all_values value choice (entries.Var j ∷ es) (s ∷ ss) l a h =
-      let head : choice j ≡ s = h j (or_first (eqb j j) _ (eq-eqb j j refl)) ∙ same_number (value j) s (first _ _ (first _ _ a)) in
-      let tail : map (state_of choice) es ≡ ss = all_values value choice es ss (omega (arith, l)) (second _ _ a) (λ i m. h i (or_second (eqb i j) _ m)) in
+      let head : choice j ≡ s = h j (or_left (eqb j j) _ (eq-eqb j j refl)) ∙ same_number (value j) s (first _ _ (first _ _ a)) in
+      let tail : map (state_of choice) es ≡ ss = all_values value choice es ss (omega (arith, l)) (second _ _ a) (λ i m. h i (or_right (eqb i j) _ m)) in
       ap (λ (n : ℕ). n ∷ map (state_of choice) es) head ∙ ap (λ (t : List ℕ). s ∷ t) tail
 
   -- the state that an input takes is one of its variable's
@@ -177,13 +166,13 @@ module _ (vars : List Var) (variables : List Variable) (same : AreVariables vars
       → list_all (allows variables value) (zip (map entry_in es) (map (state_of choice) es)) ≡ true
   all_allowed n value choice is [] there h = refl
   all_allowed n value choice is (entries.Fixed f ∷ es) there h =
-      both (eqb f f) _ (eq-eqb f f refl) (all_allowed n value choice is es (All-tail (IsEntry n vars) (entries.Fixed f) es there) h)
+      and_from (eqb f f) _ (eq-eqb f f refl) (all_allowed n value choice is es (All-tail (IsEntry n vars) (entries.Fixed f) es there) h)
   all_allowed n value choice is (entries.Var j ∷ es) there h =
       let below : j < length vars = (All-head (IsEntry n vars) (entries.Var j) es there).variable j refl in
-      both (eqb (value j) (choice j) && list_any (λ t. t == choice j) (states_of variables (variable j))) _
-      (both (eqb (value j) (choice j)) _ (eq-eqb (value j) (choice j) (h j (or_first (eqb j j) _ (eq-eqb j j refl))))
+      and_from (eqb (value j) (choice j) && list_any (λ t. t == choice j) (states_of variables (variable j))) _
+      (and_from (eqb (value j) (choice j)) _ (eq-eqb (value j) (choice j) (h j (or_left (eqb j j) _ (eq-eqb j j refl))))
       (is_state_of j (choice j) below (is j below)))
-      (all_allowed n value choice is es (All-tail (IsEntry n vars) (entries.Var j) es there) (λ i m. h i (or_second (eqb i j) _ m)))
+      (all_allowed n value choice is es (All-tail (IsEntry n vars) (entries.Var j) es there) (λ i m. h i (or_right (eqb i j) _ m)))
 
   output_taken : (choice : ℕ → ℕ) (es : List LayerEntry) (output : LayerEntry) → ((i : ℕ) → output ≡ entries.Var i → list_any (is_variable i) es ≡ true)
       → state_of (taken (map entry_in es) (map (state_of choice) es)) output ≡ state_of choice output

@@ -3,6 +3,7 @@ use Rattle.std.proofs.Common.{◌≡◌, ℕ, zero, suc, List, [], ◌∷◌, �
 use Rattle.std.specs.Prelude.{IsTrue, Contains, flat_map, slice_index, slice_index_or, ◌<◌, ◌==◌}
 use Rattle.std.specs.List.{list_all}
 use Rattle.std.proofs.lemmas.Bool.Decides.{nat_tests}
+use Rattle.std.proofs.lemmas.Bool.{and_from}
 use Rattle.life_base.proofs.Numbers.{first, second}
 use Rattle.life_table.specs.Grammar.{symmetry_word}
 use Rattle.life_table.specs.Orders.{images as layer_images, orders as layer_orders, insertions as layer_insertions}
@@ -12,7 +13,7 @@ use Rattle.life_table.specs.declared.table.Neighborhood.TheVariants.{VonNeumann,
 use Rattle.life_table.specs.declared.table.Symmetry.{Symmetry}
 use Rattle.life_table.specs.declared.table.Symmetry.TheVariants.{Identity, Rotate4, Rotate4Reflect, ReflectHorizontal, Permute, Rotate8, Rotate8Reflect}
 use Rattle.claims.specs.Table.{images, orders, insertions}
-use Rattle.table_laws.proofs.Given.{same_number, both}
+use Rattle.table_laws.proofs.Given.{same_number}
 
 -- ---- lists by their elements
 
@@ -48,19 +49,20 @@ have_length n vs = list_all (λ v. length v == n) vs
 
 in_front : (n y : ℕ) (vs : List (List ℕ)) → have_length n vs ≡ true → have_length (suc n) (map (λ v. y ∷ v) vs) ≡ true
 in_front n y [] h = refl
-in_front n y (v ∷ vs) h = both (suc (length v) == suc n) _ (one_more (length v) n ∙ first (length v == n) _ h) (in_front n y vs (second (length v == n) _ h))
+in_front n y (v ∷ vs) h =
+    and_from (suc (length v) == suc n) _ (one_more (length v) n ∙ first (length v == n) _ h) (in_front n y vs (second (length v == n) _ h))
   where
     one_more : (a b : ℕ) → (suc a == suc b) ≡ (a == b)
     one_more a b = grind (arith, nat_tests)
 
 have_both : (n : ℕ) (vs ws : List (List ℕ)) → have_length n vs ≡ true → have_length n ws ≡ true → have_length n (vs ++ ws) ≡ true
 have_both n [] ws h k = k
-have_both n (v ∷ vs) ws h k = both (length v == n) _ (first (length v == n) _ h) (have_both n vs ws (second (length v == n) _ h) k)
+have_both n (v ∷ vs) ws h k = and_from (length v == n) _ (first (length v == n) _ h) (have_both n vs ws (second (length v == n) _ h) k)
 
 insertions_have : (x : ℕ) (ys : List ℕ) → have_length (suc (length ys)) (insertions x ys) ≡ true
 insertions_have x [] = refl
 insertions_have x (y ∷ ys) =
-    both (suc (suc (length ys)) == suc (suc (length ys))) _ (itself (suc (suc (length ys))))
+    and_from (suc (suc (length ys)) == suc (suc (length ys))) _ (itself (suc (suc (length ys))))
     (in_front (suc (length ys)) y (insertions x ys) (insertions_have x ys))
   where
     itself : (n : ℕ) → (n == n) ≡ true

@@ -1,5 +1,5 @@
 -- Sets of states as four words: the union of those of some entries has the states that the entries have.
-use Rattle.std.proofs.Common.{◌≡◌, ◌≢◌, ℕ, zero, suc, ◌/◌, ◌%◌, ◌^◌, ◌<◌, ◌≤◌, max, List, [], ◌∷◌, ◌++◌, map, Bool, true, false, cond, ◌||◌, refl, ap, ◌∙◌, sym, subst, arith, inl, inr, eq-eqb, get_or}
+use Rattle.std.proofs.Common.{◌≡◌, ◌≢◌, ℕ, zero, suc, ◌/◌, ◌%◌, ◌^◌, ◌<◌, ◌≤◌, max, List, [], ◌∷◌, map, Bool, false, cond, ◌||◌, refl, ap, ◌∙◌, sym, subst, arith, inl, inr, eq-eqb, get_or}
 use Rattle.std.specs.Prelude.{Option, Some, None, All, slice_get, slice_index, bit_or, flat_map, option_map, ◌==◌}
 use Rattle.std.specs.Int.{bit_at}
 use Rattle.std.specs.List.{fold, list_any}
@@ -8,6 +8,9 @@ use Rattle.std.proofs.lemmas.Bool.Decides.{eqb_tells, leb_tells}
 use Rattle.std.proofs.lemmas.List.Elements.{All-head, All-tail, All-cons}
 use Rattle.std.proofs.lemmas.Option.{slice_get-get_or}
 use Rattle.std.proofs.lemmas.Nat.Bits.{bit_at_or, bit_at-pow_same, bit_at-pow_other, bit_at-zero, bit_at-lt}
+use Rattle.std.proofs.Math.Bool.{or_assoc, or-false}
+use Rattle.std.proofs.lemmas.List.Folds.{list_any-append}
+use Rattle.std.proofs.lemmas.List.{get_or_past}
 use Rattle.life_table.specs.Meaning.{has_state}
 use Rattle.life_table.specs.Reading.{single, union, union_of, states_of_entry}
 use Rattle.life_table.specs.Valid.{IsEntry, IsVariable}
@@ -22,18 +25,6 @@ use Rattle.table_laws.proofs.Given.{known}
 
 pub differs : (a b : ℕ) → a ≢ b → (a == b) ≡ false
 differs a b n = elim (eqb_tells a b) [ inl e ↦ absurd (n e.1) | inr o ↦ o.0 ]
-
-pub or_false : (v : Bool) → (v || false) ≡ v
-or_false true = refl
-or_false false = refl
-
-or_assoc : (u v w : Bool) → ((u || v) || w) ≡ (u || (v || w))
-or_assoc true v w = refl
-or_assoc false v w = refl
-
-pub any_append : {X : Type 0} (p : X → Bool) (xs ys : List X) → list_any p (xs ++ ys) ≡ (list_any p xs || list_any p ys)
-any_append p [] ys = refl
-any_append p (x ∷ xs) ys = ap (λ v. p x || v) (any_append p xs ys) ∙ sym (or_assoc (p x) (list_any p xs) (list_any p ys))
 
 -- ---- sets
 
@@ -65,15 +56,8 @@ union_low a b (suc (suc zero)) h = refl
 union_low a b (suc (suc (suc zero))) h = refl
 union_low a b (suc (suc (suc (suc k)))) h = absurd (omega (arith, h))
 
-four_words : (a b c d k : ℕ) → 4 ≤ k → slice_index (a ∷ b ∷ c ∷ d ∷ []) k ≡ 0
-four_words a b c d zero h = absurd (omega (arith, h))
-four_words a b c d (suc zero) h = absurd (omega (arith, h))
-four_words a b c d (suc (suc zero)) h = absurd (omega (arith, h))
-four_words a b c d (suc (suc (suc zero))) h = absurd (omega (arith, h))
-four_words a b c d (suc (suc (suc (suc k)))) h = refl
-
 union_small : (a b : List ℕ) → IsSmall (union a b)
-union_small a b s h = no_word (union a b) s (four_words _ _ _ _ (s / 64) (omega (arith, h)))
+union_small a b s h = no_word (union a b) s (get_or_past (union a b) (s / 64) 0 (omega (arith, h)))
 
 union_has : (a b : List ℕ) → IsSmall a → IsSmall b → (s : ℕ) → has_set (union a b) s ≡ (has_set a s || has_set b s)
 union_has a b h k s = elim (leb_tells 256 s) [
@@ -85,7 +69,7 @@ union_has a b h k s = elim (leb_tells 256 s) [
 
 fold_has : (sets : List (List ℕ)) (set : List ℕ) → IsSmall set → All IsSmall sets → (s : ℕ)
     → has_set (fold union set sets) s ≡ (has_set set s || list_any (λ t. has_set t s) sets)
-fold_has [] set h all s = sym (or_false (has_set set s))
+fold_has [] set h all s = sym (or-false (has_set set s))
 fold_has (t ∷ sets) set h all s =
     fold_has sets (union set t) (union_small set t) (All-tail IsSmall t sets all) s
     ∙ ap (λ v. v || list_any (λ u. has_set u s) sets) (union_has set t h (All-head IsSmall t sets all) s)
@@ -131,7 +115,7 @@ single_has r s h = elim (eqb_tells (s / 64) (r / 64)) [
   | inr e ↦
       let other : r ≢ s = λ is. e.1 (ap (λ n. n / 64) (sym is)) in
       no_word (single r) s (elim (leb_tells 4 (s / 64)) [
-        | inl above ↦ four_words _ _ _ _ (s / 64) above.1
+        | inl above ↦ get_or_past (single r) (s / 64) 0 above.1
         | inr below ↦ single_low r (s / 64) below.1 ∙ ap (λ v. cond v (2 ^ (r % 64)) 0) e.0
       ]) ∙ sym (differs r s other)
 ]
@@ -149,7 +133,7 @@ module _ (n : ℕ) (vars : List Var) (variables : List Variable) (same : AreVari
 
   entry_has : (entry : LayerEntry) → IsEntry n vars entry → (s : ℕ)
       → has_set (set_of vars entry) s ≡ list_any (λ t. t == s) (states_of variables (entry_in entry))
-  entry_has (entries.Fixed r) is s = (let l : r < n = is.fixed r refl in single_has r s (omega (arith, l, most))) ∙ sym (or_false (r == s))
+  entry_has (entries.Fixed r) is s = (let l : r < n = is.fixed r refl in single_has r s (omega (arith, l, most))) ∙ sym (or-false (r == s))
   entry_has (entries.Var i) is s = variable_has (slice_get vars i) s ∙ sym (same.states i s)
 
   small_variable : (o : Option Var) → ((v : Var) → o ≡ Some v → IsVariable n v) → IsSmall (unwrap_or (option_map (λ (v : Var). v.states) o) [])
@@ -182,7 +166,7 @@ module _ (n : ℕ) (vars : List Var) (variables : List Variable) (same : AreVari
   any_has (e ∷ es) h s =
       ap (λ v. v || list_any (λ t. has_set t s) (map (set_of vars) es)) (entry_has e (All-head (IsEntry n vars) e es h) s)
       ∙ ap (λ v. list_any (λ t. t == s) (states_of variables (entry_in e)) || v) (any_has es (All-tail (IsEntry n vars) e es h) s)
-      ∙ sym (any_append (λ t. t == s) (states_of variables (entry_in e)) (flat_map (states_of variables) (map entry_in es)))
+      ∙ sym (list_any-append (λ t. t == s) (states_of variables (entry_in e)) (flat_map (states_of variables) (map entry_in es)))
 
   -- the states of the entries of a list
   pub states_are : (es : List LayerEntry) → All (IsEntry n vars) es → (s : ℕ)

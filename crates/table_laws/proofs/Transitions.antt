@@ -5,6 +5,7 @@ use Rattle.std.specs.List.{list_any, list_all}
 use Rattle.std.specs.Option.{option_map_or, unwrap_or}
 use Rattle.std.proofs.lemmas.Bool.Decides.{nat_tests}
 use Rattle.std.proofs.lemmas.List.{map-append}
+use Rattle.std.proofs.Math.Bool.{or-false}
 use Rattle.life_base.specs.declared.kind.Kind.{Kind}
 use Rattle.life_base.specs.declared.kind.Kind.TheVariants as kinds
 use Rattle.life_table.specs.Meaning.{has_state}
@@ -22,7 +23,6 @@ use Rattle.claims.specs.Table.{Entry, variable, Variable, Transition, Table, ent
 use Rattle.table_laws.specs.Tables.{entry_in, transition_in, AreVariables}
 use Rattle.table_laws.proofs.Named.{Parsed}
 use Rattle.table_laws.proofs.Given.{known, same_number, turned_about}
-use Rattle.table_laws.proofs.Sets.{or_false}
 use Rattle.table_laws.proofs.Text.{table_in, goes, stops, FitsAfter, moved}
 use Rattle.table_laws.proofs.Words.{all_more, all_of, entry_is, entries_are}
 
@@ -45,7 +45,7 @@ module _ (vars : List Var) (variables : List Variable) (same : AreVariables vars
   zero_is : (es : List LayerEntry) → list_all (λ (e : Entry). list_any (λ s. s == 0) (states_of variables e)) (map entry_in es) ≡ list_all (allows_zero vars) es
   zero_is [] = refl
   zero_is (entries.Fixed r ∷ es) =
-      ap (λ v. v && list_all (λ (e : Entry). list_any (λ s. s == 0) (states_of variables e)) (map entry_in es)) (or_false (r == 0))
+      ap (λ v. v && list_all (λ (e : Entry). list_any (λ s. s == 0) (states_of variables e)) (map entry_in es)) (or-false (r == 0))
       ∙ ap (λ v. r == 0 && v) (zero_is es)
   zero_is (entries.Var i ∷ es) =
       ap (λ v. v && list_all (λ (e : Entry). list_any (λ s. s == 0) (states_of variables e)) (map entry_in es)) (same.states i 0)

@@ -7,6 +7,7 @@ use Rattle.std.specs.Option.{option_map_or}
 use Rattle.std.proofs.lemmas.Bool.Decides.{nat_tests}
 use Rattle.std.proofs.lemmas.List.{map-append}
 use Rattle.std.proofs.lemmas.List.Elements.{All-nil, All-cons}
+use Rattle.std.proofs.Math.Bool.{or-false}
 use Rattle.life_base.specs.declared.kind.Kind.TheVariants as kinds
 use Rattle.life_table.specs.Meaning.{has_state}
 use Rattle.life_table.specs.Reader.{IsGood}
@@ -21,7 +22,7 @@ use Rattle.claims.specs.Table.{Entry, Variable, Table, entries_of, states_of, is
 use Rattle.table_laws.specs.Tables.{entry_in, AreVariables}
 use Rattle.table_laws.proofs.Named.{Parsed}
 use Rattle.table_laws.proofs.Given.{turned_about}
-use Rattle.table_laws.proofs.Sets.{differs, or_false, set_of, set_is, states_are}
+use Rattle.table_laws.proofs.Sets.{differs, set_of, set_is, states_are}
 use Rattle.table_laws.proofs.Text.{table_in, goes, stops, FitsAfter, moved}
 use Rattle.table_laws.proofs.Words.{all_more, all_of, is_there, length_is, entries_are}
 
@@ -41,7 +42,7 @@ pub name_is : (word : List ℕ) → is_name word ≡ is_variable_name word
 name_is [] = refl
 name_is (b ∷ word) =
     ap (λ v. v && not (is_ascii_digit b)) (name_bytes (b ∷ word))
-    ∙ ap (λ v. list_all is_name_byte (b ∷ word) && not v) (sym (or_false (is_ascii_digit b)))
+    ∙ ap (λ v. list_all is_name_byte (b ∷ word) && not v) (sym (or-false (is_ascii_digit b)))
 
 -- ---- one variable more
 

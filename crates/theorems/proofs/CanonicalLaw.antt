@@ -1,5 +1,5 @@
 -- A canonical text is one of the files with which it is compared.
-use Rattle.std.proofs.Common.{◌≡◌, ℕ, List, ap, ◌∙◌, sym, subst, refl}
+use Rattle.std.proofs.Common.{◌≡◌, ℕ, List, ap, ◌∙◌, sym, subst}
 use Rattle.life_mc.specs.Reading.{IsMacrocell}
 use Rattle.life_canon.specs.Laws.{FilesAreOnPlane, TextsAreFiles, TextsKeepPatterns}
 use Rattle.life_canon.specs.Least.{IsLeastText}

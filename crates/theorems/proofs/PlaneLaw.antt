@@ -1,7 +1,8 @@
 -- The plane of the claims is that of the layer below.
-use Rattle.std.proofs.Common.{◌≡◌, ℕ, ◌^◌, Bool, true, false, ◌&&◌, refl, arith}
+use Rattle.std.proofs.Common.{◌≡◌, ℕ, ◌^◌, Bool, true, false, ◌&&◌, refl, sym, ◌∙◌, arith}
 use Rattle.std.specs.Prelude.{ℤ, pos, neg_ℤ, ◌≤ℤ◌, ◌<ℤ◌, int_le, int_lt}
 use Rattle.std.proofs.lemmas.Int.{ints}
+use Rattle.std.proofs.lemmas.Bool.{and_from, true≢false}
 use Rattle.life_canon.specs.Universe.{IsWithin, corner}
 use Rattle.claims.specs.Pattern.{is_coordinate}
 
@@ -12,14 +13,9 @@ coordinate : (x : ℤ) → IsWithin 62 x → is_coordinate x ≡ true
 unfolding corner
 coordinate x h = within x (2 ^ 61) h.0 h.1
 
-both : (a b : Bool) → a ≡ true → b ≡ true → (a && b) ≡ false → ⊥
-both true true e f h = cc
-both true false e f h = cc
-both false b e f h = cc
-
 -- a pair that is not of the plane
 pub not_of_plane : (x y : ℤ) → (is_coordinate x && is_coordinate y) ≡ false → IsWithin 62 x × IsWithin 62 y → ⊥
-not_of_plane x y e h = both (is_coordinate x) (is_coordinate y) (coordinate x h.0) (coordinate y h.1) e
+not_of_plane x y e h = true≢false (sym (and_from (is_coordinate x) (is_coordinate y) (coordinate x h.0) (coordinate y h.1)) ∙ e)
 
 from_coordinate : (x : ℤ) → is_coordinate x ≡ true → IsWithin 62 x
 unfolding corner

@@ -27,15 +27,20 @@ pub fn stream_to_stream<R: Source, W: Sink>(
     requires reads { R.failures reader.old ≡ 0 }
     requires writes { W.failures writer.old ≡ 0 }
     requires takes { W.stalled writer.old ≡ false }
-    ensures done { (bytes held : List ℕ) → R.remaining reader.old ≡ Some bytes → W.contents writer.old ≡ Some held
-        → OnOk result ((text : List ℕ) × (W.contents writer.new ≡ Some (held ++ text)) × Same bytes text) }
+    ensures done { (bytes held : List ℕ) → R.remaining reader.old ≡ Some bytes
+        → W.contents writer.old ≡ Some held
+        → OnOk result
+        ((text : List ℕ) × (W.contents writer.new ≡ Some (held ++ text)) × Same bytes text) }
     ensures whole { (bytes : List ℕ) → R.remaining reader.old ≡ Some bytes
         → OnOk result ((R.remaining reader.new ≡ Some []) × (length bytes ≤ 2 ^ 30)) }
     ensures flushed { OnOk result (W.flushed writer.new ≡ true) }
-    ensures untouched { IfErr result (λ fault. fault.kind ≢ Kind.WriteFault → writer.new ≡ writer.old) }
+    ensures untouched { IfErr result
+        (λ fault. fault.kind ≢ Kind.WriteFault → writer.new ≡ writer.old) }
     ensures refused { (bytes : List ℕ) → R.remaining reader.old ≡ Some bytes
-        → IfErr result (IsStreamFault bytes (R.failures reader.new) (W.failures writer.new) (W.stalled writer.new)) }
-    ensures read_told { R.failures reader.new ≡ 1 → IsErrAnd result (λ fault. fault.kind ≡ Kind.ReadFault) }
+        → IfErr result (IsStreamFault bytes (R.failures reader.new) (W.failures writer.new)
+        (W.stalled writer.new)) }
+    ensures read_told { R.failures reader.new ≡ 1
+        → IsErrAnd result (λ fault. fault.kind ≡ Kind.ReadFault) }
     ensures write_told { (W.failures writer.new ≡ 1) ⊎ (W.stalled writer.new ≡ true)
         → IsErrAnd result (λ fault. fault.kind ≡ Kind.WriteFault) }
 {
@@ -56,7 +61,8 @@ pub fn stream_writes_the_text<R: Source, W: Sink>(
     requires reads { R.failures reader.old ≡ 0 }
     requires writes { W.failures writer.old ≡ 0 }
     requires takes { W.stalled writer.old ≡ false }
-    ensures { (held : List ℕ) → R.remaining reader.old ≡ Some file.now → W.contents writer.old ≡ Some held
+    ensures { (held : List ℕ) → R.remaining reader.old ≡ Some file.now
+        → W.contents writer.old ≡ Some held
         → IfOk result (λ text. W.contents writer.new ≡ Some (held ++ text.items)) }
 {
     files_are_unique();

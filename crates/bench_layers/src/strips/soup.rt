@@ -46,7 +46,8 @@ fn next(last: Stretch, width: u32) -> Stretch
     ensures end { result.end ≤ 2 ^ 20 + 4 }
     ensures some { result.start < result.end }
     ensures below { result.row ≤ last.row + 1 }
-    ensures later { ((result.row ≡ last.row) × (last.end ≤ result.start)) ⊎ (last.row < result.row) }
+    ensures later { ((result.row ≡ last.row) × (last.end ≤ result.start))
+        ⊎ (last.row < result.row) }
 {
     let seed = last
         .seed
@@ -88,11 +89,14 @@ fn add<S: Squares>(
     last: Stretch,
     stretch: Stretch,
 ) -> Result<(), Kind>
-    requires come { HasCome (S.knows squares.old) (S.content squares.old) builder.old (pos last.end) (pos last.row) }
+    requires come { HasCome (S.knows squares.old) (S.content squares.old) builder.old
+        (pos last.end) (pos last.row) }
     requires end { stretch.end ≤ 2 ^ 20 + 4 }
     requires some { stretch.start < stretch.end }
-    requires later { ((stretch.row ≡ last.row) × (last.end ≤ stretch.start)) ⊎ (last.row < stretch.row) }
-    ensures come { OnOk result (HasCome (S.knows squares.new) (S.content squares.new) builder.new (pos stretch.end) (pos stretch.row)) }
+    requires later { ((stretch.row ≡ last.row) × (last.end ≤ stretch.start))
+        ⊎ (last.row < stretch.row) }
+    ensures come { OnOk result (HasCome (S.knows squares.new) (S.content squares.new) builder.new
+        (pos stretch.end) (pos stretch.row)) }
 {
     let run = Run {
         x: i64::from(stretch.start),

@@ -1,13 +1,12 @@
 //! The lines of the command `keys`.
 
 ghost use Rattle.std.specs.Prelude.{◌≡◌, ◌<◌, ◌≤◌, ◌⊎◌, [], ◌∷◌, ◌++◌, OnOk, IfErr, true, false, codes, length, drop, take, slice_index, nat_lt};
-ghost use Rattle.std.specs.Io.KnownBytes.{Appends};
 ghost use Rattle.std.specs.List.{list_any};
-ghost use Rattle.life_base.specs.DeviceRuns.{sink_run};
 ghost use Rattle.life_base.specs.Writing.{LeavesSink, WritesText};
-ghost use Rattle.life_cli.specs.Faults.{Tells};
+ghost use Rattle.life_cli.specs.KeyRuns.{error_line};
 ghost use Rattle.life_cli.specs.Keys.{escaped, escaped_byte, fault_text, is_special, key_line, name_mark, reason_of, refused_line, unopened_line};
 
+use super::outcome::Outcome;
 use crate::sentences::sentence;
 use itoa::Buffer;
 use life_base::{Fault, Kind, Sink, append, write_text, write_texts};
@@ -93,7 +92,8 @@ fn mark(name: &[u8]) -> &'static [u8]
 
 /// Adds the line of a key, which ends in LF.
 fn append_plain_line(line: &mut Vec<u8>, digits: &[u8], name: &[u8]) -> Result<(), Kind>
-    ensures ok { OnOk result (line.new.items ≡ line.old.items ++ (name_mark name.now ++ (digits.now ++ (codes "  " ++ (escaped name.now ++ codes "\n"))))) }
+    ensures ok { OnOk result (line.new.items ≡ line.old.items ++ (name_mark name.now
+        ++ (digits.now ++ (codes "  " ++ (escaped name.now ++ codes "\n"))))) }
     ensures kind { IfErr result (λ kind. kind ≡ Kind.Memory) }
 {
     append(line, mark(name))?;
@@ -105,7 +105,8 @@ fn append_plain_line(line: &mut Vec<u8>, digits: &[u8], name: &[u8]) -> Result<(
 
 /// Adds the line of a key, which ends in NUL.
 fn append_zero_line(line: &mut Vec<u8>, digits: &[u8], name: &[u8]) -> Result<(), Kind>
-    ensures ok { OnOk result (line.new.items ≡ line.old.items ++ (digits.now ++ (codes "  " ++ (name.now ++ 0 ∷ [])))) }
+    ensures ok { OnOk result (line.new.items
+        ≡ line.old.items ++ (digits.now ++ (codes "  " ++ (name.now ++ 0 ∷ [])))) }
     ensures kind { IfErr result (λ kind. kind ≡ Kind.Memory) }
 {
     append(line, digits)?;
@@ -115,7 +116,12 @@ fn append_zero_line(line: &mut Vec<u8>, digits: &[u8], name: &[u8]) -> Result<()
 }
 
 /// Adds the line of a key.
-fn append_key_line(line: &mut Vec<u8>, key: &[u8; 32], name: &[u8], zero: bool) -> Result<(), Kind>
+pub(super) fn append_key_line(
+    line: &mut Vec<u8>,
+    key: &[u8; 32],
+    name: &[u8],
+    zero: bool,
+) -> Result<(), Kind>
     ensures ok { OnOk result (line.new.items ≡ line.old.items ++ key_line zero key.now name.now) }
     ensures kind { IfErr result (λ kind. kind ≡ Kind.Memory) }
 {
@@ -128,30 +134,11 @@ fn append_key_line(line: &mut Vec<u8>, key: &[u8; 32], name: &[u8], zero: bool) 
     }
 }
 
-/// Writes the line of a key, which is made in `room` and written as one text.
-pub(super) fn write_key_line<W: Sink>(
-    out: &mut W,
-    room: &mut Vec<u8>,
-    key: &[u8; 32],
-    name: &[u8],
-    zero: bool,
-) -> Result<(), Kind>
-    requires works { W.failures out.old ≡ 0 }
-    requires takes { W.stalled out.old ≡ false }
-    ensures ok { OnOk result (Appends (W.contents out.old) (W.contents out.new) (key_line zero key.now name.now)) }
-    ensures sink { OnOk result ((W.failures out.new ≡ 0) × (W.stalled out.new ≡ false)) }
-    ensures memory { IfErr result (λ kind. kind ≡ Kind.Memory → out.new ≡ out.old) }
-    ensures kinds { IfErr result (λ kind. (kind ≡ Kind.Memory) ⊎ (kind ≡ Kind.WriteFault)) }
-{
-    room.clear();
-    append_key_line(room, key, name, zero)?;
-    write_text(out, room.as_slice())
-}
-
 /// Writes a name and the mark behind it.
 fn write_name<E: Sink>(err: &mut E, name: &[u8]) -> Result<(), Kind>
     requires { E.failures err.old ≡ 0 }
-    ensures text { WritesText (E.contents err.old) (E.contents err.new) (escaped name.now ++ codes ": ") result }
+    ensures text { WritesText (E.contents err.old) (E.contents err.new)
+        (escaped name.now ++ codes ": ") result }
     ensures sink { LeavesSink E.failures E.stalled err.old err.new result }
 {
     write_escaped(err, name)?;
@@ -161,7 +148,8 @@ fn write_name<E: Sink>(err: &mut E, name: &[u8]) -> Result<(), Kind>
 /// Writes what is told of a fault.
 fn write_fault<E: Sink>(err: &mut E, fault: &Fault) -> Result<(), Kind>
     requires { E.failures err.old ≡ 0 }
-    ensures text { WritesText (E.contents err.old) (E.contents err.new) (fault_text fault.now) result }
+    ensures text { WritesText (E.contents err.old) (E.contents err.new) (fault_text fault.now)
+        result }
     ensures sink { LeavesSink E.failures E.stalled err.old err.new result }
 {
     let kind = fault.kind.name().as_bytes();
@@ -177,7 +165,8 @@ fn write_fault<E: Sink>(err: &mut E, fault: &Fault) -> Result<(), Kind>
 /// Writes the line of a file that is refused: its name, the line of the fault where it names one, the kind, and a sentence on it.
 fn write_refused<E: Sink>(err: &mut E, name: &[u8], fault: &Fault) -> Result<(), Kind>
     requires { E.failures err.old ≡ 0 }
-    ensures text { WritesText (E.contents err.old) (E.contents err.new) (refused_line name.now fault.now) result }
+    ensures text { WritesText (E.contents err.old) (E.contents err.new)
+        (refused_line name.now fault.now) result }
     ensures sink { LeavesSink E.failures E.stalled err.old err.new result }
 {
     write_name(err, name)?;
@@ -199,7 +188,8 @@ fn reason(kind: ErrorKind) -> &'static str
 /// Writes why a file isn't opened.
 fn write_reason<E: Sink>(err: &mut E, kind: ErrorKind) -> Result<(), Kind>
     requires { E.failures err.old ≡ 0 }
-    ensures text { WritesText (E.contents err.old) (E.contents err.new) (reason_of kind ++ codes "\n") result }
+    ensures text { WritesText (E.contents err.old) (E.contents err.new)
+        (reason_of kind ++ codes "\n") result }
     ensures sink { LeavesSink E.failures E.stalled err.old err.new result }
 {
     write_texts(err, &[reason(kind).as_bytes(), b"\n"])
@@ -208,27 +198,28 @@ fn write_reason<E: Sink>(err: &mut E, kind: ErrorKind) -> Result<(), Kind>
 /// Writes the line of a file that can't be opened.
 fn write_unopened<E: Sink>(err: &mut E, name: &[u8], kind: ErrorKind) -> Result<(), Kind>
     requires { E.failures err.old ≡ 0 }
-    ensures text { WritesText (E.contents err.old) (E.contents err.new) (unopened_line name.now kind) result }
+    ensures text { WritesText (E.contents err.old) (E.contents err.new)
+        (unopened_line name.now kind) result }
     ensures sink { LeavesSink E.failures E.stalled err.old err.new result }
 {
     write_name(err, name)?;
     write_reason(err, kind)
 }
 
-/// Writes the line of a file that is refused, as far as the sink takes it. It takes no memory.
-pub(super) fn tell_refused<E: Sink>(err: &mut E, name: &[u8], fault: &Fault)
-    ensures { E.failures err.old ≡ 0 → Tells (sink_run E.contents E.failures E.stalled err.old err.new) (refused_line name.now fault.now) }
+/// Writes why a file has no key.
+pub(super) fn write_error_line<E: Sink>(
+    err: &mut E,
+    name: &[u8],
+    outcome: &Outcome,
+) -> Result<(), Kind>
+    requires { E.failures err.old ≡ 0 }
+    ensures text { WritesText (E.contents err.old) (E.contents err.new)
+        (error_line name.now outcome.now) result }
+    ensures sink { LeavesSink E.failures E.stalled err.old err.new result }
 {
-    if !err.failed() {
-        let _ = write_refused(err, name, fault);
-    }
-}
-
-/// Writes the line of a file that can't be opened, as far as the sink takes it. It takes no memory.
-pub(super) fn tell_unopened<E: Sink>(err: &mut E, name: &[u8], kind: ErrorKind)
-    ensures { E.failures err.old ≡ 0 → Tells (sink_run E.contents E.failures E.stalled err.old err.new) (unopened_line name.now kind) }
-{
-    if !err.failed() {
-        let _ = write_unopened(err, name, kind);
+    match outcome {
+        Outcome::Key(_) => Ok(()),
+        Outcome::Refused(fault) => write_refused(err, name, fault),
+        Outcome::Unopened(kind) => write_unopened(err, name, *kind),
     }
 }

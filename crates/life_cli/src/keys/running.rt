@@ -1,259 +1,111 @@
 //! The command `keys`: its files, one after another.
 
-ghost use Rattle.std.specs.Prelude.{◌≡◌, ◌⊎◌, IfErr, IfOk, OnOk, false};
-ghost use Rattle.life_cli.specs.Faults.{status_of};
-ghost use Rattle.life_cli.specs.Keys.{IsStatus};
+ghost use Rattle.std.specs.Prelude.{◌≡◌, OnOk, false, true, [], map};
+ghost use Rattle.life_base.specs.DeviceRuns.{sink_run};
+ghost use Rattle.life_base.specs.Writing.{LeavesSink};
+ghost use Rattle.life_cli.specs.Keys.{IsStatus, end_of};
+ghost use Rattle.life_cli.specs.KeyRuns.{Listed, names_among, names_in, Ran, TakesFiles, Word};
 
-use super::key_of;
-use super::lines::{tell_refused, tell_unopened, write_key_line};
+use super::files::Files;
 use super::listing::first_name;
+use super::outputs::Outputs;
 use crate::opening::{Opened, Origin, origin_of};
-use crate::plans::{Form, KeysPlan};
+use crate::plans::KeysPlan;
 use crate::reporting::refuse;
 use crate::seeds::Seeds;
-use crate::telling::status;
-use life_base::{Device, Fault, Kind, Sink, read_within};
+use life_base::{Kind, Sink};
 use std::alloc::Global;
-use std::io::{ErrorKind, Read, Result as IoResult};
+use std::io::{Read, Result as IoResult};
 
-/// The most bytes of a list.
-const LONGEST_LIST: u64 = 1 << 30;
-
-/// How the files of a run are taken.
-#[derive(Clone, Copy)]
-struct Settings {
-    alloc: Global,
-    seeds: Seeds,
-    form: Form,
-    zero: bool,
+/// A run: its files, and what it writes of them.
+#[derive(Drop)]
+struct Run<F> {
+    files: Files<F>,
+    outputs: Outputs,
 }
 
-/// Writes the line of an opened file's key, or tells why it has none, and answers its status.
-fn take_opened<R: Read + Drop, W: Sink, E: Sink>(
-    settings: &Settings,
-    name: &[u8],
-    opened: Opened<R>,
-    room: &mut Vec<u8>,
-    out: &mut W,
-    err: &mut E,
-) -> Result<u8, Kind>
-    requires works { W.failures out.old ≡ 0 }
-    requires takes { W.stalled out.old ≡ false }
-    ensures status { IfOk result IsStatus }
-    ensures works { OnOk result (W.failures out.new ≡ 0) }
-    ensures takes { OnOk result (W.stalled out.new ≡ false) }
-    ensures kind { IfErr result (λ kind. kind ≡ Kind.WriteFault) }
-{
-    let mut source = Device::new(opened.input).expecting(opened.bytes);
-    let written = match key_of(settings.alloc, &settings.seeds, settings.form, &mut source) {
-        Ok(key) => write_key_line(out, room, &key, name, settings.zero),
-        Err(fault) => {
-            tell_refused(err, name, &fault);
-            return Ok(status(fault.kind));
+impl<R: Read + Drop, F: FnMut(Origin<'_>) -> IoResult<Opened<R>> + Drop> Run<F> {
+    /// Takes the files that the words name.
+    fn take_words<W: Sink, E: Sink>(
+        &mut self,
+        words: &[&str],
+        out: &mut W,
+        err: &mut E,
+    ) -> Result<(), Kind>
+        requires callable { F.IsAlwaysCallable self.old.files.opener }
+        requires works { W.failures out.old ≡ 0 }
+        requires hears { self.old.outputs.tells ≡ true → E.failures err.old ≡ 0 }
+        ensures callable { F.IsAlwaysCallable self.new.files.opener }
+        ensures took { (rest : _) × OnOk result (rest ≡ [])
+            × TakesFiles F.step R.remaining W.contents E.contents E.failures E.stalled
+            self.old.files.form (map Word (map (λ word. word.now) words.now)) rest
+            self.old.files.opener self.new.files.opener out.old out.new err.old err.new
+            self.old.outputs self.new.outputs result }
+        ensures sink { LeavesSink W.failures W.stalled out.old out.new result }
+        ensures zero { self.new.outputs.zero ≡ self.old.outputs.zero }
+        ensures form { self.new.files.form ≡ self.old.files.form }
+    {
+        for word in words {
+            let outcome = self.files.outcome(origin_of(word));
+            self.outputs.put(word.as_bytes(), outcome, out, err)?;
         }
-    };
-    match written {
-        Ok(()) => Ok(0),
-        Err(Kind::Memory) => {
-            tell_refused(err, name, &Fault::of(Kind::Memory));
-            Ok(4)
-        }
-        Err(kind) => Err(kind),
+        Ok(())
     }
-}
 
-/// Opens a file, writes the line of its key, or tells why it has none, and answers its status.
-fn take<R, F, W, E>(
-    settings: &Settings,
-    opener: &mut F,
-    origin: Origin<'_>,
-    name: &[u8],
-    room: &mut Vec<u8>,
-    out: &mut W,
-    err: &mut E,
-) -> Result<u8, Kind>
-where
-    R: Read + Drop,
-    F: FnMut(Origin<'_>) -> IoResult<Opened<R>> + Drop,
-    W: Sink,
-    E: Sink,
-    requires callable { F.IsAlwaysCallable opener.old }
-    requires works { W.failures out.old ≡ 0 }
-    requires takes { W.stalled out.old ≡ false }
-    ensures callable { F.IsAlwaysCallable opener.new }
-    ensures status { IfOk result IsStatus }
-    ensures works { OnOk result (W.failures out.new ≡ 0) }
-    ensures takes { OnOk result (W.stalled out.new ≡ false) }
-    ensures kind { IfErr result (λ kind. kind ≡ Kind.WriteFault) }
-{
-    match opener(origin) {
-        Ok(opened) => take_opened(settings, name, opened, room, out, err),
-        Err(error) => {
-            tell_unopened(err, name, error.kind());
-            Ok(3)
-        }
-    }
-}
-
-/// The same of a name in a list, which is a file, and can't be opened where it is no UTF-8 text.
-fn take_listed<R, F, W, E>(
-    settings: &Settings,
-    opener: &mut F,
-    name: &[u8],
-    room: &mut Vec<u8>,
-    out: &mut W,
-    err: &mut E,
-) -> Result<u8, Kind>
-where
-    R: Read + Drop,
-    F: FnMut(Origin<'_>) -> IoResult<Opened<R>> + Drop,
-    W: Sink,
-    E: Sink,
-    requires callable { F.IsAlwaysCallable opener.old }
-    requires works { W.failures out.old ≡ 0 }
-    requires takes { W.stalled out.old ≡ false }
-    ensures callable { F.IsAlwaysCallable opener.new }
-    ensures status { IfOk result IsStatus }
-    ensures works { OnOk result (W.failures out.new ≡ 0) }
-    ensures takes { OnOk result (W.stalled out.new ≡ false) }
-    ensures kind { IfErr result (λ kind. kind ≡ Kind.WriteFault) }
-{
-    match str::from_utf8(name) {
-        Ok(text) => take(settings, opener, Origin::File(text), name, room, out, err),
-        Err(_) => {
-            tell_unopened(err, name, ErrorKind::InvalidFilename);
-            Ok(3)
-        }
-    }
-}
-
-/// The bytes of the list that the words name, or none.
-fn list_of<R, F>(alloc: Global, opener: &mut F, from: Option<&str>) -> Result<Vec<u8>, Kind>
-where
-    R: Read + Drop,
-    F: FnMut(Origin<'_>) -> IoResult<Opened<R>> + Drop,
-    requires callable { F.IsAlwaysCallable opener.old }
-    ensures callable { F.IsAlwaysCallable opener.new }
-    ensures kind { IfErr result (λ kind. (kind ≡ Kind.ReadFault) ⊎ ((kind ≡ Kind.InputTooLong) ⊎ (kind ≡ Kind.Memory))) }
-{
-    let Some(name) = from else {
-        return Ok(Vec::new(alloc));
-    };
-    let Ok(opened) = opener(origin_of(name)) else {
-        return Err(Kind::ReadFault);
-    };
-    let mut source = Device::new(opened.input).expecting(opened.bytes);
-    read_within(alloc, &mut source, LONGEST_LIST)
-}
-
-/// Takes the files that the words name, and answers the greatest status.
-fn take_named<R, F, W, E>(
-    settings: &Settings,
-    opener: &mut F,
-    names: &[&str],
-    room: &mut Vec<u8>,
-    out: &mut W,
-    err: &mut E,
-) -> Result<u8, Kind>
-where
-    R: Read + Drop,
-    F: FnMut(Origin<'_>) -> IoResult<Opened<R>> + Drop,
-    W: Sink,
-    E: Sink,
-    requires callable { F.IsAlwaysCallable opener.old }
-    requires works { W.failures out.old ≡ 0 }
-    requires takes { W.stalled out.old ≡ false }
-    ensures callable { F.IsAlwaysCallable opener.new }
-    ensures status { IfOk result IsStatus }
-    ensures works { OnOk result (W.failures out.new ≡ 0) }
-    ensures takes { OnOk result (W.stalled out.new ≡ false) }
-    ensures kind { IfErr result (λ kind. kind ≡ Kind.WriteFault) }
-{
-    let mut greatest = 0;
-    for name in names {
-        let status = take(
-            settings,
-            opener,
-            origin_of(name),
-            name.as_bytes(),
-            room,
-            out,
-            err,
-        )?;
-        if status > greatest {
-            greatest = status;
-        }
-    }
-    Ok(greatest)
-}
-
-/// Takes the files that a list names, and answers the greatest status.
-fn take_list<R, F, W, E>(
-    settings: &Settings,
-    opener: &mut F,
-    list: &[u8],
-    room: &mut Vec<u8>,
-    out: &mut W,
-    err: &mut E,
-) -> Result<u8, Kind>
-where
-    R: Read + Drop,
-    F: FnMut(Origin<'_>) -> IoResult<Opened<R>> + Drop,
-    W: Sink,
-    E: Sink,
-    requires callable { F.IsAlwaysCallable opener.old }
-    requires works { W.failures out.old ≡ 0 }
-    requires takes { W.stalled out.old ≡ false }
-    ensures callable { F.IsAlwaysCallable opener.new }
-    ensures status { IfOk result IsStatus }
-    ensures works { OnOk result (W.failures out.new ≡ 0) }
-    ensures takes { OnOk result (W.stalled out.new ≡ false) }
-    ensures kind { IfErr result (λ kind. kind ≡ Kind.WriteFault) }
-{
-    let end = if settings.zero { b'\0' } else { b'\n' };
-    let mut greatest = 0;
-    let mut rest = list;
-    while !rest.is_empty() {
-        let (name, behind) = first_name(rest, end);
-        rest = behind;
-        if !name.is_empty() {
-            let status = take_listed(settings, opener, name, room, out, err)?;
-            if status > greatest {
-                greatest = status;
+    /// Takes the files that a list names.
+    fn take_list<W: Sink, E: Sink>(
+        &mut self,
+        list: &[u8],
+        out: &mut W,
+        err: &mut E,
+    ) -> Result<(), Kind>
+        requires callable { F.IsAlwaysCallable self.old.files.opener }
+        requires works { W.failures out.old ≡ 0 }
+        requires hears { self.old.outputs.tells ≡ true → E.failures err.old ≡ 0 }
+        ensures callable { F.IsAlwaysCallable self.new.files.opener }
+        ensures took { (rest : _) × OnOk result (rest ≡ [])
+            × TakesFiles F.step R.remaining W.contents E.contents E.failures E.stalled
+            self.old.files.form (map Listed (names_in (end_of self.old.outputs.zero) list.now))
+            rest self.old.files.opener self.new.files.opener out.old out.new err.old err.new
+            self.old.outputs self.new.outputs result }
+        ensures sink { LeavesSink W.failures W.stalled out.old out.new result }
+    {
+        let end = if self.outputs.zero { b'\0' } else { b'\n' };
+        let mut rest = list;
+        while !rest.is_empty() {
+            let (name, behind) = first_name(rest, end);
+            rest = behind;
+            if !name.is_empty() {
+                let outcome = self.files.listed_outcome(name);
+                self.outputs.put(name, outcome, out, err)?;
             }
         }
+        Ok(())
     }
-    Ok(greatest)
-}
 
-/// Takes all files of the plan, and answers the greatest status.
-fn take_all<R, F, W, E>(
-    settings: &Settings,
-    opener: &mut F,
-    plan: &KeysPlan<'_>,
-    out: &mut W,
-    err: &mut E,
-) -> Result<u8, Kind>
-where
-    R: Read + Drop,
-    F: FnMut(Origin<'_>) -> IoResult<Opened<R>> + Drop,
-    W: Sink,
-    E: Sink,
-    requires callable { F.IsAlwaysCallable opener.old }
-    requires works { W.failures out.old ≡ 0 }
-    requires takes { W.stalled out.old ≡ false }
-    ensures status { IfOk result IsStatus }
-    ensures kind { IfErr result (λ kind. IsStatus (status_of kind)) }
-{
-    let list = list_of(settings.alloc, opener, plan.from)?;
-    let mut room = Vec::new(settings.alloc);
-    let named = take_named(settings, opener, plan.files.as_slice(), &mut room, out, err)?;
-    let listed = take_list(settings, opener, list.as_slice(), &mut room, out, err)?;
-    out.flush()?;
-    if named > listed {
-        Ok(named)
-    } else {
-        Ok(listed)
+    /// Takes the files that the plan names, and then those of its list.
+    fn take_all<W: Sink, E: Sink>(
+        &mut self,
+        words: &[&str],
+        list: &[u8],
+        out: &mut W,
+        err: &mut E,
+    ) -> Result<(), Kind>
+        requires callable { F.IsAlwaysCallable self.old.files.opener }
+        requires works { W.failures out.old ≡ 0 }
+        requires hears { self.old.outputs.tells ≡ true → E.failures err.old ≡ 0 }
+        ensures took { (rest : _) × OnOk result (rest ≡ [])
+            × TakesFiles F.step R.remaining W.contents E.contents E.failures E.stalled
+            self.old.files.form
+            (names_among self.old.outputs.zero (map (λ word. word.now) words.now) list.now) rest
+            self.old.files.opener self.new.files.opener out.old out.new err.old err.new
+            self.old.outputs self.new.outputs result }
+        ensures sink { LeavesSink W.failures W.stalled out.old out.new result }
+        ensures flushed { OnOk result (W.flushed out.new ≡ true) }
+    {
+        self.take_words(words, out, err)?;
+        self.take_list(list, out, err)?;
+        out.flush()
     }
 }
 
@@ -263,7 +115,7 @@ pub fn write_keys<R, F, W, E>(
     alloc: Global,
     seeds: &Seeds,
     plan: &KeysPlan<'_>,
-    mut opener: F,
+    opener: F,
     out: &mut W,
     err: &mut E,
 ) -> u8
@@ -275,22 +127,29 @@ where
     requires callable { F.IsAlwaysCallable opener }
     requires works { W.failures out.old ≡ 0 }
     requires takes { W.stalled out.old ≡ false }
-    ensures { IsStatus result }
+    requires tells { E.failures err.old ≡ 0 }
+    requires hears { E.stalled err.old ≡ false }
+    ensures ran { Ran F.step R.remaining plan.now opener
+        (sink_run W.contents W.failures W.stalled out.old out.new)
+        (sink_run E.contents E.failures E.stalled err.old err.new) (W.flushed out.new) result }
+    ensures status { IsStatus result }
 {
-    let settings = Settings {
+    let mut files = Files {
         alloc,
         seeds: *seeds,
         form: plan.form,
-        zero: plan.zero,
+        opener,
     };
-    match take_all(&settings, &mut opener, plan, out, err) {
-        Ok(status) => status,
-        Err(kind) => {
-            if err.failed() {
-                status(kind)
-            } else {
-                refuse(err, kind)
-            }
-        }
+    let list = match files.list(plan.from) {
+        Ok(list) => list,
+        Err(kind) => return refuse(err, kind),
+    };
+    let mut run = Run {
+        files,
+        outputs: Outputs::new(alloc, plan.zero),
+    };
+    match run.take_all(plan.files.as_slice(), list.as_slice(), out, err) {
+        Ok(()) => run.outputs.status,
+        Err(kind) => run.outputs.break_off(err, kind),
     }
 }

@@ -165,7 +165,8 @@ fn with_command<'a>(
     command: Command<'a>,
     made: Result<Command<'a>, AllocError>,
 ) -> Result<Command<'a>, AllocError>
-    ensures { (line added : App) → ReadsAs line command.entry → IfOk made.entry (ReadsAs added) → IfOk result (ReadsAs (with_subcommand line added.top)) }
+    ensures { (line added : App) → ReadsAs line command.entry → IfOk made.entry (ReadsAs added)
+        → IfOk result (ReadsAs (with_subcommand line added.top)) }
 {
     let more = made?;
     command.subcommand(more)

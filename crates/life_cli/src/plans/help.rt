@@ -259,6 +259,9 @@ A file that is refused or can't be opened is told on standard error, by its name
 passed over. In a name, a backslash, a line feed and a carriage return are written as
 \\\\, \\n and \\r, and the line then begins with a backslash.
 
+Where standard error is a terminal, a line there says how many files are done, once that
+takes more than a second. It is cleared before any other line, and at the end.
+
 LIST holds a name a line, as `find` writes them; with --zero each ends in NUL, as by
 `find -print0`, and so do the lines that are written. It is read before any file is
 opened. In it - is a file of that name.",

@@ -28,14 +28,16 @@ fn refusal(alloc: Global, message: &str) -> Usage
 
 /// The first value of an option or a file.
 fn value<'a>(found: &ArgMatches<'a>, id: &str) -> Option<&'a str>
-    ensures { option_map (λ text. text.now) result ≡ first_of id.now (rows_of (found_of found.now)) }
+    ensures { option_map (λ text. text.now) result
+        ≡ first_of id.now (rows_of (found_of found.now)) }
 {
     found.get_str(id)
 }
 
 fn required(alloc: Global, found: &ArgMatches<'_>, id: &str) -> Result<String, Usage>
     requires { IsFound id.now (rows_of (found_of found.now)) }
-    ensures ok { IfOk result (λ s. first_of id.now (rows_of (found_of found.now)) ≡ Some (string_bytes s)) }
+    ensures ok { IfOk result
+        (λ s. first_of id.now (rows_of (found_of found.now)) ≡ Some (string_bytes s)) }
     ensures err { IfErr result (λ usage. usage ≡ Usage.Memory) }
 {
     match value(found, id) {
@@ -46,7 +48,8 @@ fn required(alloc: Global, found: &ArgMatches<'_>, id: &str) -> Result<String, U
 
 /// The format of a word.
 fn target_named(word: &str) -> Option<Target>
-    ensures { MatchOption result ((t : TargetValue) → word.now ≢ target_word t) (λ t. word.now ≡ target_word t) }
+    ensures { MatchOption result ((t : TargetValue) → word.now ≢ target_word t)
+        (λ t. word.now ≡ target_word t) }
 {
     match word {
         "rle" => Some(Target::Rle),
@@ -58,7 +61,8 @@ fn target_named(word: &str) -> Option<Target>
 /// The format that `--to` names.
 fn target(alloc: Global, found: &ArgMatches<'_>) -> Result<Target, Usage>
     requires { IsFound (codes "to") (rows_of (found_of found.now)) }
-    ensures ok { IfOk result (λ t. first_of (codes "to") (rows_of (found_of found.now)) ≡ Some (target_word t)) }
+    ensures ok { IfOk result
+        (λ t. first_of (codes "to") (rows_of (found_of found.now)) ≡ Some (target_word t)) }
     ensures err { IfErr result (RefusesWord (HasNoFormat (rows_of (found_of found.now)))) }
 {
     match value(found, "to") {
@@ -72,7 +76,8 @@ fn target(alloc: Global, found: &ArgMatches<'_>) -> Result<Target, Usage>
 
 /// The form of a word.
 fn form_named(word: &str) -> Option<Form>
-    ensures { MatchOption result ((f : FormValue) → word.now ≢ form_word f) (λ f. word.now ≡ form_word f) }
+    ensures { MatchOption result ((f : FormValue) → word.now ≢ form_word f)
+        (λ f. word.now ≡ form_word f) }
 {
     match word {
         "placed" => Some(Form::Placed),
@@ -120,7 +125,8 @@ fn over_files(
 ) -> Result<Plan, Usage>
     requires first { IsFound first.now (rows_of (found_of found.now)) }
     requires second { IsFound second.now (rows_of (found_of found.now)) }
-    ensures ok { IfOk result (λ p. (p.job ≡ job) × HoldsFiles first.now second.now (rows_of (found_of found.now)) p) }
+    ensures ok { IfOk result
+        (λ p. (p.job ≡ job) × HoldsFiles first.now second.now (rows_of (found_of found.now)) p) }
     ensures err { IfErr result (λ usage. usage ≡ Usage.Memory) }
 {
     let first = required(alloc, found, first)?;
@@ -229,7 +235,8 @@ fn copied<'a>(alloc: Global, names: &[&'a str]) -> Result<Vec<&'a str>, Usage>
 
 /// All values of an option or of files.
 fn values<'a>(alloc: Global, found: &ArgMatches<'a>, id: &str) -> Result<Vec<&'a str>, Usage>
-    ensures ok { IfOk result (λ values. map (λ value. value.now) values.items ≡ values_of id.now (rows_of (found_of found.now))) }
+    ensures ok { IfOk result (λ values. map (λ value. value.now) values.items
+        ≡ values_of id.now (rows_of (found_of found.now))) }
     ensures err { IfErr result (λ usage. usage ≡ Usage.Memory) }
 {
     match found.get_strs(id) {
@@ -368,8 +375,10 @@ pub fn request<'a, S: AsStr>(alloc: Global, words: &'a [S]) -> Result<Request<'a
     ensures faultless { OnOk result (fault_of program (map S.text words.entry.now) ≡ []) }
     ensures ok { IfOk result (IsRequestOf (subcommand_of program (map S.text words.entry.now))) }
     ensures files { IfOk result (IfWork (λ p. IsSome p.second ↔ HasSecond p.job)) }
-    ensures once { OnOk result (¬ NamesInputTwice (subcommand_of program (map S.text words.entry.now))) }
-    ensures refused { IfErr result (Explains (fault_of program (map S.text words.entry.now)) (subcommand_of program (map S.text words.entry.now))) }
+    ensures once { OnOk result
+        (¬ NamesInputTwice (subcommand_of program (map S.text words.entry.now))) }
+    ensures refused { IfErr result (Explains (fault_of program (map S.text words.entry.now))
+        (subcommand_of program (map S.text words.entry.now))) }
 {
     let matches = parse(alloc, words)?;
     from_matches(alloc, &matches)
@@ -384,8 +393,10 @@ pub fn plan<S: AsStr>(alloc: Global, words: &[S]) -> Result<Plan, Usage>
     ensures faultless { OnOk result (fault_of program (map S.text words.entry.now) ≡ []) }
     ensures ok { IfOk result (IsPlanOf (subcommand_of program (map S.text words.entry.now))) }
     ensures files { IfOk result (λ p. IsSome p.second ↔ HasSecond p.job) }
-    ensures once { OnOk result (¬ NamesInputTwice (subcommand_of program (map S.text words.entry.now))) }
-    ensures refused { IfErr result (ExplainsPlan (fault_of program (map S.text words.entry.now)) (subcommand_of program (map S.text words.entry.now))) }
+    ensures once { OnOk result
+        (¬ NamesInputTwice (subcommand_of program (map S.text words.entry.now))) }
+    ensures refused { IfErr result (ExplainsPlan (fault_of program (map S.text words.entry.now))
+        (subcommand_of program (map S.text words.entry.now))) }
 {
     match request(alloc, words) {
         Ok(Request::Work(plan)) => Ok(plan),

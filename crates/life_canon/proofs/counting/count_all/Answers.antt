@@ -10,7 +10,7 @@ returns-clause-squares g c =
     let content = g.S.Squares.content c.args.squares.now in
     let t = content c.args.id in
     let ids = c.count_square.new.numbers.ids in
-    let walked = c.in_ok-cells.ensures.walked ∙ ap (λ ks. with_all (map content ks) (walk t c.args.least)) c.growing-numbers.ensures in
+    let walked = c.in_ok-cells.ensures.walked ∙ ap (λ ks. with_all (map content ks) (walk t c.args.least)) c.requires.none in
     let long : length c.count_square.new.cells.items ≡ length (listed t c.args.least) =
     ap length c.in_ok-cells.ensures.cells ∙ length-map ids (λ k. population (content k)) ∙ sym (length-map ids content) ∙ ap length walked in
     omega (arith, c.len.ensures, c.count_square.new.cells.ok, long)

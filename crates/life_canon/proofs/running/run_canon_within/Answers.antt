@@ -62,7 +62,7 @@ deliver_squares-requires-clause-level g c
     = (read-fits c.in_ok-pattern.ensures.pattern.bytes c.read_source.new.store c.in_ok-pattern.pattern c.in_ok-pattern.ensures.pattern.is).level
 
 pub deliver_squares-requires-clause-bound : goal.deliver_squares-requires-clause-bound
-deliver_squares-requires-clause-bound g c = λ q k. c.in_ok-numbers.ensures.bound q k.0
+deliver_squares-requires-clause-bound g c = λ q k l s. c.in_ok-numbers.ensures.bound q k.0 l s
 
 pub returns-in_err-deliver_squares-clause-err : goal.returns-in_err-deliver_squares-clause-err
 returns-in_err-deliver_squares-clause-err g c =

@@ -16,5 +16,5 @@ returns-clause-lines c =
     let root = content store p.root in
     let k = known_squares_are_full store p.root c.requires.known.0 in
     let file = file-of below_top p.rule p.generation root k.0 k.1 c.requires.level c.requires.trimmed in
-    IfOk-weaker c.count_all.result _ _ (λ counts e. e ∙ ap (λ m. length (listed root m)) c.least_level.ensures ∙ sym (length-map _ (line_of p.rule _))
+    IfOk-weaker c.count_all.result _ _ (λ counts e. e ∙ ap (λ m. length (listed root m)) c.least_level-least.ensures ∙ sym (length-map _ (line_of p.rule _))
     ∙ ap (λ (m : Macrocell). length m.lines) (sym file)) c.count_all.ensures.squares

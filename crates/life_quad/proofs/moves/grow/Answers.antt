@@ -3,10 +3,11 @@ use Rattle.life_base.specs.declared.cell.TheConstants.{MAX_LEVEL}
 use Rattle.life_base.specs.Tree.{Tree, quad, depth, blank as blank_of}
 use Rattle.life_quad.specs.Keeping.{KeepsSquares}
 use Rattle.life_quad.specs.Moves.{grown}
+use Rattle.life_quad.specs.Refused.{SomePart}
 use Rattle.life_quad.specs.declared.id.Id.{Id}
 use Rattle.life_quad.proofs.RefusedLemmas.{grown_is, SomePart-grown}
-use Rattle.life_quad.proofs.KeepingLemmas.{keeps-same, keeps-then}
-use Rattle.life_quad.proofs.MakingLemmas.{joined-last, join-refused}
+use Rattle.life_quad.proofs.KeepingLemmas.{keeps-same, keeps-then, adds-none, adds-as, adds-then}
+use Rattle.life_quad.proofs.MakingLemmas.{joined-only, refused-only}
 use Rattle.life_quad.proofs.moves.grow.Goals as goal
 
 -- a blank square and a quarter behind calls that keep the squares of a store
@@ -119,36 +120,58 @@ join-requires-5 g c =
 
 pub returns-in_err-north_west : goal.returns-in_err-north_west
 returns-in_err-north_west g c =
+    let d = c.divide.ensures in
+    let known = c.empty-e.ensures.known in
     let side = c.empty-e.ensures.square ∙ ap blank_of c.level.ensures.level in
-    join-refused g.S.Squares.needs_node _ _ c.from_residual.result c.from_residual.ensures.1 (keeps-same c.args.squares.now) c.in_err-north_west.ensures
-    (λ n. SomePart-grown _ _ _ _ _ _ c.divide.ensures.square side (g.S.Squares.needs_node c.join.new.self) (inr (inl (inl n))))
+    let Needs : (Tree → Type 0) → Type 0 = λ P. SomePart P (grown (g.S.Squares.content c.args.squares.now c.args.id)) in
+    refused-only g.S.Squares.needs_node _ _ Needs c.from_residual.result c.from_residual.ensures.1 (keeps-same c.args.squares.now)
+    (adds-none Needs c.args.squares.now) c.in_err-north_west.ensures
+    (λ P n. SomePart-grown _ _ _ _ _ _ d.square side P (inr (inl (inl n))))
 
 pub returns-in_err-north_east : goal.returns-in_err-north_east
 returns-in_err-north_east g c =
-    let keeps = c.join.ensures.keeps in
+    let d = c.divide.ensures in
+    let known = c.empty-e.ensures.known in
     let side = c.empty-e.ensures.square ∙ ap blank_of c.level.ensures.level in
-    let N = g.S.Squares.needs_node in
-    join-refused N _ _ c.from_residual-in_err-north_east.result c.from_residual-in_err-north_east.ensures.1 keeps c.in_err-north_east.ensures
-    (λ n. SomePart-grown _ _ _ _ _ _ c.divide.ensures.square side (N c.join-2.new.self)
-    (inr (inr (inl (inl (needs_before (N c.join-2.new.self) (λ e q. quad e e q e) keeps c.empty-e.ensures.known c.divide.ensures.quarters.ne n))))))
+    let Needs : (Tree → Type 0) → Type 0 = λ P. SomePart P (grown (g.S.Squares.content c.args.squares.now c.args.id)) in
+    let adds_1 = adds-as Needs c.join.ensures.adds (λ P n. SomePart-grown _ _ _ _ _ _ d.square side P (inr (inl (inl n)))) in
+    let keeps_1 = c.join.ensures.keeps in
+    refused-only g.S.Squares.needs_node _ _ Needs c.from_residual-in_err-north_east.result c.from_residual-in_err-north_east.ensures.1
+    keeps_1 adds_1 c.in_err-north_east.ensures
+    (λ P n. SomePart-grown _ _ _ _ _ _ d.square side P (inr (inr (inl (inl (needs_before P (λ e q. quad e e q e) keeps_1 known d.quarters.ne n))))))
 
 pub returns-in_err-south_west : goal.returns-in_err-south_west
 returns-in_err-south_west g c =
-    let keeps = keeps-then c.join.ensures.keeps c.join-2.ensures.keeps in
+    let d = c.divide.ensures in
+    let known = c.empty-e.ensures.known in
     let side = c.empty-e.ensures.square ∙ ap blank_of c.level.ensures.level in
-    let N = g.S.Squares.needs_node in
-    join-refused N _ _ c.from_residual-in_err-south_west.result c.from_residual-in_err-south_west.ensures.1 keeps c.in_err-south_west.ensures
-    (λ n. SomePart-grown _ _ _ _ _ _ c.divide.ensures.square side (N c.join-3.new.self)
-    (inr (inr (inr (inl (inl (needs_before (N c.join-3.new.self) (λ e q. quad e q e e) keeps c.empty-e.ensures.known c.divide.ensures.quarters.sw n)))))))
+    let Needs : (Tree → Type 0) → Type 0 = λ P. SomePart P (grown (g.S.Squares.content c.args.squares.now c.args.id)) in
+    let adds_1 = adds-as Needs c.join.ensures.adds (λ P n. SomePart-grown _ _ _ _ _ _ d.square side P (inr (inl (inl n)))) in
+    let keeps_1 = c.join.ensures.keeps in
+    let adds_2 = adds-then Needs adds_1 c.join-2.ensures.adds (λ P a. a)
+    (λ P n. SomePart-grown _ _ _ _ _ _ d.square side P (inr (inr (inl (inl (needs_before P (λ e q. quad e e q e) keeps_1 known d.quarters.ne n)))))) in
+    let keeps_2 = keeps-then keeps_1 c.join-2.ensures.keeps in
+    refused-only g.S.Squares.needs_node _ _ Needs c.from_residual-in_err-south_west.result c.from_residual-in_err-south_west.ensures.1
+    keeps_2 adds_2 c.in_err-south_west.ensures
+    (λ P n. SomePart-grown _ _ _ _ _ _ d.square side P (inr (inr (inr (inl (inl (needs_before P (λ e q. quad e q e e) keeps_2 known d.quarters.sw n)))))))
 
 pub returns-in_err-south_east : goal.returns-in_err-south_east
 returns-in_err-south_east g c =
-    let keeps = keeps-then (keeps-then c.join.ensures.keeps c.join-2.ensures.keeps) c.join-3.ensures.keeps in
+    let d = c.divide.ensures in
+    let known = c.empty-e.ensures.known in
     let side = c.empty-e.ensures.square ∙ ap blank_of c.level.ensures.level in
-    let N = g.S.Squares.needs_node in
-    join-refused N _ _ c.from_residual-in_err-south_east.result c.from_residual-in_err-south_east.ensures.1 keeps c.in_err-south_east.ensures
-    (λ n. SomePart-grown _ _ _ _ _ _ c.divide.ensures.square side (N c.join-4.new.self)
-    (inr (inr (inr (inr (inl (needs_before (N c.join-4.new.self) (λ e q. quad q e e e) keeps c.empty-e.ensures.known c.divide.ensures.quarters.se n)))))))
+    let Needs : (Tree → Type 0) → Type 0 = λ P. SomePart P (grown (g.S.Squares.content c.args.squares.now c.args.id)) in
+    let adds_1 = adds-as Needs c.join.ensures.adds (λ P n. SomePart-grown _ _ _ _ _ _ d.square side P (inr (inl (inl n)))) in
+    let keeps_1 = c.join.ensures.keeps in
+    let adds_2 = adds-then Needs adds_1 c.join-2.ensures.adds (λ P a. a)
+    (λ P n. SomePart-grown _ _ _ _ _ _ d.square side P (inr (inr (inl (inl (needs_before P (λ e q. quad e e q e) keeps_1 known d.quarters.ne n)))))) in
+    let keeps_2 = keeps-then keeps_1 c.join-2.ensures.keeps in
+    let adds_3 = adds-then Needs adds_2 c.join-3.ensures.adds (λ P a. a)
+    (λ P n. SomePart-grown _ _ _ _ _ _ d.square side P (inr (inr (inr (inl (inl (needs_before P (λ e q. quad e q e e) keeps_2 known d.quarters.sw n))))))) in
+    let keeps_3 = keeps-then keeps_2 c.join-3.ensures.keeps in
+    refused-only g.S.Squares.needs_node _ _ Needs c.from_residual-in_err-south_east.result c.from_residual-in_err-south_east.ensures.1
+    keeps_3 adds_3 c.in_err-south_east.ensures
+    (λ P n. SomePart-grown _ _ _ _ _ _ d.square side P (inr (inr (inr (inr (inl (needs_before P (λ e q. quad q e e e) keeps_3 known d.quarters.se n)))))))
 
 pub returns : goal.returns
 returns g c =
@@ -193,9 +216,20 @@ returns g c =
     ≡ quad (quad e e e (C o c.divide.result.nw)) (quad e e (C o c.divide.result.ne) e) (quad e (C o c.divide.result.sw) e e)
     (quad (C o c.divide.result.se) e e e) =
     (λ i. quad (nw i) (ne i) (sw i) (se i)) in
-    let N = g.S.Squares.needs_node in
-    let keeps = keeps-then (keeps-then (keeps-then first.keeps second.keeps) third.keeps) fourth.keeps in
-    joined-last N (λ u. u ≡ grown (C o c.args.id)) c.join-5.result keeps c.join-5.ensures (whole ∙ grown_is _ _ _ _ _ _ d.square side)
-    (λ n. SomePart-grown _ _ _ _ _ _ d.square side (N c.join-5.new.self) (inl (subst (N c.join-5.new.self) whole n)))
+    let known = c.empty-e.ensures.known in
+    let Needs : (Tree → Type 0) → Type 0 = λ P. SomePart P (grown (g.S.Squares.content c.args.squares.now c.args.id)) in
+    let adds_1 = adds-as Needs c.join.ensures.adds (λ P n. SomePart-grown _ _ _ _ _ _ d.square side P (inr (inl (inl n)))) in
+    let keeps_1 = c.join.ensures.keeps in
+    let adds_2 = adds-then Needs adds_1 c.join-2.ensures.adds (λ P a. a)
+    (λ P n. SomePart-grown _ _ _ _ _ _ d.square side P (inr (inr (inl (inl (needs_before P (λ e q. quad e e q e) keeps_1 known d.quarters.ne n)))))) in
+    let keeps_2 = keeps-then keeps_1 c.join-2.ensures.keeps in
+    let adds_3 = adds-then Needs adds_2 c.join-3.ensures.adds (λ P a. a)
+    (λ P n. SomePart-grown _ _ _ _ _ _ d.square side P (inr (inr (inr (inl (inl (needs_before P (λ e q. quad e q e e) keeps_2 known d.quarters.sw n))))))) in
+    let keeps_3 = keeps-then keeps_2 c.join-3.ensures.keeps in
+    let adds_4 = adds-then Needs adds_3 c.join-4.ensures.adds (λ P a. a)
+    (λ P n. SomePart-grown _ _ _ _ _ _ d.square side P (inr (inr (inr (inr (inl (needs_before P (λ e q. quad q e e e) keeps_3 known d.quarters.se n))))))) in
+    let keeps_4 = keeps-then keeps_3 c.join-4.ensures.keeps in
+    joined-only g.S.Squares.needs_node (λ u. u ≡ grown (C o c.args.id)) Needs c.join-5.result keeps_4 adds_4 c.join-5.ensures
+    (whole ∙ grown_is _ _ _ _ _ _ d.square side) (λ P n. SomePart-grown _ _ _ _ _ _ d.square side P (inl (subst P whole n)))
 
 -- These are the answers of the five joins.

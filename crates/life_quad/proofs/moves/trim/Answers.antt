@@ -1,8 +1,10 @@
 use Rattle.std.proofs.Common.{◌≡◌, sym, ◌∙◌, ap, subst}
+use Rattle.life_base.specs.Tree.{Tree}
+use Rattle.life_quad.specs.Refused.{TrimmedTo}
 use Rattle.life_quad.specs.Moves.{AreQuarters, inner, trimmed, can_trim}
-use Rattle.life_quad.proofs.KeepingLemmas.{keeps-same}
+use Rattle.life_quad.proofs.KeepingLemmas.{keeps-same, adds-none}
 use Rattle.life_quad.proofs.LawLemmas.{trimmed-lower}
-use Rattle.life_quad.proofs.MakingLemmas.{joined-last}
+use Rattle.life_quad.proofs.MakingLemmas.{joined-only}
 use Rattle.life_quad.proofs.MoveLemmas.{trimmed-smaller}
 use Rattle.life_quad.proofs.moves.trim.Goals as goal
 
@@ -21,5 +23,6 @@ returns g c =
     let can = ap (λ u. can_trim u least) c.divide.ensures.square ∙ sym c.in-Some.ensures.trims in
     let smaller = c.innermost.ensures.square ∙ ap (λ u. trimmed u least) (sym c.in-Some.ensures.square ∙ sym (ap inner c.divide.ensures.square))
     ∙ trimmed-smaller t least full c.requires.positive can in
-    joined-last N (λ u. u ≡ trimmed t least) c.join.result (keeps-same old) c.join.ensures smaller
-    (λ n. record { smaller = trimmed-lower t least full c.requires.positive can; has = subst (N c.join.new.self) smaller n })
+    let Needs : (Tree → Type 0) → Type 0 = λ P. TrimmedTo P t least in
+    joined-only N (λ u. u ≡ trimmed t least) Needs c.join.result (keeps-same old) (adds-none Needs old) c.join.ensures smaller
+    (λ P n. record { smaller = trimmed-lower t least full c.requires.positive can; has = subst P smaller n })

@@ -1,4 +1,4 @@
-use Rattle.std.proofs.Common.{◌≡◌, ◌⊎◌, Some, sym, subst, inl, inr, drop}
+use Rattle.std.proofs.Common.{◌≡◌, ◌⊎◌, Some, sym, subst, inl, inr, drop, ℤ, w64, to_z, of_z, to_z-of_z, FitsSigned, rules}
 use Rattle.std.proofs.lemmas.Result.{err_from_is_err_and}
 use Rattle.life_base.specs.declared.kind.Kind.{Kind}
 use Rattle.life_base.specs.declared.kind.Kind.TheVariants.{Memory}
@@ -8,6 +8,10 @@ use Rattle.life_rle.specs.Pattern.{item_fault}
 use Rattle.life_rle.specs.Reading.{ItemsBreak, no_item, bad_item}
 use Rattle.life_rle.proofs.ReadItems.{spelled-as, reads-as, found-small, reads_more}
 use Rattle.life_rle.proofs.line_items.read_items.Goals as goal
+
+-- a number of the type, as it is held
+held : (n m : ℤ) → FitsSigned w64 n → n ≡ m → to_z w64 (of_z w64 n) ≡ m
+held n m fits e = simp to_z-of_z e
 
 pub returns-in-Broken-clause-fault : goal.returns-in-Broken-clause-fault
 returns-in-Broken-clause-fault c =
@@ -44,6 +48,7 @@ loop-at-preserved c =
     let said = c.in_ok-cursor-in-Spelled.ensures in
     record {
       inside = c.in-Spelled.ensures.1;
+      limit = held _ _ (search rules) (c.limit_behind-limit.ensures c.loop-at.cursor c.loop-at.invariant.limit said.cursor);
       read =
           reads_more MAX_LEVEL rule c.args.from c.loop-at.cursor line (drop c.in-Spelled.behind line) c.reserve_runs.new.runs.items c.loop-at.runs.items
           c.take_item.new.runs.items c.in-Spelled.item c.in_ok-cursor-in-Spelled.cursor

@@ -3,12 +3,12 @@ use Rattle.std.proofs.lemmas.Result.{err_from_is_err_and}
 use Rattle.life_base.specs.Tree.{Tree}
 use Rattle.life_quad.specs.Refused.{SomePart}
 use Rattle.life_quad.specs.Store.{four}
-use Rattle.life_quad.proofs.KeepingLemmas.{keeps-then}
+use Rattle.life_quad.proofs.KeepingLemmas.{keeps-then, keeps-same}
 use Rattle.life_strip.specs.Band.{cells_at}
 use Rattle.life_strip.specs.Strip.{FilledTo}
 use Rattle.life_strip.proofs.NeededLemmas.{err_again}
-use Rattle.life_strip.proofs.SpanLemmas.{from-first}
-use Rattle.life_strip.proofs.StretchLemmas.{same-columns}
+use Rattle.life_strip.proofs.SpanLemmas.{from-first, filled-skip}
+use Rattle.life_strip.proofs.StretchLemmas.{same-columns, blank-columns}
 use Rattle.life_strip.proofs.bands.push_rows.Goals as goal
 
 pub returns-in_err-push_square-clause-needed : goal.returns-in_err-push_square-clause-needed
@@ -31,7 +31,7 @@ returns-in_err-push_square-2-clause-needed g c =
     rw (p.1, p.2)
     (λ e. (
       c.loop-square.square,
-      c.loop-square-test.true,
+      omega (arith, c.loop-square-test.true, c.blank_from-last.ensures.within),
       subst needs c.cells_of-cells-in-loop-square.ensures (c.in_err-push_square-2.ensures.needed (err_again e)),
     ))
 
@@ -55,10 +55,24 @@ loop-square-preserved g c =
       n.within,
     )
 
+pub loop-square-init : goal.loop-square-init
+loop-square-init g c = (
+  λ want p squares. let r = c.blank_to-square.ensures in
+      filled-skip (g.S.Squares.knows c.args.squares.now) (g.S.Squares.content c.args.squares.now) 2 want c.args.spans.now.items (16 * c.args.block)
+      (16 * c.args.block + c.blank_to-square.result) p (omega arith)
+      (λ x le lt. blank-columns want c.args.upper c.args.lower c.args.block 0 c.blank_to-square.result r.within squares
+      (λ i from before. r.blank i from before) x (omega (arith, le)) lt),
+  keeps-same c.args.squares.now,
+  c.blank_to-square.ensures.within,
+)
+
 pub returns-clause-filled : goal.returns-clause-filled
 returns-clause-filled g c want p squares on =
     let inv = c.loop-square.invariant in
-    let last : c.loop-square.square ≡ 16 = omega (arith, c.loop-square-test.false, inv.2) in
-    let next : 16 * c.args.block + c.loop-square.square ≡ 16 * (c.args.block + 1) = omega (arith, last) in
+    let next : 16 * c.args.block + 16 ≡ 16 * (c.args.block + 1) = omega arith in
+    let behind = c.loop-square-test.false in
     subst (λ k. FilledTo (g.S.Squares.knows c.loop-square.squares) (g.S.Squares.content c.loop-square.squares) 2 want c.loop-square.spans.items k) next
-    (inv.0 want p squares)
+    (filled-skip (g.S.Squares.knows c.loop-square.squares) (g.S.Squares.content c.loop-square.squares) 2 want c.loop-square.spans.items
+    (16 * c.args.block + c.loop-square.square) (16 * c.args.block + 16) (inv.0 want p squares) (omega (arith, inv.2))
+    (λ x le lt. blank-columns want c.args.upper c.args.lower c.args.block c.loop-square.square 16 (omega arith) squares
+    (λ i from before. c.blank_from-last.ensures.blank i (omega (arith, behind, from)) before) x le lt))

@@ -1,71 +1,97 @@
-use Rattle.std.proofs.Common.{◌≡◌, ℕ, ◌+◌, ◌*◌, ◌<◌, List, arith, sym, ◌∙◌, subst}
+use Rattle.std.proofs.Common.{◌≡◌, ℕ, ◌+◌, ◌*◌, ◌<◌, List, arith, sym, ◌∙◌, ap, subst}
 use Rattle.std.proofs.lemmas.Result.{err_from_is_err_and}
 use Rattle.life_base.specs.declared.cell.TheConstants.{MAX_LEVEL}
 use Rattle.life_base.specs.Tree.{Tree, quad, depth, blank}
 use Rattle.life_quad.specs.declared.id.Id.{Id}
 use Rattle.life_strip.specs.declared.spans.Span.{Span}
-use Rattle.life_strip.specs.declared.spans.Stretch.{Stretch}
-use Rattle.life_strip.specs.Strip.{quad_at, IsStrip, IsFound}
-use Rattle.life_strip.proofs.SpanLemmas.{past_later, found-known, found-content, found-depth}
+use Rattle.life_strip.specs.declared.spans.Place.{Place}
+use Rattle.life_strip.specs.Strip.{quad_at, square_in, IsAt, IsStrip}
+use Rattle.life_strip.proofs.PlaceLemmas.{at-known, at-content, at-depth}
 use Rattle.life_strip.proofs.spans.join_at.Goals as goal
 
--- the squares that are found in two columns of two strips
-module _ (K : Id → Type 0) (C : Id → Tree) (level : ℕ) (upper lower : List Span) (empty : Id) (column : ℕ) {a b d e : Stretch} (u : IsStrip K C level upper)
-    (l : IsStrip K C level lower) (known : K empty) (is_blank : C empty ≡ blank level) (nw : IsFound upper (2 * column) empty a)
-    (ne : IsFound upper (2 * column + 1) empty b) (sw : IsFound lower (2 * column) empty d) (se : IsFound lower (2 * column + 1) empty e) where
+-- the squares of two columns of two strips, by the places of the strips in each
+module _ (K : Id → Type 0) (C : Id → Tree) (level : ℕ) (upper lower : List Span) (empty : Id) (column : ℕ) {n e s f : Place} (u : IsStrip K C level upper)
+    (l : IsStrip K C level lower) (known : K empty) (is_blank : C empty ≡ blank level) (hn : IsAt upper (2 * column) n) (he : IsAt upper (2 * column + 1) e)
+    (hs : IsAt lower (2 * column) s) (hf : IsAt lower (2 * column + 1) f) (a b c d : Id) (nw : a ≡ square_in n empty (2 * column))
+    (ne : b ≡ square_in e empty (2 * column + 1)) (sw : c ≡ square_in s empty (2 * column)) (se : d ≡ square_in f empty (2 * column + 1)) where
   -- they are the quarters of a square
-  are_quarters : quad (C a.square) (C b.square) (C d.square) (C e.square) ≡ quad_at C level upper lower column
+  are_quarters : quad (C a) (C b) (C c) (C d) ≡ quad_at C level upper lower column
   are_quarters =
-      let north = found-content K C level upper u empty known is_blank in
-      let south = found-content K C level lower l empty known is_blank in
-      λ i. quad (north _ a nw i) (north _ b ne i) (south _ d sw i) (south _ e se i)
+      let p = ap C nw ∙ at-content K C level upper u empty known is_blank (2 * column) n hn (2 * column) (omega arith) hn.beyond in
+      let q = ap C ne ∙ at-content K C level upper u empty known is_blank (2 * column + 1) e he (2 * column + 1) (omega arith) he.beyond in
+      let r = ap C sw ∙ at-content K C level lower l empty known is_blank (2 * column) s hs (2 * column) (omega arith) hs.beyond in
+      let t = ap C se ∙ at-content K C level lower l empty known is_blank (2 * column + 1) f hf (2 * column + 1) (omega arith) hf.beyond in
+      λ i. quad (p i) (q i) (r i) (t i)
 
   -- and may be joined
   may_join : level < MAX_LEVEL → record {
-    nw : K a.square;
-    ne : K b.square;
-    sw : K d.square;
-    se : K e.square;
-    ne_level : depth (C b.square) ≡ depth (C a.square);
-    sw_level : depth (C d.square) ≡ depth (C a.square);
-    se_level : depth (C e.square) ≡ depth (C a.square);
-    room : depth (C a.square) < MAX_LEVEL;
+    nw : K a;
+    ne : K b;
+    sw : K c;
+    se : K d;
+    ne_level : depth (C b) ≡ depth (C a);
+    sw_level : depth (C c) ≡ depth (C a);
+    se_level : depth (C d) ≡ depth (C a);
+    room : depth (C a) < MAX_LEVEL;
   }
   may_join low =
-      let north = found-known K C level upper u empty known is_blank in
-      let south = found-known K C level lower l empty known is_blank in
-      let deep_north = found-depth K C level upper u empty known is_blank in
-      let deep_south = found-depth K C level lower l empty known is_blank in
-      let deep = deep_north _ a nw in
+      let p : depth (C a) ≡ level = ap (λ z. depth (C z)) nw
+      ∙ at-depth K C level upper u empty known is_blank (2 * column) n hn (2 * column) (omega arith) hn.beyond in
+      let q : depth (C b) ≡ level = ap (λ z. depth (C z)) ne
+      ∙ at-depth K C level upper u empty known is_blank (2 * column + 1) e he (2 * column + 1) (omega arith) he.beyond in
+      let r : depth (C c) ≡ level = ap (λ z. depth (C z)) sw
+      ∙ at-depth K C level lower l empty known is_blank (2 * column) s hs (2 * column) (omega arith) hs.beyond in
+      let t : depth (C d) ≡ level = ap (λ z. depth (C z)) se
+      ∙ at-depth K C level lower l empty known is_blank (2 * column + 1) f hf (2 * column + 1) (omega arith) hf.beyond in
       record {
-        nw = north _ a nw;
-        ne = north _ b ne;
-        sw = south _ d sw;
-        se = south _ e se;
-        ne_level = deep_north _ b ne ∙ sym deep;
-        sw_level = deep_south _ d sw ∙ sym deep;
-        se_level = deep_south _ e se ∙ sym deep;
-        room = omega (arith, deep, low);
+        nw = subst K (sym nw) (at-known K C level upper u empty known is_blank (2 * column) n hn (2 * column) (omega arith) hn.beyond);
+        ne = subst K (sym ne) (at-known K C level upper u empty known is_blank (2 * column + 1) e he (2 * column + 1) (omega arith) he.beyond);
+        sw = subst K (sym sw) (at-known K C level lower l empty known is_blank (2 * column) s hs (2 * column) (omega arith) hs.beyond);
+        se = subst K (sym se) (at-known K C level lower l empty known is_blank (2 * column + 1) f hf (2 * column + 1) (omega arith) hf.beyond);
+        ne_level = q ∙ sym p;
+        sw_level = r ∙ sym p;
+        se_level = t ∙ sym p;
+        room = omega (arith, p, low);
       }
 
-pub find-ne-requires : goal.find-ne-requires
-find-ne-requires g c = record { columns = c.requires.upper_columns; past = past_later c.args.upper.now _ _ _ c.requires.north.past (omega arith) }
+pub pass-north_east-requires : goal.pass-north_east-requires
+pass-north_east-requires g c =
+    let r = c.requires in
+    let beyond = r.north.beyond in
+    record {
+      columns = r.upper_columns;
+      rises = r.upper_rises;
+      place = (2 * c.args.column, omega arith, r.north);
+      reach = omega (arith, beyond);
+      column = omega (arith, r.column);
+    }
 
-pub find-se-requires : goal.find-se-requires
-find-se-requires g c = record { columns = c.requires.lower_columns; past = past_later c.args.lower.now _ _ _ c.requires.south.past (omega arith) }
+pub pass-south_east-requires : goal.pass-south_east-requires
+pass-south_east-requires g c =
+    let r = c.requires in
+    let beyond = r.south.beyond in
+    record {
+      columns = r.lower_columns;
+      rises = r.lower_rises;
+      place = (2 * c.args.column, omega arith, r.south);
+      reach = omega (arith, beyond);
+      column = omega (arith, r.column);
+    }
 
 pub join-requires : goal.join-requires
 join-requires g c =
     let r = c.requires in
     may_join (g.S.Squares.knows c.args.squares.now) (g.S.Squares.content c.args.squares.now) c.args.level c.args.upper.now c.args.lower.now c.args.empty
-    c.args.column r.upper r.lower r.known r.blank r.north c.find-ne.ensures r.south c.find-se.ensures r.low
+    c.args.column r.upper r.lower r.known r.blank r.north c.pass-north_east.ensures.place r.south c.pass-south_east.ensures.place _ _ _ _
+    c.square_of-nw.ensures c.square_of-ne.ensures c.square_of-sw.ensures c.square_of-se.ensures r.low
 
 pub returns-clause-square : goal.returns-clause-square
 returns-clause-square g c =
     let r = c.requires in
     c.in_ok-square.ensures.square
     ∙ are_quarters (g.S.Squares.knows c.args.squares.now) (g.S.Squares.content c.args.squares.now) c.args.level c.args.upper.now c.args.lower.now c.args.empty
-    c.args.column r.upper r.lower r.known r.blank r.north c.find-ne.ensures r.south c.find-se.ensures
+    c.args.column r.upper r.lower r.known r.blank r.north c.pass-north_east.ensures.place r.south c.pass-south_east.ensures.place _ _ _ _
+    c.square_of-nw.ensures c.square_of-ne.ensures c.square_of-sw.ensures c.square_of-se.ensures
 
 pub returns-in_err-square-clause-needed : goal.returns-in_err-square-clause-needed
 returns-in_err-square-clause-needed g c =
@@ -73,7 +99,8 @@ returns-in_err-square-clause-needed g c =
     let s = c.args.squares.now in
     let C = g.S.Squares.content s in
     let same = are_quarters (g.S.Squares.knows s) C c.args.level c.args.upper.now c.args.lower.now c.args.empty c.args.column r.upper r.lower r.known r.blank
-    r.north c.find-ne.ensures r.south c.find-se.ensures in
+    r.north c.pass-north_east.ensures.place r.south c.pass-south_east.ensures.place _ _ _ _
+    c.square_of-nw.ensures c.square_of-ne.ensures c.square_of-sw.ensures c.square_of-se.ensures in
     let p = err_from_is_err_and c.from_residual.result c.from_residual.ensures.1 in
     rw p.1
     (subst (λ q. g.S.Squares.needs_node q (quad_at C c.args.level c.args.upper.now c.args.lower.now c.args.column)) (sym c.in_err-square.ensures.unchanged)

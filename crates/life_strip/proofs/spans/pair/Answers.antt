@@ -1,48 +1,142 @@
-use Rattle.std.proofs.Common.{◌≡◌, ℕ, suc, ◌+◌, ◌-◌, ◌*◌, ◌/◌, ◌^◌, ◌<◌, ◌≤◌, arith, sym, ◌∙◌, ap, subst}
-use Rattle.std.specs.Prelude.{IfSome}
+use Rattle.std.proofs.Common.{◌≡◌, ℕ, suc, ◌+◌, ◌-◌, ◌*◌, ◌/◌, ◌^◌, ◌<◌, ◌≤◌, ◌⊎◌, inl, inr, Bool, true, false, nat_le, max, List, arith, refl, sym, ◌∙◌, ap, subst}
+use Rattle.std.proofs.Math.Pow.{pow_mono}
 use Rattle.life_base.specs.declared.cell.TheConstants.{MAX_LEVEL}
 use Rattle.life_base.specs.Tree.{depth}
 use Rattle.life_quad.proofs.KeepingLemmas.{keeps-then}
-use Rattle.life_strip.specs.Strip.{FilledTo, quad_at}
-use Rattle.life_strip.proofs.SpanLemmas.{depth-square_at, filled-skip, filled-more, filled-all, extended-push, ends-after, from-first, first-column, first-place, found-within, half-side, nearer-both, nearer-within, none-left, quad-blank, quad-keeps, quad-same}
-use Rattle.life_strip.proofs.spans.pair.Given.{Over}
+use Rattle.life_strip.specs.declared.spans.Span.{Span}
+use Rattle.life_strip.specs.declared.spans.Place.{Place}
+use Rattle.life_strip.specs.declared.spans.TheConstants.{NEVER}
+use Rattle.life_strip.specs.Strip.{FilledTo, IsAt, AreWithin, HaveColumns, EndsAfter, IsPast, Rise, quad_at}
+use Rattle.life_strip.proofs.SpanLemmas.{before_columns, depth-square_at, filled-skip, filled-more, filled-all, extended-push, from-first, quad-blank, quad-keeps, strip-keeps}
+use Rattle.life_strip.proofs.PlaceLemmas.{front, at-later, at-over, goes-end, quad-goes}
 use Rattle.life_strip.proofs.spans.pair.Goals as goal
 
--- where the next square begins and ends
-begins : (g : Over) (c : goal.After-find-south-in-Some g)
-    → (c.loop-first.column ≤ c.in-Some.first / 2) × (c.in-Some.first / 2 < 2 ^ (MAX_LEVEL - suc c.args.level))
-begins g c =
+-- a strip stands at its first span
+at-first : (level : ℕ) (spans : List Span) → AreWithin level spans
+    → record { columns : HaveColumns spans; past : IsPast spans 0 0; ends : EndsAfter spans 0 0; column : 0 < NEVER }
+at-first level spans within = record {
+  columns = before_columns (2 ^ (MAX_LEVEL - level)) spans within;
+  past = λ c le. refl;
+  ends = λ d lt. let some = (within 0 d lt).0 in omega (arith, some);
+  column = omega arith;
+}
+
+-- a strip goes on from a place, in a later column no farther than the end of the place before
+goes_on : (level : ℕ) (spans : List Span) (place joined : Place) (west end next : ℕ) → AreWithin level spans → Rise spans → IsAt spans (west + 1) joined
+    → end ≤ place.end → place.end ≤ joined.end → 2 * next ≤ west + 2 ⊎ 2 * next ≤ end → west + 1 ≤ 2 * next → next ≤ 2 ^ (MAX_LEVEL - suc level)
+    → record {
+      columns : HaveColumns spans;
+      rises : Rise spans;
+      place : (before : ℕ) × (before ≤ 2 * next) × IsAt spans before joined;
+      reach : 2 * next ≤ joined.end;
+      column : 2 * next < NEVER;
+    }
+goes_on level spans place joined west end next within rises at le later reach from inside = record {
+  columns = before_columns (2 ^ (MAX_LEVEL - level)) spans within;
+  rises = rises;
+  place = (west + 1, from, at);
+  reach = reached reach;
+  column = let small = pow_mono {i = MAX_LEVEL - suc level} {j = MAX_LEVEL} (omega arith) in omega (arith, inside, small);
+}
+  where
+    reached : 2 * next ≤ west + 2 ⊎ 2 * next ≤ end → 2 * next ≤ joined.end
+    reached (inl short) = let beyond = at.beyond in omega (arith, short, beyond)
+    reached (inr long) = omega (arith, long, le, later)
+
+-- the next square begins beside the one before, or where that one ends
+split : (first end next : ℕ) → next ≡ max (end / 2) (first / 2 + 1) → 2 * next ≤ 2 * (first / 2) + 2 ⊎ 2 * next ≤ end
+split first end next e = by (nat_le (end / 2) (first / 2 + 1)) refl
+  where
+    by : (b : Bool) → nat_le (end / 2) (first / 2 + 1) ≡ b → 2 * next ≤ 2 * (first / 2) + 2 ⊎ 2 * next ≤ end
+    by true t = inl (let le : end / 2 ≤ first / 2 + 1 = grind arith in omega (arith, e, le))
+    by false t = inr (let lt : first / 2 + 1 < end / 2 = grind arith in omega (arith, e, lt))
+
+pub place_at-north-requires : goal.place_at-north-requires
+place_at-north-requires g c = at-first c.args.level c.args.upper.now c.requires.upper_within
+
+pub place_at-south-requires : goal.place_at-south-requires
+place_at-south-requires g c = at-first c.args.level c.args.lower.now c.requires.lower_within
+
+pub join_at-requires : goal.join_at-requires
+join_at-requires g c =
     let r = c.requires in
     let inv = c.loop-first.invariant in
-    first-place c.args.level c.args.upper.now c.args.lower.now r.low r.upper_within r.lower_within c.loop-first.column c.empty-blank.result
-    c.loop-first.north c.loop-first.south inv.north inv.south c.in-Some.first c.in-Some.ensures
+    let K = g.S.Squares.knows in
+    let C = g.S.Squares.content in
+    let keeps = inv.keeps.contents in
+    let upper = c.args.upper.now in
+    let lower = c.args.lower.now in
+    let level = c.args.level in
+    let f = front level upper lower r.low r.upper_within r.lower_within c.loop-first.column c.loop-first.north c.loop-first.south inv.north inv.south
+    c.loop-first.first inv.upper inv.lower inv.one inv.other c.loop-first-test.true in
+    let begin = f.begin in
+    let within = f.within in
+    let small = pow_mono {i = MAX_LEVEL - suc level} {j = MAX_LEVEL} (omega arith) in
+    let empty = keeps c.empty-blank.result c.empty-blank.ensures.known in
+    let kept = strip-keeps {knows = K c.args.squares.now} {knows' = K c.loop-first.squares} {old = C c.args.squares.now} {now = C c.loop-first.squares} keeps
+    level in
+    record {
+      low = r.low;
+      column = omega (arith, within, small);
+      upper = kept upper r.upper;
+      lower = kept lower r.lower;
+      upper_columns = before_columns (2 ^ (MAX_LEVEL - level)) upper r.upper_within;
+      lower_columns = before_columns (2 ^ (MAX_LEVEL - level)) lower r.lower_within;
+      upper_rises = r.upper_rises;
+      lower_rises = r.lower_rises;
+      known = empty.0;
+      blank = empty.1 ∙ c.empty-blank.ensures.square;
+      north = at-later upper (2 * c.loop-first.column) c.loop-first.north inv.north (2 * (c.loop-first.first / 2)) (omega (arith, begin))
+          (omega (arith, inv.upper)) f.north_end;
+      south = at-later lower (2 * c.loop-first.column) c.loop-first.south inv.south (2 * (c.loop-first.first / 2)) (omega (arith, begin))
+          (omega (arith, inv.lower)) f.south_end;
+    }
 
-ends : (g : Over) (c : goal.After-find-south-in-Some g) → c.next_column-column.result ≤ 2 ^ (MAX_LEVEL - suc c.args.level)
-ends g c =
+pub pass-north-requires : goal.pass-north-requires
+pass-north-requires g c =
     let r = c.requires in
-    let side = 2 ^ (MAX_LEVEL - c.args.level) in
-    let place = 2 * (c.in-Some.first / 2) in
-    c.next_column-column.ensures.within (2 ^ (MAX_LEVEL - suc c.args.level)) (begins g c).1
-    (subst (λ n. IfSome c.nearer-in-Some.result (λ e. e ≤ n)) (half-side c.args.level r.low)
-    (nearer-within c.nearer-in-Some.result c.stretch_at-nw.result.end c.stretch_at-sw.result.end side c.nearer-in-Some.ensures
-    (found-within side c.args.upper.now r.upper_within place c.empty-blank.result c.stretch_at-nw.result c.stretch_at-nw.ensures)
-    (found-within side c.args.lower.now r.lower_within place c.empty-blank.result c.stretch_at-sw.result c.stretch_at-sw.ensures)))
+    let inv = c.loop-first.invariant in
+    let f = front c.args.level c.args.upper.now c.args.lower.now r.low r.upper_within r.lower_within c.loop-first.column c.loop-first.north
+    c.loop-first.south inv.north inv.south c.loop-first.first inv.upper inv.lower inv.one inv.other c.loop-first-test.true in
+    let place = c.loop-first.north in
+    let goes = subst (λ z. z ≤ place.end) (sym c.end_of.ensures)
+    (goes-end c.args.upper.now (2 * c.loop-first.column) place inv.north (2 * (c.loop-first.first / 2))) in
+    let within = f.within in
+    let reach = f.reach c.min-end.result (subst (λ z. c.min-end.result ≤ z) c.end_of.ensures (omega (arith, c.min-end.ensures)))
+    (subst (λ z. c.min-end.result ≤ z) c.end_of-in-loop-first.ensures (omega (arith, c.min-end.ensures))) in
+    goes_on c.args.level c.args.upper.now place c.in_ok-joined.joined.north (2 * (c.loop-first.first / 2)) c.min-end.result c.max-column.result
+    r.upper_within r.upper_rises c.in_ok-joined.ensures.north
+    (omega (arith, goes, c.min-end.ensures)) c.in_ok-joined.ensures.north_later
+    (split c.loop-first.first c.min-end.result c.max-column.result c.max-column.ensures) (omega (arith, c.max-column.ensures))
+    (omega (arith, c.max-column.ensures, reach, within))
 
-pub stretch_at-nw-requires-clause-ends : goal.stretch_at-nw-requires-clause-ends
-stretch_at-nw-requires-clause-ends g c =
-    ends-after c.args.upper.now (2 * c.loop-first.column) c.empty-blank.result c.loop-first.north c.loop-first.invariant.north c.in-Some.first
-    (2 * (c.in-Some.first / 2)) c.in-Some.ensures.upper (omega arith)
-
-pub stretch_at-sw-requires-clause-ends : goal.stretch_at-sw-requires-clause-ends
-stretch_at-sw-requires-clause-ends g c =
-    ends-after c.args.lower.now (2 * c.loop-first.column) c.empty-blank.result c.loop-first.south c.loop-first.invariant.south c.in-Some.first
-    (2 * (c.in-Some.first / 2)) c.in-Some.ensures.lower (omega arith)
+pub pass-south-requires : goal.pass-south-requires
+pass-south-requires g c =
+    let r = c.requires in
+    let inv = c.loop-first.invariant in
+    let f = front c.args.level c.args.upper.now c.args.lower.now r.low r.upper_within r.lower_within c.loop-first.column c.loop-first.north
+    c.loop-first.south inv.north inv.south c.loop-first.first inv.upper inv.lower inv.one inv.other c.loop-first-test.true in
+    let place = c.loop-first.south in
+    let goes = subst (λ z. z ≤ place.end) (sym c.end_of-in-loop-first.ensures)
+    (goes-end c.args.lower.now (2 * c.loop-first.column) place inv.south (2 * (c.loop-first.first / 2))) in
+    let within = f.within in
+    let reach = f.reach c.min-end.result (subst (λ z. c.min-end.result ≤ z) c.end_of.ensures (omega (arith, c.min-end.ensures)))
+    (subst (λ z. c.min-end.result ≤ z) c.end_of-in-loop-first.ensures (omega (arith, c.min-end.ensures))) in
+    goes_on c.args.level c.args.lower.now place c.in_ok-joined.joined.south (2 * (c.loop-first.first / 2)) c.min-end.result c.max-column.result
+    r.lower_within r.lower_rises c.in_ok-joined.ensures.south
+    (omega (arith, goes, c.min-end.ensures)) c.in_ok-joined.ensures.south_later
+    (split c.loop-first.first c.min-end.result c.max-column.result c.max-column.ensures) (omega (arith, c.max-column.ensures))
+    (omega (arith, c.max-column.ensures, reach, within))
 
 pub loop-first-smaller : goal.loop-first-smaller
 loop-first-smaller g c =
-    let b = begins g c in
-    let e = ends g c in
-    omega (arith, b.0, e, c.next_column-column.ensures.beyond)
+    let r = c.requires in
+    let inv = c.loop-first.invariant in
+    let f = front c.args.level c.args.upper.now c.args.lower.now r.low r.upper_within r.lower_within c.loop-first.column c.loop-first.north
+    c.loop-first.south inv.north inv.south c.loop-first.first inv.upper inv.lower inv.one inv.other c.loop-first-test.true in
+    let begin = f.begin in
+    let within = f.within in
+    omega (arith, begin, within, c.max-column.ensures)
 
 pub loop-first-preserved : goal.loop-first-preserved
 loop-first-preserved g c =
@@ -57,47 +151,66 @@ loop-first-preserved g c =
     let lower = c.args.lower.now in
     let level = c.args.level in
     let column = c.loop-first.column in
-    let start = c.in-Some.first / 2 in
-    let next = c.next_column-column.result in
-    let blank = c.empty-blank.result in
+    let north = c.loop-first.north in
+    let south = c.loop-first.south in
+    let first = c.loop-first.first in
+    let start = first / 2 in
+    let next = c.max-column.result in
     let h = c.in_ok-joined.ensures in
-    let begin = begins g c in
-    let place = first-column (2 ^ (MAX_LEVEL - level)) upper lower r.upper_within r.lower_within (2 * column) blank c.loop-first.north c.loop-first.south
-    inv.north inv.south c.in-Some.first c.in-Some.ensures in
+    let f = front level upper lower r.low r.upper_within r.lower_within column north south inv.north inv.south first inv.upper inv.lower inv.one inv.other
+    c.loop-first-test.true in
+    let begin = f.begin in
+    let within = f.within in
+    let later : start < next = omega (arith, c.max-column.ensures) in
     let want = quad_at (C old) level upper lower in
-    let skipped = filled-skip (K now) (C now) (suc level) want c.loop-first.spans.items column start inv.filled begin.0
-    (λ x le lt. quad-blank (C old) level upper lower (2 * column) x (λ y from to. place.north y from (omega (arith, lt, to)))
-    (λ y from to. place.south y from (omega (arith, lt, to))) (omega (arith, le))) in
+    let skipped = filled-skip (K now) (C now) (suc level) want c.loop-first.spans.items column start inv.filled begin
+    (λ x le lt. quad-blank (C old) level upper lower (2 * column) x (λ y from to. inv.north.none y from (omega (arith, lt, to, inv.upper)))
+    (λ y from to. inv.south.none y from (omega (arith, lt, to, inv.lower))) (omega (arith, le))) in
     let square : C new c.in_ok-joined.joined.square ≡ want start = h.square
     ∙ quad-keeps {knows = K old} {knows' = K now} {old = C old} {now = C now} inv.keeps.contents level upper lower r.upper r.lower start in
     let deep : depth (C new c.in_ok-joined.joined.square) ≡ suc level = ap depth square
     ∙ ap suc (depth-square_at (K old) (C old) level upper r.upper (2 * start)) in
+    let hn = at-later upper (2 * column) north inv.north (2 * start) (omega (arith, begin)) (omega (arith, inv.upper)) f.north_end in
+    let hs = at-later lower (2 * column) south inv.south (2 * start) (omega (arith, begin)) (omega (arith, inv.lower)) f.south_end in
     let same : (x : ℕ) → start < x → x < next → want x ≡ want start =
-    λ x lo hi. let on = nearer-both c.nearer-in-Some.result c.stretch_at-nw.result.end c.stretch_at-sw.result.end (2 * x + 1) c.nearer-in-Some.ensures
-    (c.next_column-column.ensures.goes_on x lo hi) in
-    quad-same (K old) (C old) level upper lower r.upper r.lower blank c.empty-blank.ensures.known c.empty-blank.ensures.square
-    start x c.stretch_at-nw.result c.stretch_at-sw.result c.stretch_at-nw.ensures c.stretch_at-sw.ensures lo on.0 on.1 in
+    λ x lo hi.
+    let up : 2 * x + 1 < c.end_of.result = omega (arith, lo, hi, c.max-column.ensures, c.min-end.ensures) in
+    let down : 2 * x + 1 < c.end_of-in-loop-first.result = omega (arith, lo, hi, c.max-column.ensures, c.min-end.ensures) in
+    quad-goes (C old) level upper lower start x north south hn hs lo (subst (λ z. 2 * x + 1 < z) c.end_of.ensures up)
+    (subst (λ z. 2 * x + 1 < z) c.end_of-in-loop-first.ensures down) in
     let pushed = filled-more {knows = K now} {knows' = K new} {now = C now} {now' = C new} h.keeps.contents (suc level) want c.loop-first.spans.items _
     start next c.in_ok-joined.joined.square skipped
-    (extended-push start next c.in_ok-joined.joined.square c.next_column-column.ensures.beyond c.loop-first.spans.items skipped.before) h.known deep
-    (from-first want (C new c.in_ok-joined.joined.square) start next (sym square) same) in record {
+    (extended-push start next c.in_ok-joined.joined.square later c.loop-first.spans.items skipped.before) h.known deep
+    (from-first want (C new c.in_ok-joined.joined.square) start next (sym square) same) in
+    let reach = f.reach c.min-end.result (subst (λ z. c.min-end.result ≤ z) c.end_of.ensures (omega (arith, c.min-end.ensures)))
+    (subst (λ z. c.min-end.result ≤ z) c.end_of-in-loop-first.ensures (omega (arith, c.min-end.ensures))) in
+    let near = c.min-first-in-loop-first.ensures in record {
       filled = subst (λ z. FilledTo (K new) (C new) (suc level) want z next) (sym c.in_ok-push.ensures.items) pushed;
-      north = c.find-north-in-Some.ensures;
-      south = c.find-south-in-Some.ensures;
+      north = c.pass-north.ensures.place;
+      south = c.pass-south.ensures.place;
       keeps = keeps-then inv.keeps h.keeps;
-      within = ends g c;
+      within = omega (arith, c.max-column.ensures, reach, within);
+      upper = omega (arith, near);
+      lower = omega (arith, near);
+      one = λ le. omega (arith, near, le);
+      other = λ lt. omega (arith, near, lt);
     }
 
 pub returns-clause-paired : goal.returns-clause-paired
 returns-clause-paired g c =
+    let r = c.requires in
     let inv = c.loop-first.invariant in
-    let over = c.in_default.ensures in
+    let over = c.loop-first-test.false in
     let column = c.loop-first.column in
-    let north = none-left c.args.upper.now (2 * column) c.empty-blank.result c.loop-first.north inv.north over.0 in
-    let south = none-left c.args.lower.now (2 * column) c.empty-blank.result c.loop-first.south inv.south over.1 in
+    let upper = c.args.upper.now in
+    let lower = c.args.lower.now in
+    let side = 2 ^ (MAX_LEVEL - c.args.level) in
+    let small : side ≤ NEVER = (let most = pow_mono {i = MAX_LEVEL - c.args.level} {j = MAX_LEVEL} (omega arith) in omega (arith, most)) in
+    let north = at-over upper (2 * column) c.loop-first.north inv.north side r.upper_within small (omega (arith, over, inv.upper)) in
+    let south = at-over lower (2 * column) c.loop-first.south inv.south side r.lower_within small (omega (arith, over, inv.lower)) in
     filled-all (g.S.Squares.knows c.loop-first.squares) (g.S.Squares.content c.loop-first.squares) (suc c.args.level)
-    (quad_at (g.S.Squares.content c.args.squares.now) c.args.level c.args.upper.now c.args.lower.now) c.loop-first.spans.items column inv.filled
-    (λ x le. quad-blank (g.S.Squares.content c.args.squares.now) c.args.level c.args.upper.now c.args.lower.now (2 * column) x
+    (quad_at (g.S.Squares.content c.args.squares.now) c.args.level upper lower) c.loop-first.spans.items column inv.filled
+    (λ x le. quad-blank (g.S.Squares.content c.args.squares.now) c.args.level upper lower (2 * column) x
     (λ y from to. north y from) (λ y from to. south y from) (omega (arith, le)))
 
 pub returns-in_err-joined-clause-needed : goal.returns-in_err-joined-clause-needed
@@ -106,14 +219,14 @@ returns-in_err-joined-clause-needed g c =
     let K = g.S.Squares.knows in
     let C = g.S.Squares.content in
     let inv = c.loop-first.invariant in
-    let start = c.in-Some.first / 2 in
+    let start = c.loop-first.first / 2 in
     let same = quad-keeps {knows = K c.args.squares.now} {knows' = K c.loop-first.squares} {old = C c.args.squares.now} {now = C c.loop-first.squares}
     inv.keeps.contents c.args.level c.args.upper.now c.args.lower.now r.upper r.lower start in
-    let begin = first-place c.args.level c.args.upper.now c.args.lower.now r.low r.upper_within r.lower_within c.loop-first.column c.empty-blank.result
-    c.loop-first.north c.loop-first.south inv.north inv.south c.in-Some.first c.in-Some.ensures in
+    let f = front c.args.level c.args.upper.now c.args.lower.now r.low r.upper_within r.lower_within c.loop-first.column c.loop-first.north
+    c.loop-first.south inv.north inv.south c.loop-first.first inv.upper inv.lower inv.one inv.other c.loop-first-test.true in
     let deeper : c.args.level + 1 ≡ suc c.args.level = omega arith in
     λ e. (
       start,
-      subst (λ n. start < 2 ^ (MAX_LEVEL - n)) (sym deeper) begin.1,
+      subst (λ n. start < 2 ^ (MAX_LEVEL - n)) (sym deeper) f.within,
       subst (g.S.Squares.needs_node c.join_at.new.squares) same c.in_err-joined.ensures.needed,
     )

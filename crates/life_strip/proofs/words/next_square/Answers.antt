@@ -1,6 +1,5 @@
 use Rattle.std.proofs.Common.{◌≡◌, ◌<◌, Bool, true, false, nat_lt, refl, sym, ◌∙◌, ap, arith}
 use Rattle.life_strip.specs.Band.{cells_at}
-use Rattle.life_strip.proofs.StretchLemmas.{blank-before}
 use Rattle.life_strip.proofs.words.next_square.Goals as goal
 
 pub returns-clause-goes_on : goal.returns-clause-goes_on
@@ -9,9 +8,9 @@ returns-clause-goes_on c i from before = by (nat_lt c.args.square i) refl
     by : (b : Bool) → nat_lt c.args.square i ≡ b → cells_at c.args.upper c.args.lower i ≡ cells_at c.args.upper c.args.lower c.args.square
     by true e =
         let later : c.args.square < i = grind arith in
-        let long : i < c.from-blank.result = omega (arith, c.max.ensures, before, later) in
-        let none = blank-before c.args.upper c.args.lower c.args.square c.bits_after.result c.bits_after.ensures in
-        none i from (omega (arith, c.from-blank.ensures, long)) ∙ sym (none c.args.square (omega arith) (omega (arith, c.from-blank.ensures, long, later)))
+        let long : i < c.blank_to.result = omega (arith, c.max.ensures, before, later) in
+        let none = c.blank_to.ensures.blank in
+        none i from long ∙ sym (none c.args.square (omega arith) (omega (arith, long, later)))
     by false e = let same : i ≡ c.args.square = grind arith in ap (cells_at c.args.upper c.args.lower) same
 
 pub returns-then-cells-gt0-clause-goes_on : goal.returns-then-cells-gt0-clause-goes_on

@@ -4,6 +4,7 @@ use Rattle.life_base.proofs.Results.{if_ok_both}
 use Rattle.life_quad.specs.Store.{squares, square_of, node_square, IsNode}
 use Rattle.life_quad.proofs.StoreLemmas.{length-squares, squares-push}
 use Rattle.life_base.specs.Tree.{depth, blank}
+use Rattle.life_quad.proofs.KeepingLemmas.{adds-one}
 use Rattle.life_quad.proofs.GrowLemmas.{with_node}
 use Rattle.life_quad.proofs.CallLemmas.{node_of, is_blank-joined, blank_joined, IsNode-joined, keeps_added, knows_last, square_of-added, IsWantKind-left, room_left}
 use Rattle.life_quad.proofs.plain.PlainSquares.join.Goals as goal
@@ -88,3 +89,7 @@ returns-then-are_blank-clause-fresh c = λ needs known.
     let r = c.requires in
     absurd (true≢false (sym (is_blank-joined _ _ _ _ _ r.nw r.ne r.sw r.se r.ne_level r.sw_level r.se_level ∙ sym c.are_blank.ensures ∙ c.if-are_blank.true)
     ∙ needs))
+
+pub returns-clause-adds : goal.returns-clause-adds
+returns-clause-adds c =
+    adds-one c.add.result (on_ok_weaker c.add.result (λ i. ap (λ s. squares s.nodes) i ∙ squares-push _ _) (stored c)) c.add.ensures.unchanged

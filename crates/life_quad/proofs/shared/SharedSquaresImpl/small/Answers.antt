@@ -1,8 +1,10 @@
 use Rattle.std.proofs.Common.{◌+◌, ap, sym, ◌∙◌, arith, subst, inl}
 use Rattle.life_base.proofs.Results.{on_err_both}
 use Rattle.life_quad.specs.IdMap.{value_of}
+use Rattle.life_quad.specs.Refused.{SomePart}
 use Rattle.life_quad.specs.Store.{four, small_square, squares, IsSmall, Answers, HasSeen}
 use Rattle.life_quad.proofs.CallLemmas.{join_answers}
+use Rattle.life_quad.proofs.KeepingLemmas.{adds-as}
 use Rattle.life_quad.proofs.SmallCells.{four_is, four_small}
 use Rattle.life_quad.proofs.shared.SharedSquaresImpl.small.Goals as goal
 
@@ -28,6 +30,7 @@ returns-then-has_quarters c =
       known = join.known;
       square = join.square;
       keeps = join.keeps;
+      adds = adds-as (λ P. SomePart P (four d)) join.adds (λ P p. inl p);
       refusals = join.refusals;
       room = join.room;
       needed = on_err_both r (λ needs same. inl (needs.0, rw same needs.1)) join.needed join.unchanged;

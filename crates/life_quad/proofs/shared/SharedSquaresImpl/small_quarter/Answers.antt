@@ -28,6 +28,7 @@ returns c =
       known = join.known;
       square = join.square;
       keeps = join.keeps;
+      adds = join.adds;
       refusals = join.refusals;
       room = join.room;
       needed = on_err_both r (λ needs same. (needs.0, rw same needs.1)) join.needed join.unchanged;

@@ -82,6 +82,7 @@ returns-clause-filled g c =
         sound = record {
           squares = subst (λ n. IsStrip K C n new) (sym fill.row.level) strip;
           within = subst (λ n. AreWithin n new) (sym fill.row.level) within;
+          rises = more.rises fill.row.sound.rises;
         };
         level = fill.row.level;
       };

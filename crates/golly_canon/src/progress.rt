@@ -1,0 +1,126 @@
+//! The line on a terminal that says how far a run of the command `keys` is.
+
+ghost use Rattle.std.specs.Prelude.{◌≡◌, ◌≤◌, ◌↔◌, IsTrue};
+
+use life_cli::plans::KeysPlan;
+use std::cell::Cell;
+use std::io::{IsTerminal, Result, Write};
+use std::rt::Stderr;
+use std::time::Instant;
+
+/// After how many milliseconds the line is first shown.
+const FIRST: u128 = 1000;
+
+/// How many milliseconds pass at least until it is shown again.
+const PAUSE: u128 = 250;
+
+/// Whether the line is to be shown, by the time and that of the next line.
+fn is_due(now: u128, next: u128) -> bool
+    ensures { IsTrue result ↔ next ≤ now }
+{
+    now >= next
+}
+
+/// How many files are to come, which isn't known of a list.
+fn total(plan: &KeysPlan<'_>) -> Option<usize> {
+    match plan.from {
+        Some(_) => None,
+        None => Some(plan.files.len()),
+    }
+}
+
+/// The line on standard error. Where that is no terminal, nothing is written and no clock is read.
+#[derive(Drop)]
+pub(crate) struct Progress {
+    terminal: Stderr,
+    // When the run began, where the line is shown.
+    begin: Option<Instant>,
+    /// Whether standard output is a terminal too.
+    pub is_shared: bool,
+    total: Option<usize>,
+    // How often a file was opened, or the list, which is the first.
+    opened: Cell<u64>,
+    // At which millisecond the line may be shown next.
+    next_time: Cell<u128>,
+    // Whether the line stands there.
+    stands: Cell<bool>,
+}
+
+impl Progress {
+    /// The line of a run that begins.
+    pub(crate) fn new(rt: &HostRuntime, plan: &KeysPlan<'_>) -> Progress {
+        let terminal = rt.stderr();
+        let is_shown = terminal.is_terminal();
+        Progress {
+            terminal,
+            begin: if is_shown {
+                Instant::now(rt).ok()
+            } else {
+                None
+            },
+            is_shared: is_shown && rt.stdout().is_terminal(),
+            total: total(plan),
+            opened: Cell::new(0),
+            next_time: Cell::new(FIRST),
+            stands: Cell::new(false),
+        }
+    }
+
+    /// Counts a file that is now opened, or the list, and shows how many files came before it, where that is due.
+    pub(crate) fn advance(&self, rt: &HostRuntime) {
+        let done = self.opened.get();
+        self.opened.set(done.saturating_add(1));
+        let Some(begin) = self.begin else {
+            return;
+        };
+        let Ok(elapsed) = begin.elapsed(rt) else {
+            return;
+        };
+        let now = elapsed.as_millis();
+        if is_due(now, self.next_time.get()) {
+            self.next_time.set(now.saturating_add(PAUSE));
+            self.stands.set(true);
+            let _ = self.write(rt, done);
+        }
+    }
+
+    fn write(&self, rt: &HostRuntime, done: u64) -> Result<()> {
+        let text = match self.total {
+            Some(total) => format!(in rt.alloc(); "\r{done} of {total} files")?,
+            None => format!(in rt.alloc(); "\r{} files", done.saturating_sub(1))?,
+        };
+        let mut terminal = self.terminal;
+        terminal.write_all(text.as_bytes())
+    }
+
+    /// Clears the line, if it stands.
+    pub(crate) fn clear(&self) {
+        if self.stands.get() {
+            self.stands.set(false);
+            let mut terminal = self.terminal;
+            let _ = terminal.write_all(b"\r\x1b[K");
+        }
+    }
+}
+
+/// A standard stream whose lines come in place of the line of progress.
+#[derive(Drop)]
+pub(crate) struct Beside<'a, W> {
+    pub stream: W,
+    pub progress: &'a Progress,
+    /// Whether the stream is the terminal of the line.
+    pub clears: bool,
+}
+
+impl<'a, W: Write> Write for Beside<'a, W> {
+    fn write(&mut self, buf: &[u8]) -> Result<usize> {
+        if self.clears {
+            self.progress.clear();
+        }
+        self.stream.write(buf)
+    }
+
+    fn flush(&mut self) -> Result<()> {
+        self.stream.flush()
+    }
+}

@@ -1,0 +1,97 @@
+-- A store that lacks a square of a file has room left.
+use Rattle.std.proofs.Common.{◌≡◌, ℕ, List, ◌∷◌, ◌++◌, refl, subst, arith, inl, inr, length-append}
+use Rattle.std.specs.Prelude.{Contains}
+use Rattle.life_base.specs.Tree.{Tree, point, quad}
+use Rattle.life_base.specs.Text.{lines_of}
+use Rattle.life_base.specs.declared.cell.TheConstants.{MAX_LEVEL}
+use Rattle.life_mc.specs.declared.line.Line.{Line}
+use Rattle.life_mc.specs.declared.line.Line.TheVariants.{Leaf, Quad}
+use Rattle.life_mc.specs.Squares.{leaf_tree}
+use Rattle.life_quad.specs.Refused.{SomePart}
+use Rattle.life_quad.specs.Store.{held}
+use Rattle.life_strip.specs.Needed.{SomeSquare}
+use Rattle.life_canon.specs.Needs.{SomeOfLine, SomeOfLines, of_node_line, of_runs, SomeRoot, trimmed_root, grown_root, of_plane, of_root, SomeOfFile, of_lines, at_end, IsNew}
+use Rattle.life_canon.specs.Room.{RoomSuffices}
+use Rattle.life_canon.specs.Universe.{Universe, centred, whole}
+use Rattle.life_canon.proofs.RoomLaw.{few_squares}
+use Rattle.life_canon.proofs.RoomLists.{Among, among-left, among-right, among-contains, contains-among, distinct-pairs, pigeons}
+
+-- ---- the square that has a property
+
+record Found (P : Tree → Type 0) (Some : (Tree → Type 0) → Type 0) : Type 0 where
+  square : Tree
+  holds : P square
+  some : Some (λ u. u ≡ square)
+
+found-as : {P : Tree → Type 0} {A B : (Tree → Type 0) → Type 0} → ((Q : Tree → Type 0) → A Q → B Q) → Found P A → Found P B
+found-as f h = record { square = h.square; holds = h.holds; some = f (λ u. u ≡ h.square) h.some }
+
+find-part : (P : Tree → Type 0) (t : Tree) → SomePart P t → Found P (λ Q. SomePart Q t)
+find-part P (point s) h = absurd h
+find-part P (quad a b c d) (inl h) = record { square = quad a b c d; holds = h; some = inl refl }
+find-part P (quad a b c d) (inr (inl h)) = found-as (λ Q k. inr (inl k)) (find-part P a h)
+find-part P (quad a b c d) (inr (inr (inl h))) = found-as (λ Q k. inr (inr (inl k))) (find-part P b h)
+find-part P (quad a b c d) (inr (inr (inr (inl h)))) = found-as (λ Q k. inr (inr (inr (inl k)))) (find-part P c h)
+find-part P (quad a b c d) (inr (inr (inr (inr h)))) = found-as (λ Q k. inr (inr (inr (inr k)))) (find-part P d h)
+
+find-line : (P : Tree → Type 0) (lines : List Line) (line : Line) → SomeOfLine P lines line → Found P (λ Q. SomeOfLine Q lines line)
+find-line P lines (Leaf rows) h = find-part P (leaf_tree rows) h
+find-line P lines (Quad level nw ne sw se) h = record { square = _; holds = h; some = refl }
+
+find-square : (P : Tree → Type 0) (rows : ℕ) (states : ℕ → ℕ → ℕ) → SomeSquare P rows states → Found P (λ Q. SomeSquare Q rows states)
+find-square P rows states s =
+    record {
+      square = s.square;
+      holds = s.property;
+      some = record {
+        square = s.square;
+        full = s.full;
+        deep = s.deep;
+        column = s.column;
+        row = s.row;
+        east = s.east;
+        south = s.south;
+        cells = s.cells;
+        property = refl;
+      };
+    }
+
+find-lines : (P : Tree → Type 0) (lines : List (List ℕ)) → SomeOfLines MAX_LEVEL P lines → Found P (λ Q. SomeOfLines MAX_LEVEL Q lines)
+find-lines P lines (of_node_line before line behind square e prefix squares some) =
+    found-as (λ Q k. of_node_line before line behind square e prefix squares k) (find-line P _ square some)
+find-lines P lines (of_runs front behind runs e h some) =
+    found-as (λ Q k. of_runs front behind runs e h (record { before = some.before; run = some.run; behind = some.behind; are = some.are; above = k }))
+    (find-square P _ _ some.above)
+
+find-root : (P : Tree → Type 0) (u : Universe) (n : ℕ) → SomeRoot MAX_LEVEL P u n → Found P (λ Q. SomeRoot MAX_LEVEL Q u n)
+find-root P u n (trimmed_root lower p) = record { square = whole MAX_LEVEL u; holds = p; some = trimmed_root lower refl }
+find-root P u n (grown_root level higher least p) = found-as (λ Q k. grown_root level higher least k) (find-part P (centred u.cell level) p)
+
+find-file : (P : Tree → Type 0) (lines : List (List ℕ)) → SomeOfFile MAX_LEVEL P lines → Found P (λ Q. SomeOfFile MAX_LEVEL Q lines)
+find-file P lines (of_lines s) = found-as (λ Q k. of_lines k) (find-lines P lines s)
+find-file P lines (at_end (of_plane u says rle s)) = found-as (λ Q k. at_end (of_plane u says rle k)) (find-square P _ _ s)
+find-file P lines (at_end (of_root u says s)) = found-as (λ Q k. at_end (of_root u says k)) (find-root P u _ s)
+
+-- ---- the law
+
+pub room_suffices : RoomSuffices
+room_suffices bytes base store distinct live only lacks =
+    let lack = find-file (IsNew store) (lines_of bytes) lacks in
+    let few = few_squares bytes in
+    let have : (x : Tree) → Among (lack.square ∷ held store) x → Among (base ++ few.0) x = λ x a. elim a [
+      | inl e ↦ among-right base few.0 x (among-contains few.0 x (subst (Contains few.0) e (few.2 lack.square lack.holds.0 lack.some)))
+      | inr h ↦
+          let c = contains-among (held store) x h in
+          elim (only x c) [
+            | inl b ↦ among-left base few.0 x (among-contains base x b)
+            | inr f ↦ among-right base few.0 x (among-contains few.0 x (few.2 x (live x c) f))
+          ]
+    ] in
+    let all = pigeons (lack.square ∷ held store) (base ++ few.0) (
+      (λ a. lack.holds.1 (contains-among (held store) lack.square a)),
+      distinct-pairs
+          (held store) distinct,
+    ) have in
+    let sum = length-append base few.0 in
+    let most = few.1 in
+    omega (arith, all, sum, most)

@@ -1,0 +1,92 @@
+-- The squares of runs so far are squares of all runs.
+use Rattle.std.proofs.Common.{◌≡◌, ℕ, ◌+◌, ◌*◌, ◌^◌, ◌<◌, ◌≤◌, false, cond, List, [], ◌∷◌, ◌++◌, refl, ap, sym, ◌∙◌, subst, arith, inl, inr, append_assoc, ℤ, pos, negsuc, neg_ℤ, ◌+ℤ◌, ◌≤ℤ◌, ◌<ℤ◌}
+use Rattle.std.specs.Prelude.{◌-ℤ◌, nat_abs}
+use Rattle.std.specs.List.{AllByRecursion}
+use Rattle.std.proofs.Math.Nat.{add-mul}
+use Rattle.std.proofs.lemmas.Int.{ints}
+use Rattle.life_base.specs.declared.cell.TheConstants.{MAX_LEVEL}
+use Rattle.life_base.specs.declared.cell.Run.{Run}
+use Rattle.life_base.specs.declared.rule.Rule.{Rule}
+use Rattle.life_base.specs.Tree.{Tree, depth}
+use Rattle.life_rle.specs.RunsLaw.{IsGoodRun, AreGoodRuns, StandsBefore, StandsBeforeAll, AreInOrder, has_cell, state_by as rle_state_by}
+use Rattle.life_strip.specs.Given.{half_plane, state_by, by_columns}
+use Rattle.life_strip.specs.Needed.{SomeSquare}
+use Rattle.life_canon.specs.Needs.{SomeOfRuns}
+
+same-cells : (runs : List Run) (x y : ℤ) → state_by runs x y ≡ rle_state_by runs x y
+same-cells [] x y = refl
+same-cells (run ∷ runs) x y = ap (λ (n : ℕ). cond (has_cell run x y) run.state n) (same-cells runs x y)
+
+-- runs in later rows
+all-later : (runs : List Run) (x y : ℤ) → AllByRecursion (λ (r : Run). y <ℤ r.y) runs → rle_state_by runs x y ≡ 0
+all-later [] x y h = refl
+all-later (run ∷ runs) x y h =
+    let off : has_cell run x y ≡ false = let l = h.0 in grind (arith, ints) in
+    ap (λ t. cond t run.state (rle_state_by runs x y)) off ∙ all-later runs x y h.1
+
+behind-later : (run : Run) (runs : List Run) (y : ℤ) → y <ℤ run.y → StandsBeforeAll run runs → AllByRecursion (λ (r : Run). y <ℤ r.y) runs
+behind-later run [] y h s = tt
+behind-later run (r ∷ runs) y h s = (one s.0, behind-later run runs y h s.1)
+  where
+    one : StandsBefore run r → y <ℤ r.y
+    one (inl l) = omega (arith, ints, l, h)
+    one (inr e) = omega (arith, ints, e.0, h)
+
+-- above the row of a run the runs before it are all
+above-run : (before : List Run) (run : Run) (behind : List Run) (x y : ℤ) → AreInOrder (before ++ run ∷ behind) → y <ℤ run.y
+    → state_by before x y ≡ rle_state_by (before ++ run ∷ behind) x y
+above-run [] run behind x y o h = sym (all-later (run ∷ behind) x y (h, behind-later run behind y h o.0))
+above-run (a ∷ before) run behind x y o h = ap (λ (n : ℕ). cond (has_cell a x y) a.state n) (above-run before run behind x y o.1 h)
+
+good-at : (level : ℕ) (rule : Rule) (before : List Run) (run : Run) (behind : List Run) → AreGoodRuns level rule (before ++ run ∷ behind)
+    → IsGoodRun level rule run
+good-at level rule [] run behind g = g.0
+good-at level rule (a ∷ before) run behind g = good-at level rule before run behind g.1
+
+from_half : (e z : ℤ) → neg_ℤ e ≤ℤ z → (n : ℕ) × (z +ℤ e ≡ pos n)
+from_half e z h = by (z +ℤ e) refl
+  where
+    by : (w : ℤ) → z +ℤ e ≡ w → (n : ℕ) × (z +ℤ e ≡ pos n)
+    by (pos n) f = (n, f)
+    by (negsuc n) f = absurd (omega (arith, ints, f, h))
+
+above-row : (e z : ℤ) (n j : ℕ) → z +ℤ e ≡ pos n → j < n → (pos j -ℤ e) <ℤ z
+above-row e z n j f l = omega (arith, ints, f, l)
+
+within-rows : (z : ℤ) (n h : ℕ) → z +ℤ pos h ≡ pos n → z <ℤ pos h → n ≤ 2 * h
+within-rows z n h f l = omega (arith, ints, f, l)
+
+-- a square of rows of the plane is one of all rows, of any states that are the same above
+all-rows : {P : Tree → Type 0} {f g : ℕ → ℕ → ℕ} {rows more : ℕ} → rows ≤ more → ((i j : ℕ) → j < rows → f i j ≡ g i j) → SomeSquare P rows f
+    → SomeSquare P more g
+all-rows le e s =
+    record {
+      square = s.square;
+      full = s.full;
+      deep = s.deep;
+      column = s.column;
+      row = s.row;
+      east = s.east;
+      south = omega (arith, s.south, le);
+      cells = λ i j li lj. s.cells i j li lj
+          ∙ e (s.column * 2 ^ depth s.square + i) (s.row * 2 ^ depth s.square + j)
+          (let h = s.south in let one = add-mul s.row 1 (2 ^ depth s.square) in omega (arith, h, one, lj));
+      property = s.property;
+    }
+
+pub squares-of-runs : (P : Tree → Type 0) (rule : Rule) (runs more all : List Run) → all ≡ runs ++ more → AreGoodRuns MAX_LEVEL rule all → AreInOrder all
+    → SomeOfRuns P runs → SomeSquare P (2 ^ MAX_LEVEL) (by_columns (rle_state_by all))
+squares-of-runs P rule runs more all e good order s =
+    let whole : all ≡ s.before ++ s.run ∷ (s.behind ++ more) = e ∙ ap (λ (l : List Run). l ++ more) s.are ∙ append_assoc s.before (s.run ∷ s.behind) more in
+    let one = good-at MAX_LEVEL rule s.before s.run (s.behind ++ more) (subst (AreGoodRuns MAX_LEVEL rule) whole good) in
+    let ordered = subst AreInOrder whole order in
+    let rows = from_half (pos half_plane) s.run.y one.top in
+    let few : rows.0 ≤ 2 * half_plane = within-rows s.run.y rows.0 half_plane rows.1 one.bottom in
+    let at : nat_abs (s.run.y +ℤ pos half_plane) ≡ rows.0 = ap nat_abs rows.1 in
+    let fits : nat_abs (s.run.y +ℤ pos half_plane) ≤ 2 ^ MAX_LEVEL = omega (arith, at, few) in
+    all-rows fits
+    (λ i j lj.
+    above-run s.before s.run (s.behind ++ more) (pos i -ℤ pos half_plane) (pos j -ℤ pos half_plane) ordered
+    (above-row (pos half_plane) s.run.y rows.0 j rows.1 (omega (arith, lj, at)))
+    ∙ ap (λ (l : List Run). rle_state_by l (pos i -ℤ pos half_plane) (pos j -ℤ pos half_plane)) (sym whole))
+    s.above

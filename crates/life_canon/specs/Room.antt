@@ -1,0 +1,35 @@
+-- How many squares are stored while a file is read: at most 14 for each byte of it, and 264. The project's own.
+use Rattle.std.specs.Prelude.{◌≡◌, ◌≢◌, ◌⊎◌, ℕ, ◌+◌, ◌*◌, ◌<◌, ◌≤◌, false, List, length, Contains, AllPairs}
+use Rattle.life_base.specs.Text.{lines_of}
+use Rattle.life_base.specs.Tree.{Tree, is_blank_tree}
+use Rattle.life_base.specs.declared.cell.TheConstants.{MAX_LEVEL}
+use Rattle.life_quad.specs.Store.{Nodes, held}
+use Rattle.life_canon.specs.Needs.{SomeOfFile, LacksFor}
+
+-- How many squares a file of so many bytes needs at most: 14 for each byte and for the line feed that may be missing at the end, four for each of
+-- the levels 1 to 62, and a trimmed root for each of the two least levels.
+abbrev pub room_for : ℕ → ℕ
+room_for n = 14 * n + 264
+
+-- the square is one of those that are stored while the file is read
+abbrev pub IsOfFile : List ℕ → Tree → Type 0
+IsOfFile bytes t = SomeOfFile MAX_LEVEL (λ u. u ≡ t) (lines_of bytes)
+
+-- a file needs few squares: all that it needs and that aren't blank are in a list of so many
+abbrev pub FewSquares : Type 0
+FewSquares =
+    (bytes : List ℕ)
+    → (squares : List Tree) × (length squares ≤ room_for (length bytes))
+    × ((t : Tree) → is_blank_tree t ≡ false → IsOfFile bytes t → Contains squares t)
+
+-- the store holds no squares but those of the list and of the file
+abbrev pub HoldsOnly : List Tree → List ℕ → Nodes → Type 0
+HoldsOnly base bytes store = (t : Tree) → Contains (held store) t → Contains base t ⊎ IsOfFile bytes t
+
+-- A store that lacks a square of a file, and holds only squares of a list and squares of the file, each once and none blank, holds fewer than the
+-- list has and the room for the file.
+abbrev pub RoomSuffices : Type 0
+RoomSuffices =
+    (bytes : List ℕ) (base : List Tree) (store : Nodes) → AllPairs ◌≢◌ (held store)
+    → ((t : Tree) → Contains (held store) t → is_blank_tree t ≡ false)
+    → HoldsOnly base bytes store → LacksFor MAX_LEVEL bytes store → length (held store) < length base + room_for (length bytes)

@@ -1,0 +1,418 @@
+-- What runs of the command `keys` come to and write, one after another.
+use Rattle.std.proofs.Common.{None, Bor, get_or, drop, drop-cons, add-one, ◌+◌, length, ◌<◌, ◌≡◌, ℕ, max, List, [], ◌∷◌, ◌++◌, ◌⊎◌, inl, inr, Bool, true, false, map, filter, not, Option, Result, Ok, Err, ◌^◌, IfOk, IfErr, OnOk, Some, refl, sym, ap, ◌∙◌, subst, arith}
+use Rattle.std.specs.List.{FoldsTo}
+use Rattle.std.specs.Io.KnownBytes.{Appends, Keeps}
+use Rattle.std.proofs.KnownBytes.{Appends-nil, Appends-trans}
+use Rattle.std.proofs.lemmas.Grind.{flat_map-append}
+use Rattle.std.proofs.lemmas.List.{append_assoc, append-nil, map-append, take_all}
+use Rattle.std.specs.declared.io.Error.{Error as IoError}
+use Rattle.std.specs.declared.io.ErrorKind.TheVariants as io
+use Rattle.life_base.specs.DeviceRuns.{sink_run}
+use Rattle.life_base.specs.Text.{is_empty}
+use Rattle.life_base.specs.Inputs.{CameBeyond, ReadAll}
+use Rattle.life_base.specs.Refusal.{fault_of}
+use Rattle.life_base.specs.declared.kind.Kind.TheVariants as kinds
+use Rattle.life_base.specs.Writing.{WritesPrefix, WritesText}
+use Rattle.life_base.specs.declared.kind.Kind.{Kind}
+use Rattle.life_base.proofs.WritingLemmas.{prefix-after, prefix-grows}
+use Rattle.life_cli.specs.Faults.{fault_line, refusal_of, status_of, Tells}
+use Rattle.life_cli.specs.Jobs.{by_length, by_source, by_want}
+use Rattle.life_cli.specs.KeyRuns.{broken_off, bytes_of, by_call, by_memory, by_name, by_reading, Comes, error_line, errors_of, greatest_status, IsToldAs, LacksList, list_word, Listed, Name, names_among, names_in, names_of, outcome_status, output_line, output_of, Ran, ReadsList, Taken, Takes, TakesAll, TakesFiles, TellsOn, through, Took, Word, words_of, Writes}
+use Rattle.life_cli.specs.Opening.{Gives}
+use Rattle.life_cli.specs.declared.opening.Opened.{Opened}
+use Rattle.life_cli.specs.declared.opening.Origin.{Origin}
+use Rattle.life_cli.specs.declared.plans.Form.{Form}
+use Rattle.life_cli.specs.declared.plans.KeysPlan.{KeysPlan}
+use Rattle.life_cli.specs.Keys.{end_of, IsStatus, pieces_of}
+use Rattle.life_cli.specs.declared.keys.outcome.Outcome.{Outcome}
+use Rattle.life_cli.specs.declared.keys.outcome.Outcome.TheVariants.{Key, Refused, Unopened}
+use Rattle.life_cli.specs.declared.keys.outputs.Outputs.{Outputs}
+use Rattle.life_cli.proofs.KeyLemmas.{kind_status}
+use Rattle.life_cli.proofs.KeyLines.{then_text}
+
+pub greatest_then : (xs ys : List Taken) → greatest_status (xs ++ ys) ≡ max (greatest_status xs) (greatest_status ys)
+greatest_then [] ys = omega arith
+greatest_then (t ∷ xs) ys = let rest = greatest_then xs ys in omega (arith, rest)
+
+-- a greatest status that is kept, and then a further one
+three : (a b c s t : ℕ) → c ≡ max b t → b ≡ max a s → c ≡ max a (max s t)
+three a b c s t p q = omega (arith, p, q)
+
+appends_kept : (a b c : Option (List ℕ)) (xs : List ℕ) → Appends a b xs → Keeps b c → Appends a c xs
+appends_kept None b c xs p q = tt
+appends_kept (Some x) None c xs p q = absurd p
+appends_kept (Some x) (Some y) None xs p q = absurd q
+appends_kept (Some x) (Some y) (Some z) xs p q = q ∙ p
+
+-- texts that are told one after another
+pub tells_then : {E : Type 0} (contents : E → Option (List ℕ)) (failures : E → ℕ) (stalled : E → Bool) (a b c : Bool) (x y z : E) (s t : List ℕ)
+    → TellsOn contents failures stalled a b x y s → TellsOn contents failures stalled b c y z t → TellsOn contents failures stalled a c x z (s ++ t)
+tells_then contents failures stalled true true true x y z s t p q = (Appends-trans _ _ _ s t p.0 q.0, q.1)
+tells_then contents failures stalled true true false x y z s t p q = (prefix-after _ _ _ s t p.0 q.0, q.1)
+tells_then contents failures stalled true false true x y z s t p q = absurd q
+tells_then contents failures stalled true false false x y z s t p q =
+    subst (λ last. WritesPrefix (contents x) (contents last) (s ++ t) × ((failures last ≡ 1) ⊎ (stalled last ≡ true))) (sym q) (prefix-grows _ _ s t p.0, p.1)
+tells_then contents failures stalled false true c x y z s t p q = absurd p
+tells_then contents failures stalled false false true x y z s t p q = absurd q
+tells_then contents failures stalled false false false x y z s t p q = q ∙ p
+
+-- a sink that goes on taking texts hasn't failed
+pub hears_on : {E : Type 0} (contents : E → Option (List ℕ)) (failures : E → ℕ) (stalled : E → Bool) (a b : Bool) (x y : E) (s : List ℕ)
+    → TellsOn contents failures stalled a b x y s → b ≡ true → failures y ≡ 0
+hears_on contents failures stalled true true x y s p is = p.1
+hears_on contents failures stalled true false x y s p is = absurd cc
+hears_on contents failures stalled false true x y s p is = absurd p
+hears_on contents failures stalled false false x y s p is = absurd cc
+
+-- all that a run tells
+pub tells_all : {E : Type 0} (contents : E → Option (List ℕ)) (failures : E → ℕ) (stalled : E → Bool) (b : Bool) (x y : E) (s : List ℕ)
+    → TellsOn contents failures stalled true b x y s → Tells (sink_run contents failures stalled x y) s
+tells_all contents failures stalled true x y s p = inl p.0
+tells_all contents failures stalled false x y s p = inr p
+
+module _ {W E : Type 0} (held : W → Option (List ℕ)) (contents : E → Option (List ℕ)) (failures : E → ℕ) (stalled : E → Bool) where
+  -- nothing was written yet
+  pub writes_none : (out : W) (err : E) (outputs : Outputs) → (outputs.tells ≡ true → failures err ≡ 0)
+      → Writes held contents failures stalled out out err err outputs outputs (Ok tt) [] [] 0
+  writes_none out err outputs hears =
+      record { written = Appends-nil (held out); told = at outputs.tells hears; status = omega arith }
+    where
+      at : (b : Bool) → (b ≡ true → failures err ≡ 0) → TellsOn contents failures stalled b b err err []
+      at true hears = (Appends-nil (contents err), hears refl)
+      at false hears = refl
+
+  pub writes_then : (u v w : W) (x y z : E) (a b c : Outputs) (result : Result (Unit {0}) Kind) (s s' t t' : List ℕ) (m n : ℕ)
+      → Writes held contents failures stalled u v x y a b (Ok tt) s t m → Writes held contents failures stalled v w y z b c result s' t' n
+      → Writes held contents failures stalled u w x z a c result (s ++ s') (t ++ t') (max m n)
+  writes_then u v w x y z a b c result s s' t t' m n p q = record {
+    written = then_text _ _ _ s s' result p.written q.written;
+    told = tells_then contents failures stalled a.tells b.tells c.tells x y z t t' p.told q.told;
+    status = three a.status b.status c.status m n q.status p.status;
+  }
+
+  -- what was written of files, and then of further ones
+  pub files_then : (u v w : W) (x y z : E) (a b c : Outputs) (result : Result (Unit {0}) Kind) (zero_ended : Bool) (xs ys : List Taken)
+      → Writes held contents failures stalled u v x y a b (Ok tt) (output_of zero_ended xs) (errors_of xs) (greatest_status xs)
+      → Writes held contents failures stalled v w y z b c result (output_of zero_ended ys) (errors_of ys) (greatest_status ys)
+      → Writes held contents failures stalled u w x z a c result (output_of zero_ended (xs ++ ys)) (errors_of (xs ++ ys)) (greatest_status (xs ++ ys))
+  files_then u v w x y z a b c result zero_ended xs ys p q =
+      let all = writes_then u v w x y z a b c result _ _ _ _ _ _ p q in
+      rw (
+        flat_map-append (λ (t : Taken). output_line zero_ended (bytes_of t.name) t.outcome) xs ys,
+        flat_map-append (λ (t : Taken). error_line (bytes_of t.name) t.outcome) xs ys,
+        greatest_then xs ys,
+      ) all
+
+-- files that were taken one after another, and then further ones
+pub takes_then : {F X : Type 0} (R : F → X → F → Type 0) (a : F) (xs : List X) (b : F) (ys : List X) (c : F) → FoldsTo R a xs b → FoldsTo R b ys c
+    → FoldsTo R a (xs ++ ys) c
+takes_then R a [] b ys c p q = subst (λ v. FoldsTo R v ys c) (sym p) q
+takes_then R a (x ∷ xs) b ys c p q = (p.0, p.1, takes_then R p.0 xs b ys c p.2 q)
+
+-- what is written of one file
+one_line : (xs : List ℕ) → xs ≡ xs ++ []
+one_line xs = sym (append-nil xs)
+
+module _ {F R W E : Type 0} (step : F → Origin → Result (Opened R) IoError → F → Type 0) (remaining : R → Option (List ℕ))
+    (held : W → Option (List ℕ)) (contents : E → Option (List ℕ)) (failures : E → ℕ) (stalled : E → Bool) where
+  -- no file was taken yet
+  pub takes_none : (form : Form) (names : List Name) (f : F) (w : W) (e : E) (o : Outputs) → (o.tells ≡ true → failures e ≡ 0)
+      → TakesFiles step remaining held contents failures stalled form names names f f w w e e o o (Ok tt)
+  takes_none form names f w e o hears =
+      record { taken = []; split = refl; takes = refl; writes = writes_none held contents failures stalled w e o hears }
+
+  -- files, and then further ones
+  pub takes_more : (form : Form) (names rest last : List Name) (f g h : F) (u v w : W) (x y z : E) (a b c : Outputs) (result : Result (Unit {0}) Kind)
+      → b.zero ≡ a.zero
+      → TakesFiles step remaining held contents failures stalled form names rest f g u v x y a b (Ok tt)
+      → TakesFiles step remaining held contents failures stalled form rest last g h v w y z b c result
+      → TakesFiles step remaining held contents failures stalled form names last f h u w x z a c result
+  takes_more form names rest last f g h u v w x y z a b c result same p q = record {
+    taken = p.taken ++ q.taken;
+    split = p.split ∙ ap (λ l. names_of p.taken ++ l) q.split ∙ sym (append_assoc (names_of p.taken) (names_of q.taken) last)
+        ∙ ap (λ l. l ++ last) (sym (map-append (λ (t : Taken). t.name) p.taken q.taken));
+    takes = takes_then (Takes step remaining form) f p.taken g q.taken h p.takes q.takes;
+    writes = files_then held contents failures stalled u v w x y z a b c result a.zero p.taken q.taken p.writes
+        (subst (λ ends. Writes held contents failures stalled v w y z b c result (output_of ends q.taken) (errors_of q.taken)
+        (greatest_status q.taken)) same q.writes);
+  }
+
+  -- one file
+  pub takes_one : (form : Form) (name : Name) (told : Outcome) (rest : List Name) (f g : F) (u v : W) (x y : E) (a b : Outputs)
+      (result : Result (Unit {0}) Kind) → Takes step remaining form f (record { name = name; outcome = told }) g
+      → Writes held contents failures stalled u v x y a b result (output_line a.zero (bytes_of name) told) (error_line (bytes_of name) told)
+      (outcome_status told)
+      → TakesFiles step remaining held contents failures stalled form (name ∷ rest) rest f g u v x y a b result
+  takes_one form name told rest f g u v x y a b result takes writes = record {
+    taken = record { name = name; outcome = told } ∷ [];
+    split = refl;
+    takes = (g, takes, refl);
+    writes = record {
+      written = subst (λ l. WritesText (held u) (held v) l result) (one_line (output_line a.zero (bytes_of name) told)) writes.written;
+      told = subst (TellsOn contents failures stalled a.tells b.tells x y) (one_line (error_line (bytes_of name) told)) writes.told;
+      status = at b.status a.status (outcome_status told) writes.status;
+    };
+  }
+    where
+      at : (m n s : ℕ) → m ≡ max n s → m ≡ max n (max s 0)
+      at m n s is = omega (arith, is)
+
+-- want of memory for the line of a key is a fault of its file
+pub told_comes : {F R : Type 0} (step : F → Origin → Result (Opened R) IoError → F → Type 0) (remaining : R → Option (List ℕ)) (form : Form)
+    (given : Result (Opened R) IoError) (outcome told : Outcome) → IsToldAs outcome told → Comes step remaining form given outcome
+    → Comes step remaining form given told
+told_comes step remaining form given outcome told (inl is) comes = subst (Comes step remaining form given) (sym is) comes
+told_comes step remaining form (Ok opened) outcome told (inr (key, is, wants)) comes =
+    let had = subst (Comes step remaining form (Ok opened)) is comes in
+    subst (Comes step remaining form (Ok opened)) (sym wants) (had.0, had.1, by_want (inl refl))
+told_comes step remaining form (Err error) outcome told (inr (key, is, wants)) comes =
+    absurd (subst (Comes step remaining form (Err error)) is comes)
+
+-- so what is told of a file is what it comes to
+pub told_takes : {F R : Type 0} (step : F → Origin → Result (Opened R) IoError → F → Type 0) (remaining : R → Option (List ℕ)) (form : Form)
+    (f g : F) (name : Name) (outcome told : Outcome) → IsToldAs outcome told → Takes step remaining form f (record { name = name; outcome = outcome }) g
+    → Takes step remaining form f (record { name = name; outcome = told }) g
+told_takes step remaining form f g name outcome told how (by_call origin given named called comes) =
+    by_call origin given named called (told_comes step remaining form given outcome told how comes)
+told_takes step remaining form f g name outcome told (inl is) (by_name bad same) =
+    by_name (bad.0, bad.1, bad.2, is ∙ bad.3) same
+told_takes step remaining form f g name outcome told (inr (key, is, wants)) (by_name bad same) =
+    let both : Unopened io.InvalidFilename ≡ Key key = sym bad.3 ∙ is in absurd cc
+
+module _ {F R W E : Type 0} (step : F → Origin → Result (Opened R) IoError → F → Type 0) (remaining : R → Option (List ℕ))
+    (held : W → Option (List ℕ)) (contents : E → Option (List ℕ)) (failures : E → ℕ) (stalled : E → Bool) where
+  -- files, and then the next one
+  pub takes_next : (form form' : Form) (names rest rest' : List Name) (name : Name) (bytes : List ℕ) (outcome : Outcome) (f g h : F) (u v w : W)
+      (x y z : E) (a b c : Outputs) (result : Result (Unit {0}) Kind) → form' ≡ form → b.zero ≡ a.zero → rest ≡ name ∷ rest' → bytes ≡ bytes_of name
+      → TakesFiles step remaining held contents failures stalled form names rest f g u v x y a b (Ok tt)
+      → Takes step remaining form' g (record { name = name; outcome = outcome }) h
+      → (told : Outcome) × IsToldAs outcome told × Writes held contents failures stalled v w y z b c result (output_line b.zero bytes told)
+      (error_line bytes told) (outcome_status told)
+      → TakesFiles step remaining held contents failures stalled form names rest' f h u w x z a c result
+  takes_next form form' names rest rest' name bytes outcome f g h u v w x y z a b c result is_form is_zero split is before takes (told, how, writes) =
+      let these = told_takes step remaining form g h name outcome told how
+      (subst (λ k. Takes step remaining k g (record { name = name; outcome = outcome }) h) is_form takes) in
+      let lines = subst (λ l. Writes held contents failures stalled v w y z b c result (output_line b.zero l told) (error_line l told) (outcome_status told))
+      is writes in
+      takes_more step remaining held contents failures stalled form names rest rest' f g h u v w x y z a b c result is_zero before
+      (subst (λ l. TakesFiles step remaining held contents failures stalled form l rest' g h v w y z b c result) (sym split)
+      (takes_one step remaining held contents failures stalled form name told rest' g h v w y z b c result these lines))
+
+  -- which error it is doesn't count
+  pub takes_err : (form : Form) (names rest : List Name) (f g : F) (u v : W) (x y : E) (a b : Outputs) (k k' : Kind)
+      → TakesFiles step remaining held contents failures stalled form names rest f g u v x y a b (Err k)
+      → TakesFiles step remaining held contents failures stalled form names rest f g u v x y a b (Err k')
+  takes_err form names rest f g u v x y a b k k' p = record {
+    taken = p.taken;
+    split = p.split;
+    takes = p.takes;
+    writes = record { written = p.writes.written; told = p.writes.told; status = p.writes.status };
+  }
+
+  pub takes_ok : (form : Form) (names rest : List Name) (f g : F) (u v : W) (x y : E) (a b : Outputs) (done done' : Unit {0})
+      → TakesFiles step remaining held contents failures stalled form names rest f g u v x y a b (Ok done)
+      → TakesFiles step remaining held contents failures stalled form names rest f g u v x y a b (Ok done')
+  takes_ok form names rest f g u v x y a b done done' p = record {
+    taken = p.taken;
+    split = p.split;
+    takes = p.takes;
+    writes = record { written = p.writes.written; told = p.writes.told; status = p.writes.status };
+  }
+
+  -- nor what follows
+  pub takes_longer : (form : Form) (names rest more : List Name) (f g : F) (u v : W) (x y : E) (a b : Outputs) (result : Result (Unit {0}) Kind)
+      → TakesFiles step remaining held contents failures stalled form names rest f g u v x y a b result
+      → TakesFiles step remaining held contents failures stalled form (names ++ more) (rest ++ more) f g u v x y a b result
+  takes_longer form names rest more f g u v x y a b result p = record {
+    taken = p.taken;
+    split = ap (λ l. l ++ more) p.split ∙ append_assoc (names_of p.taken) rest more;
+    takes = p.takes;
+    writes = p.writes;
+  }
+
+  -- the files of the words, and then those of the list
+  pub takes_both : (form form' : Form) (words : List (List ℕ)) (list : List ℕ) (rest last : List Name) (f g h : F) (u v w : W)
+      (x y z : E) (a b c : Outputs) (result : Result (Unit {0}) Kind) → form' ≡ form → b.zero ≡ a.zero → rest ≡ []
+      → TakesFiles step remaining held contents failures stalled form (map Word words) rest f g u v x y a b (Ok tt)
+      → TakesFiles step remaining held contents failures stalled form' (map Listed (names_in (end_of b.zero) list)) last g h v w y z b c result
+      → TakesFiles step remaining held contents failures stalled form (names_among a.zero words list) last f h u w x z a c result
+  takes_both form form' words list rest last f g h u v w x y z a b c result is_form is_zero all p q =
+      let more = map Listed (names_in (end_of a.zero) list) in
+      let first = subst (λ l. TakesFiles step remaining held contents failures stalled form (map Word words ++ more) (l ++ more) f g u v x y a b (Ok tt)) all
+      (takes_longer form (map Word words) rest more f g u v x y a b (Ok tt) p) in
+      let one = subst (λ k. TakesFiles step remaining held contents failures stalled k (map Listed (names_in (end_of b.zero) list)) last g h v w y z b c result)
+      is_form q in
+      let second = subst (λ ends. TakesFiles step remaining held contents failures stalled form (map Listed (names_in (end_of ends) list)) last
+      g h v w y z b c result) is_zero one in
+      takes_more step remaining held contents failures stalled form (names_among a.zero words list) more last f g h u v w x y z a b c result
+      is_zero first second
+
+  -- a flush hands on what was written, or fails, and then all of it was written
+  pub takes_flushed : (form : Form) (names rest : List Name) (f g : F) (u v w : W) (x y : E) (a b : Outputs) (result : Result (Unit {0}) Kind)
+      → TakesFiles step remaining held contents failures stalled form names rest f g u v x y a b (Ok tt) → Keeps (held v) (held w)
+      → TakesFiles step remaining held contents failures stalled form names rest f g u w x y a b result
+  takes_flushed form names rest f g u v w x y a b result p keeps = record {
+    taken = p.taken;
+    split = p.split;
+    takes = p.takes;
+    writes = record { written = at _ result (appends_kept _ _ _ _ p.writes.written keeps); told = p.writes.told; status = p.writes.status };
+  }
+    where
+      at : (s : List ℕ) (r : Result (Unit {0}) Kind) → Appends (held u) (held w) s → WritesText (held u) (held w) s r
+      at s (Ok done) all = all
+      at s (Err kind) all = record {
+        count = length s;
+        within = omega arith;
+        written = subst (Appends (held u) (held w)) (sym (take_all (length s) s (omega arith))) all;
+      }
+
+-- a name of a list that isn't empty, and the names behind it
+pub names_next : (end end' : ℕ) (list name behind : List ℕ) → end ≡ end' → pieces_of end list ≡ name ∷ pieces_of end behind → 0 < length name
+    → map Listed (names_in end' list) ≡ Listed name ∷ map Listed (names_in end' behind)
+names_next end end' list [] behind same is some = absurd (omega (arith, some))
+names_next end end' list (b ∷ name) behind same is some =
+    subst (λ e. map Listed (names_in e list) ≡ Listed (b ∷ name) ∷ map Listed (names_in e behind)) same
+    (ap (λ (pieces : List (List ℕ)). map Listed (filter (λ (piece : List ℕ). not (is_empty piece)) pieces)) is)
+
+-- the words from one of them on
+pub words_next : (words : List (Bor (List ℕ))) (i : ℕ) (d : Bor (List ℕ)) → i < length words
+    → map Word (map (λ (word : Bor (List ℕ)). word.now) (drop i words))
+    ≡ Word (get_or words i d).now ∷ map Word (map (λ (word : Bor (List ℕ)). word.now) (drop (i + 1) words))
+words_next words i d lt = ap (λ l. map Word (map (λ (word : Bor (List ℕ)). word.now) l)) (drop-cons words i d lt)
+    ∙ ap (λ n. Word (get_or words i d).now ∷ map Word (map (λ (word : Bor (List ℕ)). word.now) (drop n words))) (sym (add-one i))
+
+-- the list of a run was read
+pub list_read : {F R A : Type 0} (step : F → Origin → Result (Opened R) IoError → F → Type 0) (remaining : R → Option (List ℕ)) (from : Option (List ℕ))
+    (word : List ℕ) (before after : F) (opened : Opened R) (old new : Option (List ℕ)) (items : A → List ℕ) (result : Result A Kind) → from ≡ Some word
+    → Gives step word before (Ok opened) after → old ≡ remaining opened.input → IfOk result (λ bytes. ReadAll (2 ^ 30) old new (items bytes))
+    → IfOk result (λ bytes. ReadsList step remaining from before (items bytes) after)
+list_read step remaining from word before after opened old new items (Ok bytes) some gives is read =
+    subst (λ w. ReadsList step remaining w before (items bytes) after) (sym some)
+    (opened, gives, (record { before = old; after = new; failures = 0 }, is, read))
+list_read step remaining from word before after opened old new items (Err kind) some gives is read = tt
+
+-- or not
+pub list_lacks : {F R A : Type 0} (step : F → Origin → Result (Opened R) IoError → F → Type 0) (remaining : R → Option (List ℕ)) (word : List ℕ)
+    (before after : F) (opened : Opened R) (old new : Option (List ℕ)) (failures : ℕ) (result : Result A Kind) → Gives step word before (Ok opened) after
+    → old ≡ remaining opened.input → IfErr result (λ kind. kind ≡ kinds.ReadFault → failures ≡ 1)
+    → IfErr result (λ kind. kind ≡ kinds.InputTooLong → CameBeyond (2 ^ 30) old new)
+    → IfErr result (λ kind. (kind ≡ kinds.ReadFault) ⊎ ((kind ≡ kinds.InputTooLong) ⊎ (kind ≡ kinds.Memory)))
+    → IfErr result (LacksList step remaining word before)
+list_lacks step remaining word before after opened old new failures (Ok a) gives is failed long kind = tt
+list_lacks step remaining word before after opened old new failures (Err k) gives is failed long kind = elim kind [
+  | inl reads ↦ by_reading opened after (record { before = old; after = new; failures = failures }) gives is (by_source (ap fault_of reads) (failed reads))
+  | inr other ↦ elim other [
+    | inl more ↦ by_reading opened after (record { before = old; after = new; failures = failures }) gives is (by_length (ap fault_of more) (long more))
+    | inr wants ↦ by_memory wants
+  ]
+]
+
+pub on_ok : {A B : Type 0} (P : Type 0) (r : Result A B) → P → OnOk r P
+on_ok P (Ok a) p = p
+on_ok P (Err e) p = tt
+
+pub err_by : {A B : Type 0} (P Q : B → Type 0) (r : Result A B) → ((b : B) → P b → Q b) → IfErr r P → IfErr r Q
+err_by P Q (Ok a) f p = tt
+err_by P Q (Err e) f p = f e p
+
+outcome_is : (outcome : Outcome) → IsStatus (outcome_status outcome)
+outcome_is (Key key) = inl refl
+outcome_is (Refused fault) = kind_status fault.kind
+outcome_is (Unopened kind) = inr (inr (inl refl))
+
+greater : (m n : ℕ) → IsStatus m → IsStatus n → IsStatus (max m n)
+greater m n (inl p) (inl q) = inl (omega (arith, p, q))
+greater m n (inl p) (inr (inl q)) = inr (inl (omega (arith, p, q)))
+greater m n (inl p) (inr (inr (inl q))) = inr (inr (inl (omega (arith, p, q))))
+greater m n (inl p) (inr (inr (inr q))) = inr (inr (inr (omega (arith, p, q))))
+greater m n (inr (inl p)) (inl q) = inr (inl (omega (arith, p, q)))
+greater m n (inr (inl p)) (inr (inl q)) = inr (inl (omega (arith, p, q)))
+greater m n (inr (inl p)) (inr (inr (inl q))) = inr (inr (inl (omega (arith, p, q))))
+greater m n (inr (inl p)) (inr (inr (inr q))) = inr (inr (inr (omega (arith, p, q))))
+greater m n (inr (inr (inl p))) (inl q) = inr (inr (inl (omega (arith, p, q))))
+greater m n (inr (inr (inl p))) (inr (inl q)) = inr (inr (inl (omega (arith, p, q))))
+greater m n (inr (inr (inl p))) (inr (inr (inl q))) = inr (inr (inl (omega (arith, p, q))))
+greater m n (inr (inr (inl p))) (inr (inr (inr q))) = inr (inr (inr (omega (arith, p, q))))
+greater m n (inr (inr (inr p))) (inl q) = inr (inr (inr (omega (arith, p, q))))
+greater m n (inr (inr (inr p))) (inr (inl q)) = inr (inr (inr (omega (arith, p, q))))
+greater m n (inr (inr (inr p))) (inr (inr (inl q))) = inr (inr (inr (omega (arith, p, q))))
+greater m n (inr (inr (inr p))) (inr (inr (inr q))) = inr (inr (inr (omega (arith, p, q))))
+
+-- the greatest status of files is one of the command
+pub greatest_is : (taken : List Taken) → IsStatus (greatest_status taken)
+greatest_is [] = inl refl
+greatest_is (t ∷ taken) = greater (outcome_status t.outcome) (greatest_status taken) (outcome_is t.outcome) (greatest_is taken)
+
+-- what a run tells, and then the line with which it is broken off
+pub broken_tells : {E : Type 0} (contents : E → Option (List ℕ)) (failures : E → ℕ) (stalled : E → Bool) (b : Bool) (x y z : E) (s t : List ℕ)
+    → TellsOn contents failures stalled true b x y s → (b ≡ true → Tells (sink_run contents failures stalled y z) t) → (b ≡ false → z ≡ y)
+    → Tells (sink_run contents failures stalled x z) (s ++ t)
+broken_tells contents failures stalled true x y z s t p q r = elim (q refl) [
+  | inl whole ↦ inl (Appends-trans _ _ _ s t p.0 whole)
+  | inr part ↦ inr (prefix-after _ _ _ s t p.0 part.0, part.1)
+]
+broken_tells contents failures stalled false x y z s t p q r =
+    subst (λ last. Tells (sink_run contents failures stalled x last) (s ++ t)) (sym (r refl)) (inr (prefix-grows _ _ s t p.0, p.1))
+
+pub names_same : (z z' : Bool) (words words' : List (Bor (List ℕ))) (list list' : List ℕ) → z ≡ z' → words ≡ words' → list ≡ list'
+    → names_among z (map (λ (word : Bor (List ℕ)). word.now) words) list ≡ names_among z' (map (λ (word : Bor (List ℕ)). word.now) words') list'
+names_same z z' words words' list list' p q r = ap (λ e. names_among e (map (λ (word : Bor (List ℕ)). word.now) words) list) p
+    ∙ ap (λ w. names_among z' (map (λ (word : Bor (List ℕ)). word.now) w) list) q
+    ∙ ap (λ l. names_among z' (map (λ (word : Bor (List ℕ)). word.now) words') l) r
+
+from_none : (m n g : ℕ) → n ≡ max m g → m ≡ 0 → n ≡ g
+from_none m n g is none = omega (arith, is, none)
+
+module _ {F R W E : Type 0} (step : F → Origin → Result (Opened R) IoError → F → Type 0) (remaining : R → Option (List ℕ))
+    (held : W → Option (List ℕ)) (w-failures : W → ℕ) (w-stalled : W → Bool)
+    (contents : E → Option (List ℕ)) (failures : E → ℕ) (stalled : E → Bool) where
+  -- the files that a run took, from those that were taken after its list was read
+  took_of : (plan : KeysPlan) (opener ready last : F) (list : List ℕ) (form : Form) (names rest : List Name) (u v : W) (x y : E) (a b : Outputs)
+      (result : Result (Unit {0}) Kind) → ReadsList step remaining (list_word plan) opener list ready → form ≡ plan.form
+      → names ≡ names_among plan.zero (words_of plan) list
+      → (p : TakesFiles step remaining held contents failures stalled form names rest ready last u v x y a b result)
+      → Took step remaining plan opener p.taken rest
+  took_of plan opener ready last list form names rest u v x y a b result read is_form same p = record {
+    list = list;
+    ready = ready;
+    last = last;
+    read = read;
+    names = sym same ∙ p.split;
+    takes = subst (λ k. TakesAll step remaining k ready p.taken last) is_form p.takes;
+  }
+
+  -- a run that comes to its end
+  pub ran_through : (plan : KeysPlan) (opener ready last : F) (list : List ℕ) (form : Form) (names rest : List Name) (u v : W) (x y : E) (a b : Outputs)
+      (flushed : Bool) → ReadsList step remaining (list_word plan) opener list ready → form ≡ plan.form
+      → names ≡ names_among plan.zero (words_of plan) list → a.zero ≡ plan.zero → a.tells ≡ true → a.status ≡ 0 → rest ≡ []
+      → TakesFiles step remaining held contents failures stalled form names rest ready last u v x y a b (Ok tt) → flushed ≡ true
+      → Ran step remaining plan opener (sink_run held w-failures w-stalled u v) (sink_run contents failures stalled x y) flushed b.status
+  ran_through plan opener ready last list form names rest u v x y a b flushed read is_form same is_zero hears none all p is_flushed = through p.taken
+      (subst (Took step remaining plan opener p.taken) all (took_of plan opener ready last list form names rest u v x y a b (Ok tt) read is_form same p))
+      (subst (λ z. Appends (held u) (held v) (output_of z p.taken)) is_zero p.writes.written) is_flushed
+      (tells_all contents failures stalled b.tells x y (errors_of p.taken)
+      (subst (λ t. TellsOn contents failures stalled t b.tells x y (errors_of p.taken)) hears p.writes.told))
+      (from_none a.status b.status (greatest_status p.taken) p.writes.status none)
+
+  -- a run that is broken off
+  pub ran_broken : (plan : KeysPlan) (opener ready last : F) (list : List ℕ) (form : Form) (names rest : List Name) (u v : W) (x y z : E) (a b : Outputs)
+      (flushed : Bool) (kind : Kind) (status : ℕ) → ReadsList step remaining (list_word plan) opener list ready → form ≡ plan.form
+      → names ≡ names_among plan.zero (words_of plan) list → a.zero ≡ plan.zero → a.tells ≡ true
+      → TakesFiles step remaining held contents failures stalled form names rest ready last u v x y a b (Err kind)
+      → kind ≡ kinds.WriteFault → (w-failures v ≡ 1) ⊎ (w-stalled v ≡ true)
+      → (b.tells ≡ true → Tells (sink_run contents failures stalled y z) (fault_line (refusal_of (fault_of kind)))) → (b.tells ≡ false → z ≡ y)
+      → status ≡ status_of kind
+      → Ran step remaining plan opener (sink_run held w-failures w-stalled u v) (sink_run contents failures stalled x z) flushed status
+  ran_broken plan opener ready last list form names rest u v x y z a b flushed kind status read is_form same is_zero hears p is cause told silent is_status =
+      broken_off p.taken rest (took_of plan opener ready last list form names rest u v x y a b (Err kind) read is_form same p)
+      (subst (λ e. WritesPrefix (held u) (held v) (output_of e p.taken)) is_zero p.writes.written) cause
+      (subst (λ k. Tells (sink_run contents failures stalled x z) (errors_of p.taken ++ fault_line (refusal_of (fault_of k)))) is
+      (broken_tells contents failures stalled b.tells x y z (errors_of p.taken) _
+      (subst (λ t. TellsOn contents failures stalled t b.tells x y (errors_of p.taken)) hears p.writes.told) told silent))
+      (is_status ∙ ap status_of is)
+
+  -- and the status of one that comes to its end
+  pub status_is : (form : Form) (names rest : List Name) (f g : F) (u v : W) (x y : E) (a b : Outputs) (result : Result (Unit {0}) Kind) → a.status ≡ 0
+      → TakesFiles step remaining held contents failures stalled form names rest f g u v x y a b result → IsStatus b.status
+  status_is form names rest f g u v x y a b result none p =
+      subst IsStatus (sym (from_none a.status b.status (greatest_status p.taken) p.writes.status none)) (greatest_is p.taken)

@@ -1,0 +1,32 @@
+//! What a file of the command `keys` comes to.
+
+ghost use Rattle.std.specs.Prelude.{◌≡◌};
+ghost use Rattle.life_cli.specs.KeyRuns.{outcome_status};
+
+use crate::telling::status;
+use life_base::Fault;
+use std::io::ErrorKind;
+
+/// What a file comes to.
+#[derive(Clone, Copy)]
+pub enum Outcome {
+    /// It has this key.
+    Key([u8; 32]),
+    /// It has none for this fault, want of room or memory among them.
+    Refused(Fault),
+    /// It can't be opened.
+    Unopened(ErrorKind),
+}
+
+impl Outcome {
+    /// The status of the file.
+    pub(super) fn status(&self) -> u8
+        ensures { result ≡ outcome_status self.now }
+    {
+        match self {
+            Outcome::Key(_) => 0,
+            Outcome::Refused(fault) => status(fault.kind),
+            Outcome::Unopened(_) => 3,
+        }
+    }
+}

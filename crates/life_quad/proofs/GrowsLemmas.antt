@@ -1,0 +1,63 @@
+-- What calls leave in a store, one behind the other, and refusals that are handed on.
+use Rattle.std.proofs.Common.{◌≡◌, Result, Ok, Err, ap}
+use Rattle.std.specs.Prelude.{IsErrAnd}
+use Rattle.life_base.specs.Tree.{Tree}
+use Rattle.life_base.specs.declared.kind.Kind.{Kind}
+use Rattle.life_quad.specs.declared.squares.Squares.{Ghosts}
+use Rattle.life_quad.specs.Keeping.{AddsOnly}
+use Rattle.life_quad.specs.Grows.{Keeps, Grows, GrowsOnly}
+use Rattle.life_quad.proofs.KeepingLemmas.{keeps-then, adds-as, adds-then}
+use Rattle.life_quad.proofs.RefusedLemmas.{error_is}
+
+-- the same refusal of another call
+err_again : {T U E : Type 0} {x y : E} → ◌≡◌ {A = Result T E} (Err x) (Err y) → ◌≡◌ {A = Result U E} (Err x) (Err y)
+err_again {T} {E = E} {x} e = ap Err (ap only e)
+  where
+    only : Result T E → E
+    only (Ok t) = x
+    only (Err z) = z
+
+module _ {X : Type 0} {S : Ghosts X} {A : Type 0} {N : (Tree → Type 0) → Type 0} (M : (Tree → Type 0) → Type 0) where
+  -- a call behind others
+  pub grows-behind : {old mid new : X} {r : Result A Kind} → Keeps S old mid → AddsOnly S.stored M old mid → Grows S mid new r N
+      → ((P : Tree → Type 0) → N P → M P) → Grows S old new r M
+  grows-behind {new = new} keeps adds call more =
+      record {
+        keeps = keeps-then keeps call.keeps;
+        refusals = call.refusals;
+        needed = λ e. more (S.needs_node new) (call.needed e);
+        adds = adds-then M adds call.adds (λ P a. a) more;
+      }
+
+  -- a call behind another one
+  pub grows-then : {B : Type 0} {L : (Tree → Type 0) → Type 0} {old mid new : X} {q : Result B Kind} {r : Result A Kind} → Grows S old mid q L
+      → Grows S mid new r N → ((P : Tree → Type 0) → L P → M P) → ((P : Tree → Type 0) → N P → M P) → Grows S old new r M
+  grows-then first call some more = grows-behind first.keeps (adds-as M first.adds some) call more
+
+  -- the first call, or the only one
+  pub grows-as : {old new : X} {r : Result A Kind} → Grows S old new r N → ((P : Tree → Type 0) → N P → M P) → Grows S old new r M
+  grows-as {new = new} call more =
+      record {
+        keeps = call.keeps;
+        refusals = call.refusals;
+        needed = λ e. more (S.needs_node new) (call.needed e);
+        adds = adds-as M call.adds more;
+      }
+
+  -- a refusal that is handed on
+  pub grows-err : {B : Type 0} {old new : X} {e : Kind} {r : Result B Kind} → Grows {A = A} S old new (Err e) N → IsErrAnd r (λ y. y ≡ e)
+      → ((P : Tree → Type 0) → N P → M P) → Grows S old new r M
+  grows-err {new = new} {r = r} call told more =
+      let same = error_is r told in
+      record {
+        keeps = call.keeps;
+        refusals = rw same call.refusals;
+        needed = λ h. more (S.needs_node new) (call.needed (err_again (rw same at h)));
+        adds = adds-as M call.adds more;
+      }
+
+-- a call that is refused for nothing but a square
+pub only-grows : {X : Type 0} {S : Ghosts X} {A : Type 0} {N : (Tree → Type 0) → Type 0} {old new : X} {r : Result A Kind} → GrowsOnly S old new r N
+    → Grows S old new r N
+only-grows {r = Ok x} call = record { keeps = call.keeps; refusals = call.refusals; needed = λ e. cc; adds = call.adds }
+only-grows {r = Err x} call = record { keeps = call.keeps; refusals = call.refusals; needed = λ e. call.needed; adds = call.adds }

@@ -1,0 +1,73 @@
+-- Whether cells stand in the plane, by the limit of their row; and where the next item stands.
+use Rattle.std.proofs.Common.{◌≡◌, ℕ, ◌^◌, Bool, true, false, cond, Option, Some, None, not, refl, sym, arith, ℤ, pos, neg_ℤ, ◌+ℤ◌, ◌≤ℤ◌, ◌<ℤ◌, ◌&&◌}
+use Rattle.std.specs.Prelude.{int_lt, int_le, if◌then◌else◌}
+use Rattle.std.proofs.lemmas.Int.{ints}
+use Rattle.life_base.specs.declared.cell.TheConstants.{MAX_LEVEL}
+use Rattle.life_base.specs.declared.kind.Kind.{Kind}
+use Rattle.life_base.specs.declared.kind.Kind.TheVariants.{StateRange, OutOfPlane}
+use Rattle.life_base.specs.declared.rule.Rule.{Rule}
+use Rattle.life_rle.specs.declared.item.Item.{Item}
+use Rattle.life_rle.specs.declared.item.Item.TheVariants.{Cells, RowEnds}
+use Rattle.life_rle.specs.declared.cursor.Cursor.{Cursor}
+use Rattle.life_rle.specs.Plane.{edge}
+use Rattle.life_rle.specs.States.{is_state_of}
+use Rattle.life_rle.specs.Pattern.{item_fault}
+use Rattle.life_rle.specs.Cursor.{IsNear, moved, row_limit}
+
+below : (x : ℤ) (n : ℕ) → neg_ℤ (edge MAX_LEVEL) ≤ℤ x → int_le (x +ℤ pos n) (neg_ℤ (pos (2 ^ 63))) ≡ false
+below x n h = grind (arith, ints)
+
+-- cells stand in the plane where they stand within the limit
+pub within-limit : (y x limit : ℤ) (n : ℕ) → neg_ℤ (edge MAX_LEVEL) ≤ℤ x → limit ≡ row_limit MAX_LEVEL y
+    → (int_lt y (edge MAX_LEVEL) && int_le (x +ℤ pos n) (edge MAX_LEVEL)) ≡ int_le (x +ℤ pos n) limit
+within-limit y x limit n near e =
+    rw e (elim (int_lt y (edge MAX_LEVEL))
+    as (λ t. (t && int_le (x +ℤ pos n) (edge MAX_LEVEL)) ≡ int_le (x +ℤ pos n) (cond t (edge MAX_LEVEL) (neg_ℤ (pos (2 ^ 63))))) [
+      | true ↦ refl
+      | false ↦ sym (below x n near)
+    ])
+
+-- the fault of cells, by whether they have a state of the rule and stand in the plane
+abbrev pub cells-by : (known inside : Bool) → Option Kind
+cells-by known inside = if not known then Some StateRange else if inside then None else Some OutOfPlane
+
+pub fault-within : (known inside : Bool) → known ≡ true → inside ≡ true → cells-by known inside ≡ None
+fault-within known inside k h = rw (k, h) refl
+
+pub fault-beyond : (known inside : Bool) → known ≡ true → inside ≡ false → cells-by known inside ≡ Some OutOfPlane
+fault-beyond known inside k h = rw (k, h) refl
+
+is-inside : (known row column : Bool) → cells-by known (row && column) ≡ None → column ≡ true
+is-inside true true true e = refl
+is-inside true true false e = cc
+is-inside true false column e = cc
+is-inside false row column e = cc
+
+is-on : (row : Bool) → cond row None (Some OutOfPlane) ≡ None → row ≡ true
+is-on true e = refl
+is-on false e = cc
+
+le-true : (a b : ℤ) → int_le a b ≡ true → a ≤ℤ b
+le-true a b e = grind (arith, ints)
+
+further : (low z : ℤ) (n : ℕ) → low ≤ℤ z → low ≤ℤ (z +ℤ pos n)
+further low z n h = omega (arith, ints)
+
+up-to : (a b : ℤ) → a <ℤ b → a ≤ℤ b
+up-to a b h = omega (arith, ints)
+
+-- behind an item without a fault
+pub moved-near : (rule : Rule) (c : Cursor) (item : Item) → IsNear MAX_LEVEL c → item_fault MAX_LEVEL rule c.y c.x item ≡ None
+    → IsNear MAX_LEVEL (moved c item)
+moved-near rule c (Cells n s) near e =
+    let column = is-inside (is_state_of rule s) (int_lt c.y (edge MAX_LEVEL)) (int_le (c.x +ℤ pos n) (edge MAX_LEVEL)) e in
+    record {
+      left = near.left;
+      x = (further (neg_ℤ (edge MAX_LEVEL)) c.x n near.x.0, le-true (c.x +ℤ pos n) (edge MAX_LEVEL) column);
+      y = near.y;
+    }
+moved-near rule c (RowEnds n) near e = record {
+  left = near.left;
+  x = (near.left.0, up-to c.left (edge MAX_LEVEL) near.left.1);
+  y = (further (neg_ℤ (edge MAX_LEVEL)) c.y n near.y.0, le-true (c.y +ℤ pos n) (edge MAX_LEVEL) (is-on (int_le (c.y +ℤ pos n) (edge MAX_LEVEL)) e));
+}
