@@ -26,6 +26,9 @@ use std::alloc::Global;
 /// How many bytes are read, or held before they are written, at once.
 pub(crate) const PIECE: usize = 65536;
 
+/// How many bytes the first lines of most files have at most.
+const SHORT_FRONT: usize = 256;
+
 /// In a store of so many nodes at most, numbers for all of them are made at once, which takes 4 MB.
 const FEW_NODES: usize = 1 << 20;
 
@@ -98,7 +101,7 @@ fn begin_front(alloc: Global, pattern: &Pattern) -> Result<Vec<u8>, Kind>
     ensures room { IfOk result (λ front. 65536 ≤ vec_capacity front) }
     ensures kind { IfErr result (λ kind. kind ≡ Memory) }
 {
-    let mut front = Vec::new(alloc);
+    let mut front = Vec::with_capacity(alloc, PIECE + SHORT_FRONT)?;
     append_front(&mut front, &pattern.rule, pattern.generation)?;
     front.reserve(PIECE)?;
     Ok(front)

@@ -1,5 +1,5 @@
 //! A value for each square.
-ghost use Rattle.std.specs.Prelude.{◌≡◌, ◌≢◌, ◌⊎◌, ◌<◌, ℕ, slice_index_or, vec_len, OnOk, OnErr, IfErr};
+ghost use Rattle.std.specs.Prelude.{◌≡◌, ◌≢◌, ◌⊎◌, ◌+◌, ◌<◌, ◌≤◌, ◌++◌, ℕ, length, replicate, slice_index_or, vec_len, OnOk, OnErr, IfErr};
 ghost use Rattle.life_base.specs.declared.kind.Kind.TheVariants.{Memory};
 ghost use Rattle.life_quad.specs.declared.id.Id.{Id as IdValue};
 ghost use Rattle.life_quad.specs.IdMap.{value_of, HasRoom};
@@ -16,6 +16,11 @@ const PAGE: u64 = 256;
 
 /// The page of the first nodes.
 const NODES: u64 = FIRST_NODE / PAGE;
+
+/// The first room of a map is for the places of the small squares and of the first nodes, and for four pages. A pattern of a few squares
+/// needs no more, and asks for memory twice.
+const FIRST_PLACES: usize = NODES as usize + 2;
+const FIRST_VALUES: usize = 4 * PAGE as usize;
 
 /// What stands for the first index of a page that wasn't made: no value has it.
 const NONE: u32 = u32::MAX;
@@ -83,7 +88,25 @@ fn make_place(starts: &mut Vec<u32>, place: u64) -> Result<(), Kind>
     let Some(length) = place.checked_add(1) else {
         return Err(Kind::Memory);
     };
+    if starts.is_empty() {
+        starts.reserve(FIRST_PLACES)?;
+    }
     starts.resize(length as usize, NONE)?;
+    Ok(())
+}
+
+/// Adds a page of a value behind the others.
+fn add_page<T: Copy>(values: &mut Vec<T>, value: T) -> Result<(), Kind>
+    requires { length values.old.items + 256 ≤ 4294967295 }
+    ensures page { OnOk result (values.new.items ≡ values.old.items ++ replicate 256 value) }
+    ensures same { OnErr result (values.new.items ≡ values.old.items) }
+    ensures kind { IfErr result (λ kind. kind ≡ Memory) }
+{
+    let start = values.len();
+    if start == 0 {
+        values.reserve(FIRST_VALUES)?;
+    }
+    values.resize(start + PAGE as usize, value)?;
     Ok(())
 }
 
@@ -126,7 +149,7 @@ impl<T: Copy> IdMap<T> {
         }
         let place = place_of(id.0);
         make_place(&mut self.starts, place)?;
-        self.values.resize(start + PAGE as usize, self.absent)?;
+        add_page(&mut self.values, self.absent)?;
         self.starts[place as usize] = start as u32;
         Ok(())
     }

@@ -1,4 +1,4 @@
-use Rattle.std.proofs.Common.{◌≡◌, ◌≢◌, ℕ, ◌+◌, ◌-◌, ◌<◌, ◌≤◌, List, ◌++◌, length, get_or, set, replicate, vec_len, sym, ◌∙◌, ap, arith, get_or-set_same, get_or-set_other}
+use Rattle.std.proofs.Common.{◌≡◌, ◌≢◌, ℕ, ◌+◌, ◌-◌, ◌<◌, ◌≤◌, List, ◌++◌, length, get_or, set, replicate, vec_len, sym, ◌∙◌, ap, arith, get_or-set_same, get_or-set_other, length-append}
 use Rattle.std.proofs.lemmas.List.{take_all}
 use Rattle.life_quad.specs.IdMap.{value_of}
 use Rattle.life_quad.specs.Pages.{start_in, index_in}
@@ -20,11 +20,7 @@ returns-clause-same g c = λ q.
     let here : start_in new place ≡ length values = get_or-set_same c.make_place.new.starts.items place c.len-start.result 4294967295 room ∙ start in
     let others : (p : ℕ) → p ≢ place → start_in new p ≡ start_in starts p = λ p o. get_or-set_other c.make_place.new.starts.items place p c.len-start.result
     4294967295 o ∙ c.make_place.ensures.same p in
-    let count : c.len-start.result + 256 - vec_len c.self.inside.values ≡ 256 = let l = c.len-start.ensures in omega (arith, l) in
-    let short : length values ≤ c.len-start.result + 256 = omega (arith, start) in
-    let items : c.resize.new.self.items ≡ values ++ replicate 256 absent =
-    c.in_ok-resize.ensures.items ∙ ap (λ l. l ++ replicate (c.len-start.result + 256 - vec_len c.self.inside.values) absent)
-    (take_all (c.len-start.result + 256) values short) ∙ ap (λ n. values ++ replicate n absent) count in
+    let items = c.in_ok-add_page.ensures.page in
     ap (λ l. get_or l (index_in new q.0) absent) items ∙ same_values starts new values absent place c.args.id.0 q.0 c.self.invariant
     (sym c.place_of-place.ensures) none here others ∙ ap (λ v. value_of v q) c.self.view_is
 
@@ -40,6 +36,5 @@ invariant_of-self-2 g c =
     let here : start_in new place ≡ length values = get_or-set_same c.make_place.new.starts.items place c.len-start.result 4294967295 room ∙ start in
     let others : (p : ℕ) → p ≢ place → start_in new p ≡ start_in starts p = λ p o. get_or-set_other c.make_place.new.starts.items place p c.len-start.result
     4294967295 o ∙ c.make_place.ensures.same p in
-    let sum : length c.resize.new.self.items ≡ length values + 256 = let l = c.in_ok-resize.ensures.len in let k = c.resize.new.self.ok in
-    omega (arith, l, k, start) in
-    one_page starts new (length values) (length c.resize.new.self.items) place c.self.invariant sum (omega (arith, sum, start, c.if-start.false)) here others
+    let sum = ap length c.in_ok-add_page.ensures.page ∙ length-append values (replicate 256 c.self.inside.absent) in
+    one_page starts new (length values) (length c.add_page.new.values.items) place c.self.invariant sum (omega (arith, sum, start, c.if-start.false)) here others
