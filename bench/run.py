@@ -1,55 +1,31 @@
 #!/usr/bin/env python3
-"""Times golly_canon and the layers below it beside plain programs in C on the same work, in one run.
+"""Times golly_canon beside a plain program in C on the same work, in one run.
 
 usage: bench/run.py PROGRAM FOLDER    (PROGRAM: the built golly_canon; FOLDER: where inputs and plain programs are made)
 
 Of each command the two programs take turns, five times each, and the least processor time (user and system) of each counts; their bytes are
 compared first. Golly's bgolly takes turns with it too, where it is installed. The memory is the peak resident size in one more run, which
-/usr/bin/time starts: what this script starts itself is said to be as large as this script. With SMALL=1 in the environment each input has a tenth of the size that its row names, each program has three turns, and
-the layers are left out: that ends within three minutes. The program of crates/bench_layers is proved and built first.
+/usr/bin/time starts: what this script starts itself is said to be as large as this script. With SMALL=1 in the environment each input has a tenth
+of the size that its row names, and each program has three turns: that ends within three minutes.
 """
-import functools
 import os
-import re
 import shutil
 import subprocess
 import sys
 import tempfile
-import time
 
 HERE = os.path.dirname(os.path.abspath(__file__))
 TOP = os.path.dirname(HERE)
 IS_SMALL = os.environ.get("SMALL") == "1"
 TURNS = 3 if IS_SMALL else 5
-TIMES = 3
 
 
-def peak_of(words, source=os.devnull):
+def peak_of(words):
     """The peak memory of a command in bytes."""
-    with open(source, "rb") as given, tempfile.NamedTemporaryFile("r") as told:
-        subprocess.run(["/usr/bin/time", "-f", "%M", "-o", told.name, *words], stdin=given, stdout=subprocess.DEVNULL,
+    with tempfile.NamedTemporaryFile("r") as told:
+        subprocess.run(["/usr/bin/time", "-f", "%M", "-o", told.name, *words], stdin=subprocess.DEVNULL, stdout=subprocess.DEVNULL,
                        stderr=subprocess.DEVNULL, check=True)
         return int(told.read()) * 1024
-
-
-def timed(words, source=os.devnull):
-    """The best time of a command in seconds, its peak memory in bytes, what its runs printed, and the least processor time, which other
-    work on the machine changes less."""
-    best, printed, least_spent = None, [], None
-    for _ in range(TIMES):
-        with open(source, "rb") as given:
-            start = time.monotonic()
-            child = subprocess.Popen(words, stdin=given, stdout=subprocess.PIPE, stderr=subprocess.STDOUT)
-            text = child.stdout.read()
-            _, status, usage = os.wait4(child.pid, 0)
-            took = time.monotonic() - start
-        if status != 0:
-            sys.exit(f"{' '.join(words)} on {source}: status {status}")
-        best = took if best is None else min(best, took)
-        spent = usage.ru_utime + usage.ru_stime
-        least_spent = spent if least_spent is None else min(least_spent, spent)
-        printed.append(text[:4096].decode("utf-8", "replace"))
-    return best, peak_of(words, source), printed, least_spent
 
 
 def spent(words):
@@ -68,15 +44,9 @@ def in_turns(*commands):
     return [min(times) for times in zip(*[[spent(words) for words in commands] for _ in range(TURNS)])]
 
 
-def output(words, source=os.devnull):
+def output(words):
     """What a command writes to standard output."""
-    with open(source, "rb") as given:
-        return subprocess.run(words, stdin=given, stdout=subprocess.PIPE, check=True).stdout
-
-
-def told(words, source, pattern):
-    """The least of the times that the runs of a command tell."""
-    return least(pattern, timed(words, source)[2])
+    return subprocess.run(words, stdin=subprocess.DEVNULL, stdout=subprocess.PIPE, check=True).stdout
 
 
 def plain(folder, name):
@@ -84,17 +54,6 @@ def plain(folder, name):
     path = os.path.join(folder, name)
     subprocess.run([os.environ.get("CC", "cc"), "-O2", "-o", path, os.path.join(HERE, name + ".c")], check=True)
     return path
-
-
-@functools.lru_cache(maxsize=None)
-def layers():
-    """The program of crates/bench_layers, proved and built."""
-    folder = os.path.join(TOP, "crates", "bench_layers")
-    done = subprocess.run([os.environ.get("RT", "rt"), "run"], cwd=folder, stdin=subprocess.DEVNULL,
-                          stdout=subprocess.PIPE, stderr=subprocess.STDOUT)
-    if done.returncode != 0:
-        sys.exit(done.stdout.decode("utf-8", "replace"))
-    return os.path.join(folder, "out", "bench_layers")
 
 
 def made(folder, name, kind, size):
@@ -229,97 +188,6 @@ def beside_golly(program, folder):
             print(f"  {label:<48} {took:6.3f} s, bgolly {other:6.3f} s: {took / other:4.2f}", flush=True)
 
 
-def rle(folder):
-    print("reading RLE, beside a plain reader in C that checks nothing")
-    program, reference = [layers(), "rle"], plain(folder, "plain_rle")
-    soups = [(f"soup of {megabytes(size)}", soup_of(folder, size)) for size in SOUPS[:2]]
-    times = []
-    for label, path in soups:
-        took, peak, _, _ = timed([*program, "read"], path)
-        base, base_peak, _, _ = timed([reference, "read"], path)
-        times.append(took)
-        print(f"  {label:<26} {took:.3f} s, plain {base:.3f} s; {took / base:.2f} times plain, peak memory {peak / 1e6:.0f} MB, plain {base_peak / 1e6:.0f} MB")
-    print(f"  10 times the bytes take {times[1] / times[0]:.1f} times as long")
-    print("writing the cells that were read, the writing alone, beside a plain writer in C")
-    times = []
-    for label, path in soups:
-        took, base = told(program, path, r"written: (\d+) us"), told([reference], path, r"written: (\d+) us")
-        times.append(took)
-        if output([*program, "text"], path) != output([reference, "text"], path):
-            sys.exit(f"{path}: the two programs write other bytes")
-        print(f"  {label:<26} {took / 1000:.1f} ms, plain {base / 1000:.1f} ms; {took / base:.2f} times plain, the same bytes")
-    print(f"  10 times the bytes take {times[1] / times[0]:.1f} times as long")
-
-
-def least(pattern, texts):
-    """The least of the numbers that the runs printed for a pattern."""
-    return min(float(found.group(1)) if found else float("nan") for found in (re.search(pattern, text) for text in texts))
-
-
-def store(folder):
-    print("the shared store, beside a plain hash-consing store in C")
-    _, peak, texts, _ = timed([layers(), "quad"])
-    _, base_peak, base, _ = timed([plain(folder, "plain_quad")])
-    for what in ("fresh joins", "found joins"):
-        took, other = least(what + r": (\d+) ms", texts), least(what + r" \d+ (\d+)", base)
-        print(f"  4,000,000 {what:<16} {took:.0f} ms, plain {other:.0f} ms; {took / other:.2f} times plain")
-    nodes = least(r"runs: \d+ ms, nodes (\d+)", texts)
-    runs, full = least(r"runs: (\d+) ms", texts), least(r"full square: (\d+) ms", texts)
-    print(f"  10,000 calls of put_run    {runs:.0f} ms; {nodes:.0f} nodes at the end, {peak / nodes:.0f} bytes a node at the peak,"
-          f" plain {base_peak / 4e6:.0f} bytes")
-    print(f"  population and bounds of a full square of level 62: {full:.0f} ms")
-
-
-def strips(folder):
-    print("filling a store row by row, beside a plain bottom-up filler in C")
-    program, reference = [layers(), "strips"], plain(folder, "plain_strips")
-    times, others, listings = [], [], []
-    for runs in (1_000_000, 10_000_000):
-        _, peak, texts, spent = timed([*program, str(runs), "time"])
-        _, base_peak, base, base_spent = timed([reference, str(runs)])
-        took, other = least(r"runs: \d+ squares in (\d+) ms", texts), least(r"(\d+) ms", base)
-        squares, other_squares = least(r"runs: (\d+) squares", texts), least(r"(\d+) squares", base)
-        times.append((took, spent))
-        others.append((other, base_spent))
-        print(f"  soup of {runs:>10,} runs: {took:.0f} ms, plain {other:.0f} ms; {took / other:.2f} times plain; {squares:.0f} squares, plain {other_squares:.0f};"
-              f" peak memory {peak / 1e6:.0f} MB ({peak / squares:.0f} bytes a square), plain {base_peak / 1e6:.0f} MB")
-    for what, index in (("time", 0), ("processor time", 1)):
-        print(f"  10 times the runs take {times[1][index] / times[0][index]:.1f} times the {what}, in C {others[1][index] / others[0][index]:.1f} times")
-    print(f"  50,000 rows of 2^62 cells: {least(r'2.62 cells: [0-9]+ squares in ([0-9]+) ms', texts):.0f} ms")
-    for runs in (1_000_000, 10_000_000):
-        for line in timed([*program, str(runs)])[2][0].splitlines():
-            print(f"  {line}")
-    for runs in (1_000_000, 10_000_000):
-        _, peak, texts, _ = timed([*program, str(runs), "cells"])
-        for what in ("runs", "single cells"):
-            cells, took = least(what + r": (\d+) cells", texts), least(what + r": \d+ cells in (\d+) ms", texts)
-            listings.append(took)
-            print(f"  the list of {cells:>10,.0f} cells of {'a soup' if what == 'runs' else 'single cells'}: {took:.0f} ms,"
-                  f" {took * 1e6 / cells / 62:.1f} ns a cell and level")
-    print(f"  10 times the cells take {listings[2] / listings[0]:.1f} times as long in a soup, {listings[3] / listings[1]:.1f} times as single cells")
-
-
-def table(folder):
-    print("next states by a rule table of 300 transitions, beside a plain matcher in C; 1,000,000 decisions")
-    program, reference = [layers(), "table"], plain(folder, "plain_table")
-    for symmetry in ("rotate4", "permute"):
-        path = made(folder, ".rule", symmetry, 300)
-        _, peak, texts, _ = timed([*program, "1000000", "time"], path)
-        _, _, base, _ = timed([reference, "1000000"], path)
-        answers, others = texts[0].splitlines()[0], base[0].splitlines()[0]
-        if others != answers:
-            sys.exit(f"{symmetry}: the answers differ: {answers}; plain {others}")
-        took, other = least(r"(\d+) ms", texts), least(r"(\d+) ms", base)
-        print(f"  under {symmetry:<20} {took:.0f} ms, plain {other:.0f} ms; {took / other:.2f} times plain, peak memory {peak / 1e6:.0f} MB; {answers}")
-
-
-def step(folder):
-    print("one generation of a soup of a million live cells, B3/S23")
-    _, peak, texts, spent = timed([layers(), "step"])
-    alone, whole = least(r"next generation \w+: (\d+) us", texts), least(r"text to text: (\d+) us", texts)
-    print(f"  the next generation {alone / 1000:.0f} ms, from text to text {whole / 1000:.0f} ms; peak memory {peak / 1e6:.0f} MB")
-
-
 def main():
     if len(sys.argv) != 3:
         sys.exit(__doc__)
@@ -331,13 +199,6 @@ def main():
     canonical(program, folder)
     commands(program, folder)
     beside_golly(program, folder)
-    if IS_SMALL:
-        return
-    rle(folder)
-    store(folder)
-    strips(folder)
-    table(folder)
-    step(folder)
 
 
 if __name__ == "__main__":
