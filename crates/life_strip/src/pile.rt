@@ -116,27 +116,30 @@ impl Pile {
             (λ P. SomeSquare P (height (strips_of self.old) + count)
             (picture (S.content squares.old) (strips_of self.old))) }
     {
-        if count == 0 {
-            return Ok(());
-        }
-        if count < 4 || !self.band.is_empty() {
-            let row = Strip {
-                level: 0,
+        let mut rest = count;
+        while rest > 0 {
+            if rest < 4 || !self.band.is_empty() {
+                let row = Strip {
+                    level: 0,
+                    spans: Vec::new(self.alloc),
+                };
+                self.push_row(squares, row)?;
+                rest -= 1;
+                continue;
+            }
+            let level = blank_level(self.strips.as_slice(), rest);
+            let strip = Strip {
+                level,
                 spans: Vec::new(self.alloc),
             };
-            self.push_row(squares, row)?;
-            return self.skip_rows(squares, count - 1);
+            push_strip(squares, &mut self.spare, &mut self.strips, strip)?;
+            rest -= 1 << level;
         }
-        let level = blank_level(self.strips.as_slice(), count);
-        let strip = Strip {
-            level,
-            spans: Vec::new(self.alloc),
-        };
-        push_strip(squares, &mut self.spare, &mut self.strips, strip)?;
-        self.skip_rows(squares, count - (1 << level))
+        Ok(())
     }
 
     // One row more, below the others, and below it rows without cells.
+    #[inline(always)]
     pub(crate) fn end_row<S: Squares>(
         &mut self,
         squares: &mut S,

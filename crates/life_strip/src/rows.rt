@@ -1,9 +1,9 @@
 //! Strips one below the other.
-ghost use Rattle.std.specs.Prelude.{◌≡◌, ℕ, suc, ◌+◌, ◌-◌, ◌^◌, ◌<◌, ◌≤◌, ◌++◌, ◌∷◌, [], All, length, IfSome, IfOk, OnOk};
+ghost use Rattle.std.specs.Prelude.{◌≡◌, ℕ, suc, ◌+◌, ◌-◌, ◌^◌, ◌<◌, ◌≤◌, ◌++◌, ◌∷◌, [], All, length, MatchOption, IfSome, IfOk, OnOk};
 ghost use Rattle.life_base.specs.Tree.{depth, state_at};
 ghost use Rattle.life_quad.specs.Grows.{Grows};
 ghost use Rattle.life_strip.specs.Strip.{quad_at};
-ghost use Rattle.life_strip.specs.Picture.{picture, height, AreFalling, AreStacked, IsLowest, IsRow, IsSound, IsStack};
+ghost use Rattle.life_strip.specs.Picture.{picture, height, AreFalling, AreStacked, IsLowest, IsNotLast, IsRow, IsSound, IsStack};
 ghost use Rattle.life_strip.specs.Needed.{SomeColumn, SomeSquare};
 
 use crate::bands::band;
@@ -44,6 +44,22 @@ fn merge<S: Squares>(
     })
 }
 
+// Takes the last strip, if it has the level.
+#[inline(always)]
+fn take_last(strips: &mut Vec<Strip>, level: u8) -> Option<Strip>
+    ensures { MatchOption result
+        ((strips.new.items ≡ strips.old.items) × IsNotLast level strips.old.items)
+        (λ last. (strips.old.items ≡ strips.new.items ++ last ∷ []) × (last.level ≡ level)) }
+{
+    let Some(last) = strips.last() else {
+        return None;
+    };
+    if last.level != level {
+        return None;
+    }
+    strips.pop()
+}
+
 // One strip more, below the others. While the last two have one level, they become one of the next.
 pub(crate) fn push_strip<S: Squares>(
     squares: &mut S,
@@ -66,18 +82,14 @@ pub(crate) fn push_strip<S: Squares>(
         (λ P. SomeSquare P (height strips.old.items + 2 ^ strip.level)
         (picture (S.content squares.old) (strips.old.items ++ strip ∷ []))) }
 {
-    let Some(last) = strips.pop() else {
-        strips.push(strip)?;
-        return Ok(());
-    };
-    if last.level == strip.level {
-        let merged = merge(squares, spare, &last, &strip)?;
+    let mut lowest = strip;
+    while let Some(last) = take_last(strips, lowest.level) {
+        let merged = merge(squares, spare, &last, &lowest)?;
         spare.give(last.spans);
-        spare.give(strip.spans);
-        return push_strip(squares, spare, strips, merged);
+        spare.give(lowest.spans);
+        lowest = merged;
     }
-    strips.push(last)?;
-    strips.push(strip)?;
+    strips.push(lowest)?;
     Ok(())
 }
 
