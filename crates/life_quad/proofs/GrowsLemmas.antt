@@ -1,12 +1,13 @@
 -- What calls leave in a store, one behind the other, and refusals that are handed on.
-use Rattle.std.proofs.Common.{◌≡◌, Result, Ok, Err, ap}
-use Rattle.std.specs.Prelude.{IsErrAnd}
+use Rattle.std.proofs.Common.{◌≡◌, Result, Ok, Err, ap, inl}
+use Rattle.std.specs.Prelude.{IfErr, IsErrAnd}
 use Rattle.life_base.specs.Tree.{Tree}
 use Rattle.life_base.specs.declared.kind.Kind.{Kind}
+use Rattle.life_base.specs.declared.kind.Kind.TheVariants.{Memory}
 use Rattle.life_quad.specs.declared.squares.Squares.{Ghosts}
 use Rattle.life_quad.specs.Keeping.{AddsOnly}
 use Rattle.life_quad.specs.Grows.{Keeps, Grows, GrowsOnly}
-use Rattle.life_quad.proofs.KeepingLemmas.{keeps-then, adds-as, adds-then}
+use Rattle.life_quad.proofs.KeepingLemmas.{keeps-same, keeps-then, adds-none, adds-as, adds-then}
 use Rattle.life_quad.proofs.RefusedLemmas.{error_is}
 
 -- the same refusal of another call
@@ -44,6 +45,11 @@ module _ {X : Type 0} {S : Ghosts X} {A : Type 0} {N : (Tree → Type 0) → Typ
         adds = adds-as M call.adds more;
       }
 
+  -- an answer behind the call
+  pub grows-ok : {B : Type 0} {old new : X} {r : Result A Kind} {x : B} → Grows S old new r N → ((P : Tree → Type 0) → N P → M P)
+      → Grows S old new (Ok x) M
+  grows-ok call more = record { keeps = call.keeps; refusals = tt; needed = λ e. absurd (cc); adds = adds-as M call.adds more }
+
   -- a refusal that is handed on
   pub grows-err : {B : Type 0} {old new : X} {e : Kind} {r : Result B Kind} → Grows {A = A} S old new (Err e) N → IsErrAnd r (λ y. y ≡ e)
       → ((P : Tree → Type 0) → N P → M P) → Grows S old new r M
@@ -55,6 +61,17 @@ module _ {X : Type 0} {S : Ghosts X} {A : Type 0} {N : (Tree → Type 0) → Typ
         needed = λ h. more (S.needs_node new) (call.needed (err_again (rw same at h)));
         adds = adds-as M call.adds more;
       }
+
+-- what other calls left in the store, and an answer, or a refusal for want of memory
+pub grows-still : {X : Type 0} {S : Ghosts X} {A : Type 0} (M : (Tree → Type 0) → Type 0) {old new : X} {r : Result A Kind} → Keeps S old new
+    → AddsOnly S.stored M old new → IfErr r (λ e. e ≡ Memory) → Grows S old new r M
+grows-still M {r = Ok x} keeps adds told = record { keeps = keeps; refusals = tt; needed = λ e. absurd (cc); adds = adds }
+grows-still M {r = Err x} keeps adds told = record { keeps = keeps; refusals = inl told; needed = λ e. absurd (cc); adds = adds }
+
+-- the same of a store that no call has changed
+pub grows-same : {X : Type 0} {S : Ghosts X} {A : Type 0} (M : (Tree → Type 0) → Type 0) (store : X) {r : Result A Kind} → IfErr r (λ e. e ≡ Memory)
+    → Grows S store store r M
+grows-same M store told = grows-still M (keeps-same store) (adds-none M store) told
 
 -- a call that is refused for nothing but a square
 pub only-grows : {X : Type 0} {S : Ghosts X} {A : Type 0} {N : (Tree → Type 0) → Type 0} {old new : X} {r : Result A Kind} → GrowsOnly S old new r N

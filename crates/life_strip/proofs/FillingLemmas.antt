@@ -38,8 +38,8 @@ filling-push knows content new before runs run order next cells filled adds belo
     free x y (inl h) = below x y h
     free x y (inr (e, h)) = subst (IsFree new x) e (beside x h)
 
--- the square that a refused call had to store is one of the runs'
-pub needed-runs : {P : Tree → Type 0} (content : Id → Tree) (b : Building) (rows : ℕ) → rows ≤ 2 ^ MAX_LEVEL
+-- a square of the plane is one of the runs'
+needed-runs : {P : Tree → Type 0} (content : Id → Tree) (b : Building) (rows : ℕ) → rows ≤ 2 ^ MAX_LEVEL
     → ((x y : ℤ) → cell_so_far content b.kept x y ≡ state_by b.runs x y) → SomeSquare P rows (state_so_far content b.kept)
     → SomeSquare P rows (by_columns (state_by b.runs))
 needed-runs content b rows most cells s = SomeSquare-within (omega arith) (λ i j li lj. at i j li (omega (arith, lj, most))) s
@@ -53,6 +53,14 @@ needed-runs content b rows most cells s = SomeSquare-within (omega arith) (λ i 
         let column : x +ℤ pos half_plane ≡ pos i = omega (arith, ints) in
         let row : y +ℤ pos half_plane ≡ pos j = omega (arith, ints) in
         sym (plane_inside (state_so_far content b.kept) x y i j inside column row) ∙ cells x y
+
+-- the same by what contracts see of the builder
+pub needed-seen : (knows : Id → Type 0) (content : Id → Tree) (inside seen : Building) (rows : ℕ) → rows ≤ 2 ^ MAX_LEVEL → inside ≡ seen
+    → IsFilling knows content seen → (P : Tree → Type 0) → SomeSquare P rows (state_so_far content inside.kept)
+    → SomeSquare P rows (by_columns (state_by seen.runs))
+needed-seen knows content inside seen rows most same filling P s =
+    let fill : IsFilling knows content inside = subst (IsFilling knows content) (sym same) filling in
+    subst (λ (b : Building). SomeSquare P rows (by_columns (state_by b.runs))) same (needed-runs content inside rows most fill.cells s)
 
 unfilled-filled : (knows : Id → Type 0) (content : Id → Tree) (p : Plane) → IsUnfilled p → IsFilled knows content p
 unfilled-filled knows content p h =

@@ -1,6 +1,6 @@
--- Facts about the squares that a refused call had to store.
+-- Facts about the squares that a call needs.
 use Rattle.life_base.specs.declared.cell.TheConstants.{MAX_LEVEL}
-use Rattle.std.proofs.Common.{◌≡◌, ℕ, suc, ◌+◌, ◌-◌, ◌*◌, ◌/◌, ◌%◌, ◌^◌, ◌≤◌, ◌<◌, Bool, true, false, nat_lt, List, [], ◌∷◌, ◌++◌, Option, Some, None, Result, Ok, Err, sym, ◌∙◌, ap, subst, refl, arith}
+use Rattle.std.proofs.Common.{◌≡◌, ℕ, suc, ◌+◌, ◌-◌, ◌*◌, ◌/◌, ◌%◌, ◌^◌, ◌≤◌, ◌<◌, Bool, true, false, nat_lt, List, [], ◌∷◌, ◌++◌, Option, Some, None, sym, ◌∙◌, ap, subst, refl, arith}
 use Rattle.std.specs.Prelude.{if◌then◌else◌}
 use Rattle.std.proofs.lemmas.Nat.{div-mul-add, mod-mul-add, pow-add}
 use Rattle.std.proofs.lemmas.List.{append_assoc}
@@ -16,14 +16,6 @@ use Rattle.life_strip.specs.Picture.{state_in, picture, height, AreFalling, IsLo
 use Rattle.life_strip.specs.Needed.{SomeSquare}
 use Rattle.life_strip.proofs.SpanLemmas.{double, depth-square_at}
 use Rattle.life_strip.proofs.PictureLemmas.{height-push, lowest-init}
-
--- the same refusal of another call
-pub err_again : {T U E : Type 0} {x y : E} → ◌≡◌ {A = Result T E} (Err x) (Err y) → ◌≡◌ {A = Result U E} (Err x) (Err y)
-err_again {T} {E = E} {x} e = ap Err (ap only e)
-  where
-    only : Result T E → E
-    only (Ok t) = x
-    only (Err z) = z
 
 -- the same square of another picture with the same states on the plane above the rows, and with as many rows or more
 pub SomeSquare-within : {P : Tree → Type 0} {f g : ℕ → ℕ → ℕ} {rows more : ℕ} → rows ≤ more → ((i j : ℕ) → i < 2 ^ MAX_LEVEL → j < rows → f i j ≡ g i j)

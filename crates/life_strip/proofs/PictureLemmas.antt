@@ -8,14 +8,14 @@ use Rattle.std.proofs.Math.Pow.{pow_mono}
 use Rattle.std.proofs.Math.Seq.{get_or-append_seam}
 use Rattle.std.proofs.lemmas.List.{append_assoc, get_or_append_left}
 use Rattle.std.proofs.lemmas.List.Quantifiers.{all_pairs_push}
-use Rattle.std.proofs.lemmas.Option.{get_or_from_slice_get}
+use Rattle.std.proofs.lemmas.Option.{get_or_from_slice_get, slice_get-get_or}
 use Rattle.life_quad.specs.declared.id.Id.{Id}
 use Rattle.life_quad.specs.Keeping.{KeepsSquares}
 use Rattle.life_base.specs.Tree.{Tree, quad, depth, blank, state_at}
 use Rattle.life_strip.specs.declared.spans.Strip.{Strip}
 use Rattle.life_strip.specs.declared.spans.Stretch.{Stretch}
 use Rattle.life_strip.specs.Strip.{square_at, IsStrip, IsPaired, IsFound}
-use Rattle.life_strip.specs.Picture.{state_in, picture, height, AreFalling, AreStacked, IsLowest, IsRow, IsSound, IsStack}
+use Rattle.life_strip.specs.Picture.{state_in, picture, height, AreFalling, AreStacked, IsLowest, IsNotLast, IsRow, IsSound, IsStack}
 use Rattle.life_strip.proofs.SpanLemmas.{Keeps, double, depth-square_at, square-keeps, strip-keeps, found-known, found-depth, found-content}
 
 -- the western half of two columns of squares
@@ -291,37 +291,20 @@ lowest-init xs x h n e k d lt =
     let q = level_last xs x d in
     omega (arith, a, p, q, e)
 
--- a strip of a lower level than the last
-pub falling-push : (xs : List Strip) (x y : Strip) → AreFalling (xs ++ x ∷ []) → IsLowest y.level (xs ++ x ∷ []) → (x.level ≡ y.level → ⊥)
-    → AreFalling ((xs ++ x ∷ []) ++ y ∷ [])
-falling-push xs x y fall low other = all_pairs_push (λ s t. t.level < s.level) (xs ++ x ∷ []) y fall (λ k d lt. by k d lt (nat_lt k (length xs)) refl)
+-- a strip that is no higher than the others, of another level than the last
+pub falling-below : (xs : List Strip) (y : Strip) → AreFalling xs → IsLowest y.level xs → IsNotLast y.level xs → AreFalling (xs ++ y ∷ [])
+falling-below xs y fall low other =
+    all_pairs_push (λ s t. t.level < s.level) xs y fall (λ k d lt. by k d lt (nat_lt y.level (get_or xs k d).level) refl)
   where
-    n : length (xs ++ x ∷ []) ≡ length xs + 1
-    n = length-append xs (x ∷ [])
-
-    most : (d : Strip) → y.level ≤ x.level
-    most d = let a = low (length xs) d (omega (arith, n)) in let q = level_last xs x d in omega (arith, a, q)
-
-    less : (d : Strip) → y.level < x.level
-    less d = at (nat_lt y.level x.level) refl
-      where
-        at : (b : Bool) → nat_lt y.level x.level ≡ b → y.level < x.level
-        at true e = grind arith
-        at false e = absurd (other (let m = most d in let f : x.level ≤ y.level = grind arith in omega (arith, m, f)))
-
-    by : (k : ℕ) (d : Strip) → k < length (xs ++ x ∷ []) → (b : Bool) → nat_lt k (length xs) ≡ b → y.level < (get_or (xs ++ x ∷ []) k d).level
-    by k d lt true e =
-        let kl : k < length xs = grind arith in
-        let a = fall k (length xs) d kl (omega (arith, n)) in
-        let q = level_last xs x d in
-        let m = less d in
-        omega (arith, a, q, m)
+    by : (k : ℕ) (d : Strip) → k < length xs → (b : Bool) → nat_lt y.level (get_or xs k d).level ≡ b → y.level < (get_or xs k d).level
+    by k d lt true e = grind arith
     by k d lt false e =
-        let f : length xs ≤ k = grind arith in
-        let same : k ≡ length xs = omega (arith, f, lt, n) in
-        let q = ap (λ z. (get_or (xs ++ x ∷ []) z d).level) same ∙ level_last xs x d in
-        let m = less d in
-        omega (arith, q, m)
+        let last = get_or xs (length xs - 1) d in
+        let there = slice_get-get_or xs (length xs - 1) d (omega (arith, lt)) in
+        let above = last-lowest xs last fall there k d lt in
+        let most = low (length xs - 1) d (omega (arith, lt)) in
+        let less : (get_or xs k d).level ≤ y.level = grind arith in
+        absurd (other last there (omega (arith, above, most, less)))
 
 -- strips of falling levels below a level have fewer rows than a square of it
 pub height-falling : (xs : List Strip) (n : ℕ) → AreFalling xs → ((k : ℕ) (d : Strip) → k < length xs → (get_or xs k d).level < n) → height xs < 2 ^ n

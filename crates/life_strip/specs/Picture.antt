@@ -1,5 +1,5 @@
 -- The cells of strips that lie one below the other.
-use Rattle.std.specs.Prelude.{◌≡◌, ℕ, ◌+◌, ◌-◌, ◌/◌, ◌%◌, ◌^◌, ◌<◌, ◌≤◌, nat_lt, if◌then◌else◌, List, [], ◌∷◌, All, AllPairs}
+use Rattle.std.specs.Prelude.{◌≡◌, ℕ, ◌+◌, ◌-◌, ◌/◌, ◌%◌, ◌^◌, ◌<◌, ◌≤◌, nat_lt, if◌then◌else◌, List, [], ◌∷◌, length, slice_get, Some, All, AllPairs}
 use Rattle.life_quad.specs.declared.id.Id.{Id}
 use Rattle.life_base.specs.Tree.{Tree, state_at}
 use Rattle.life_strip.specs.declared.spans.Strip.{Strip}
@@ -39,6 +39,10 @@ AreFalling strips = AllPairs (λ s t. t.level < s.level) strips
 -- the level is at most those of the strips
 abbrev pub IsLowest : ℕ → List Strip → Type 0
 IsLowest level strips = All (λ s. level ≤ s.level) strips
+
+-- the last of the strips, if there is one, has another level
+abbrev pub IsNotLast : ℕ → List Strip → Type 0
+IsNotLast level strips = (last : Strip) → slice_get strips (length strips - 1) ≡ Some last → ¬ (last.level ≡ level)
 
 -- the store knows the squares of the strips, and each has a lower level than the one above it
 pub record AreStacked (knows : Id → Type 0) (content : Id → Tree) (strips : List Strip) : Type 0 where

@@ -1,12 +1,12 @@
 //! Four rows of cells of the states 0 and 1, made into squares of level 2 at once, 64 columns at a time.
-ghost use Rattle.std.specs.Prelude.{◌≡◌, ℕ, ◌+◌, ◌-◌, ◌*◌, ◌^◌, ◌<◌, ◌≤◌, Err, IfSome, IfOk, IfErr, OnOk, OnErr};
-ghost use Rattle.life_base.specs.declared.kind.Kind.TheVariants.{Full, Memory};
+ghost use Rattle.std.specs.Prelude.{◌≡◌, ℕ, ◌+◌, ◌-◌, ◌*◌, ◌^◌, ◌<◌, ◌≤◌, IfSome, IfOk, OnOk};
 ghost use Rattle.life_base.specs.Tree.{Tree};
 ghost use Rattle.life_quad.specs.Refused.{SomePart};
 ghost use Rattle.life_quad.specs.Store.{four};
-ghost use Rattle.life_quad.specs.Keeping.{KeepsSquares, IsWantKind};
-ghost use Rattle.life_strip.specs.Strip.{IsStrip, AreBefore, AreWithin, FilledTo, Rise, square_at};
+ghost use Rattle.life_quad.specs.Grows.{Grows};
+ghost use Rattle.life_strip.specs.Strip.{IsStrip, AreWithin, FilledTo, Rise, square_at};
 ghost use Rattle.life_strip.specs.Band.{four_at, cells_at};
+ghost use Rattle.life_strip.specs.Needed.{SomeColumn};
 
 use crate::spans::{Span, extend, find, nearer, stretch_at};
 use crate::spare::Spare;
@@ -28,9 +28,7 @@ fn push_square<S: Squares>(
         → FilledTo (S.knows squares.old) (S.content squares.old) 2 want spans.old.items column
         → ((c : ℕ) → column ≤ c → c < end → want c ≡ four cells)
         → FilledTo (S.knows squares.new) (S.content squares.new) 2 want spans.new.items end) }
-    ensures keeps { KeepsSquares S.knows S.content S.stored S.most squares.old squares.new }
-    ensures refusals { IfErr result (IsWantKind (S.stored squares.new) (S.most squares.new)) }
-    ensures needed { result ≡ Err Full → SomePart (S.needs_node squares.new) (four cells) }
+    ensures grows { Grows S.Squares squares.old squares.new result (λ P. SomePart P (four cells)) }
 {
     if cells == 0 {
         return Ok(());
@@ -58,10 +56,8 @@ fn push_rows<S: Squares>(
         → ((c : ℕ) → 16 * block < c → 4 * c + 3 < end → want c ≡ want (16 * block))
         → FilledTo (S.knows squares.new) (S.content squares.new) 2 want spans.new.items
         (16 * next)) }
-    ensures keeps { KeepsSquares S.knows S.content S.stored S.most squares.old squares.new }
-    ensures refusals { IfErr result (IsWantKind (S.stored squares.new) (S.most squares.new)) }
-    ensures needed { result ≡ Err Full
-        → (i : ℕ) × (i < 16) × SomePart (S.needs_node squares.new) (four (cells_at upper lower i)) }
+    ensures grows { Grows S.Squares squares.old squares.new result
+        (λ P. (i : ℕ) × (i < 16) × SomePart P (four (cells_at upper lower i))) }
 {
     let start = 16 * block;
     let next = end / 64;
@@ -105,11 +101,9 @@ pub(crate) fn band<S: Squares>(
     ensures squares { IfOk result (λ r. IfSome r (λ spans. (column : ℕ)
         → square_at (S.content squares.new) 2 spans.items column
         ≡ four_at (S.content squares.old) first.now second.now third.now fourth.now column)) }
-    ensures keeps { KeepsSquares S.knows S.content S.stored S.most squares.old squares.new }
-    ensures refusals { IfErr result (IsWantKind (S.stored squares.new) (S.most squares.new)) }
-    ensures needed { result ≡ Err Full → (column : ℕ) × (column < 2 ^ (MAX_LEVEL - 2))
-        × SomePart (S.needs_node squares.new)
-        (four_at (S.content squares.old) first.now second.now third.now fourth.now column) }
+    ensures grows { Grows S.Squares squares.old squares.new result
+        (λ P. SomeColumn (SomePart P) 2
+        (four_at (S.content squares.old) first.now second.now third.now fourth.now)) }
 {
     let blank = squares.empty(0);
     let room = first

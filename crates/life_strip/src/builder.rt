@@ -1,8 +1,7 @@
 //! A builder that fills a store row by row.
-ghost use Rattle.std.specs.Prelude.{◌≡◌, ℤ, pos, nat_abs, ◌+ℤ◌, ◌^◌, ◌≤◌, ◌++◌, ◌∷◌, [], Err, IfOk, IfErr, OnOk};
-ghost use Rattle.life_base.specs.declared.kind.Kind.TheVariants.{Full, Memory};
+ghost use Rattle.std.specs.Prelude.{◌≡◌, ℤ, pos, nat_abs, ◌+ℤ◌, ◌^◌, ◌≤◌, ◌++◌, ◌∷◌, [], IfOk, OnOk};
 ghost use Rattle.life_base.specs.Tree.{depth, tree_cell};
-ghost use Rattle.life_quad.specs.Keeping.{KeepsSquares, IsWantKind};
+ghost use Rattle.life_quad.specs.Grows.{Grows};
 ghost use Rattle.life_strip.specs.Given.{IsBehind, IsNext, IsOnPlane, AreInOrder, state_by, by_columns, half_plane};
 ghost use Rattle.life_strip.specs.Needed.{SomeSquare};
 ghost use Rattle.life_strip.specs.Filling.{IsEmpty, IsFilling};
@@ -59,10 +58,9 @@ impl Builder {
             (IsFilling (S.knows squares.new) (S.content squares.new) self.new) }
         ensures runs { OnOk result (self.new.runs ≡ self.old.runs ++ run ∷ []) }
         ensures next { OnOk result ((i j : ℤ) → IsBehind run i j → IsNext self.new.runs i j) }
-        ensures keeps { KeepsSquares S.knows S.content S.stored S.most squares.old squares.new }
-        ensures refusals { IfErr result (IsWantKind (S.stored squares.new) (S.most squares.new)) }
-        ensures needed { result ≡ Err Full → SomeSquare (S.needs_node squares.new)
-            (nat_abs (run.y +ℤ pos half_plane)) (by_columns (state_by self.old.runs)) }
+        ensures grows { Grows S.Squares squares.old squares.new result
+            (λ P. SomeSquare P (nat_abs (run.y +ℤ pos half_plane))
+            (by_columns (state_by self.old.runs))) }
     {
         self.plane.add_run(squares, run)?;
         self.log = self.log.then(&run);
@@ -81,10 +79,8 @@ impl Builder {
         ensures cells { IfOk result
             (λ r. (x y : ℤ) → tree_cell (S.content squares.new r) x y ≡ state_by self.runs x y) }
         ensures order { AreInOrder self.runs }
-        ensures keeps { KeepsSquares S.knows S.content S.stored S.most squares.old squares.new }
-        ensures refusals { IfErr result (IsWantKind (S.stored squares.new) (S.most squares.new)) }
-        ensures needed { result ≡ Err Full → SomeSquare (S.needs_node squares.new) (2 ^ MAX_LEVEL)
-            (by_columns (state_by self.runs)) }
+        ensures grows { Grows S.Squares squares.old squares.new result
+            (λ P. SomeSquare P (2 ^ MAX_LEVEL) (by_columns (state_by self.runs))) }
     {
         self.plane.finish(squares)
     }

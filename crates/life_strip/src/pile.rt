@@ -1,8 +1,7 @@
 //! The rows of the plane that are over.
-ghost use Rattle.std.specs.Prelude.{◌≡◌, ℕ, ◌+◌, ◌^◌, ◌<◌, ◌≤◌, ◌++◌, ◌∷◌, [], All, length, Err, IfOk, IfErr, OnOk};
-ghost use Rattle.life_base.specs.declared.kind.Kind.TheVariants.{Full};
+ghost use Rattle.std.specs.Prelude.{◌≡◌, ℕ, ◌+◌, ◌^◌, ◌<◌, ◌≤◌, ◌++◌, ◌∷◌, [], All, length, IfOk, OnOk};
 ghost use Rattle.life_base.specs.Tree.{depth, state_at};
-ghost use Rattle.life_quad.specs.Keeping.{KeepsSquares, IsWantKind};
+ghost use Rattle.life_quad.specs.Grows.{Grows};
 ghost use Rattle.life_strip.specs.Picture.{picture, height, AreStacked, IsLowest, IsRow};
 ghost use Rattle.life_strip.specs.Needed.{SomeSquare};
 ghost use Rattle.life_strip.specs.Pile.{IsPile, IsClosed, strips_of};
@@ -46,10 +45,9 @@ impl Pile {
         requires room { height (strips_of self.old) ≤ 2 ^ MAX_LEVEL }
         ensures closed { OnOk result (IsClosed (S.knows squares.new) (S.content squares.old)
             (S.content squares.new) self.old self.new) }
-        ensures keeps { KeepsSquares S.knows S.content S.stored S.most squares.old squares.new }
-        ensures refusals { IfErr result (IsWantKind (S.stored squares.new) (S.most squares.new)) }
-        ensures needed { result ≡ Err Full → SomeSquare (S.needs_node squares.new)
-            (height (strips_of self.old)) (picture (S.content squares.old) (strips_of self.old)) }
+        ensures grows { Grows S.Squares squares.old squares.new result
+            (λ P. SomeSquare P (height (strips_of self.old))
+            (picture (S.content squares.old) (strips_of self.old))) }
     {
         let Some(last) = self.band.pop() else {
             return Ok(());
@@ -70,10 +68,9 @@ impl Pile {
         requires room { height (strips_of self.old) ≤ 2 ^ MAX_LEVEL }
         ensures closed { OnOk result (IsClosed (S.knows squares.new) (S.content squares.old)
             (S.content squares.new) self.old self.new) }
-        ensures keeps { KeepsSquares S.knows S.content S.stored S.most squares.old squares.new }
-        ensures refusals { IfErr result (IsWantKind (S.stored squares.new) (S.most squares.new)) }
-        ensures needed { result ≡ Err Full → SomeSquare (S.needs_node squares.new)
-            (height (strips_of self.old)) (picture (S.content squares.old) (strips_of self.old)) }
+        ensures grows { Grows S.Squares squares.old squares.new result
+            (λ P. SomeSquare P (height (strips_of self.old))
+            (picture (S.content squares.old) (strips_of self.old))) }
     {
         let Some(strip) = band_strip(squares, &mut self.spare, self.band.as_slice())? else {
             return self.push_rows(squares);
@@ -94,11 +91,9 @@ impl Pile {
         ensures picture { OnOk result ((column j : ℕ)
             → picture (S.content squares.new) (strips_of self.new) column j
             ≡ picture (S.content squares.old) (strips_of self.old ++ row ∷ []) column j) }
-        ensures keeps { KeepsSquares S.knows S.content S.stored S.most squares.old squares.new }
-        ensures refusals { IfErr result (IsWantKind (S.stored squares.new) (S.most squares.new)) }
-        ensures needed { result ≡ Err Full → SomeSquare (S.needs_node squares.new)
-            (height (strips_of self.old) + 1)
-            (picture (S.content squares.old) (strips_of self.old ++ row ∷ [])) }
+        ensures grows { Grows S.Squares squares.old squares.new result
+            (λ P. SomeSquare P (height (strips_of self.old) + 1)
+            (picture (S.content squares.old) (strips_of self.old ++ row ∷ []))) }
     {
         self.band.push(row)?;
         if self.band.len() < 4 {
@@ -117,33 +112,34 @@ impl Pile {
         ensures picture { OnOk result ((column row : ℕ)
             → picture (S.content squares.new) (strips_of self.new) column row
             ≡ picture (S.content squares.old) (strips_of self.old) column row) }
-        ensures keeps { KeepsSquares S.knows S.content S.stored S.most squares.old squares.new }
-        ensures refusals { IfErr result (IsWantKind (S.stored squares.new) (S.most squares.new)) }
-        ensures needed { result ≡ Err Full → SomeSquare (S.needs_node squares.new)
-            (height (strips_of self.old) + count)
-            (picture (S.content squares.old) (strips_of self.old)) }
+        ensures grows { Grows S.Squares squares.old squares.new result
+            (λ P. SomeSquare P (height (strips_of self.old) + count)
+            (picture (S.content squares.old) (strips_of self.old))) }
     {
-        if count == 0 {
-            return Ok(());
-        }
-        if count < 4 || !self.band.is_empty() {
-            let row = Strip {
-                level: 0,
+        let mut rest = count;
+        while rest > 0 {
+            if rest < 4 || !self.band.is_empty() {
+                let row = Strip {
+                    level: 0,
+                    spans: Vec::new(self.alloc),
+                };
+                self.push_row(squares, row)?;
+                rest -= 1;
+                continue;
+            }
+            let level = blank_level(self.strips.as_slice(), rest);
+            let strip = Strip {
+                level,
                 spans: Vec::new(self.alloc),
             };
-            self.push_row(squares, row)?;
-            return self.skip_rows(squares, count - 1);
+            push_strip(squares, &mut self.spare, &mut self.strips, strip)?;
+            rest -= 1 << level;
         }
-        let level = blank_level(self.strips.as_slice(), count);
-        let strip = Strip {
-            level,
-            spans: Vec::new(self.alloc),
-        };
-        push_strip(squares, &mut self.spare, &mut self.strips, strip)?;
-        self.skip_rows(squares, count - (1 << level))
+        Ok(())
     }
 
     // One row more, below the others, and below it rows without cells.
+    #[inline(always)]
     pub(crate) fn end_row<S: Squares>(
         &mut self,
         squares: &mut S,
@@ -159,11 +155,9 @@ impl Pile {
         ensures picture { OnOk result ((column j : ℕ)
             → picture (S.content squares.new) (strips_of self.new) column j
             ≡ picture (S.content squares.old) (strips_of self.old ++ row ∷ []) column j) }
-        ensures keeps { KeepsSquares S.knows S.content S.stored S.most squares.old squares.new }
-        ensures refusals { IfErr result (IsWantKind (S.stored squares.new) (S.most squares.new)) }
-        ensures needed { result ≡ Err Full → SomeSquare (S.needs_node squares.new)
-            (height (strips_of self.old) + 1 + blank_rows)
-            (picture (S.content squares.old) (strips_of self.old ++ row ∷ [])) }
+        ensures grows { Grows S.Squares squares.old squares.new result
+            (λ P. SomeSquare P (height (strips_of self.old) + 1 + blank_rows)
+            (picture (S.content squares.old) (strips_of self.old ++ row ∷ []))) }
     {
         self.push_row(squares, row)?;
         self.skip_rows(squares, blank_rows)
@@ -184,10 +178,9 @@ impl Pile {
         ensures cells { IfOk result (λ r. (column j : ℕ) → column < 2 ^ MAX_LEVEL
             → j < 2 ^ MAX_LEVEL → state_at (S.content squares.new r) column j
             ≡ picture (S.content squares.old) (strips_of self ++ row ∷ []) column j) }
-        ensures keeps { KeepsSquares S.knows S.content S.stored S.most squares.old squares.new }
-        ensures refusals { IfErr result (IsWantKind (S.stored squares.new) (S.most squares.new)) }
-        ensures needed { result ≡ Err Full → SomeSquare (S.needs_node squares.new) (2 ^ MAX_LEVEL)
-            (picture (S.content squares.old) (strips_of self ++ row ∷ [])) }
+        ensures grows { Grows S.Squares squares.old squares.new result
+            (λ P. SomeSquare P (2 ^ MAX_LEVEL)
+            (picture (S.content squares.old) (strips_of self ++ row ∷ []))) }
     {
         let mut pile = self;
         pile.end_row(squares, row, blank_rows)?;

@@ -1,8 +1,7 @@
 //! The plane as far as it is filled, row by row.
-ghost use Rattle.std.specs.Prelude.{◌≡◌, ℕ, ℤ, pos, neg_ℤ, nat_abs, ◌+ℤ◌, ◌<ℤ◌, ◌≤ℤ◌, ◌+◌, ◌^◌, ◌<◌, ◌≤◌, All, Err, IfOk, IfErr, OnOk};
-ghost use Rattle.life_base.specs.declared.kind.Kind.TheVariants.{Full};
+ghost use Rattle.std.specs.Prelude.{◌≡◌, ℕ, ℤ, pos, neg_ℤ, nat_abs, ◌+ℤ◌, ◌<ℤ◌, ◌≤ℤ◌, ◌+◌, ◌^◌, ◌<◌, ◌≤◌, All, IfOk, OnOk};
 ghost use Rattle.life_base.specs.Tree.{depth, tree_cell};
-ghost use Rattle.life_quad.specs.Keeping.{KeepsSquares, IsWantKind};
+ghost use Rattle.life_quad.specs.Grows.{Grows};
 ghost use Rattle.life_strip.specs.Given.{IsOnPlane, half_plane};
 ghost use Rattle.life_strip.specs.Needed.{SomeSquare};
 ghost use Rattle.life_strip.specs.Plane.{IsFilled, IsUnfilled, IsFree, AddsRun, state_so_far, cell_so_far};
@@ -69,10 +68,8 @@ impl Plane {
         ensures picture { OnOk result ((i j : ℕ)
             → state_so_far (S.content squares.new) self.new i j
             ≡ state_so_far (S.content squares.old) self.old i j) }
-        ensures keeps { KeepsSquares S.knows S.content S.stored S.most squares.old squares.new }
-        ensures refusals { IfErr result (IsWantKind (S.stored squares.new) (S.most squares.new)) }
-        ensures needed { result ≡ Err Full → SomeSquare (S.needs_node squares.new) row
-            (state_so_far (S.content squares.old) self.old) }
+        ensures grows { Grows S.Squares squares.old squares.new result
+            (λ P. SomeSquare P row (state_so_far (S.content squares.old) self.old)) }
     {
         // Rows that follow one another are mostly alike, so a row gets room for a few more spans than the one before it has.
         let room = self.row.spans.len() / 8 * 9 + 2;
@@ -99,10 +96,8 @@ impl Plane {
         ensures picture { OnOk result ((i j : ℕ)
             → state_so_far (S.content squares.new) self.new i j
             ≡ state_so_far (S.content squares.old) self.old i j) }
-        ensures keeps { KeepsSquares S.knows S.content S.stored S.most squares.old squares.new }
-        ensures refusals { IfErr result (IsWantKind (S.stored squares.new) (S.most squares.new)) }
-        ensures needed { result ≡ Err Full → SomeSquare (S.needs_node squares.new) row
-            (state_so_far (S.content squares.old) self.old) }
+        ensures grows { Grows S.Squares squares.old squares.new result
+            (λ P. SomeSquare P row (state_so_far (S.content squares.old) self.old)) }
     {
         if self.rows == row {
             return Ok(());
@@ -124,10 +119,9 @@ impl Plane {
         ensures below { OnOk result ((column row : ℤ) → run.y <ℤ row → IsFree self.new column row) }
         ensures beside { OnOk result
             ((column : ℤ) → (run.x +ℤ pos run.len) ≤ℤ column → IsFree self.new column run.y) }
-        ensures keeps { KeepsSquares S.knows S.content S.stored S.most squares.old squares.new }
-        ensures refusals { IfErr result (IsWantKind (S.stored squares.new) (S.most squares.new)) }
-        ensures needed { result ≡ Err Full → SomeSquare (S.needs_node squares.new)
-            (nat_abs (run.y +ℤ pos half_plane)) (state_so_far (S.content squares.old) self.old) }
+        ensures grows { Grows S.Squares squares.old squares.new result
+            (λ P. SomeSquare P (nat_abs (run.y +ℤ pos half_plane))
+            (state_so_far (S.content squares.old) self.old)) }
     {
         let column = offset(run.x);
         let row = offset(run.y);
@@ -144,10 +138,8 @@ impl Plane {
         ensures cells { IfOk result (λ r. (x y : ℤ)
             → tree_cell (S.content squares.new r) x y
             ≡ cell_so_far (S.content squares.old) self x y) }
-        ensures keeps { KeepsSquares S.knows S.content S.stored S.most squares.old squares.new }
-        ensures refusals { IfErr result (IsWantKind (S.stored squares.new) (S.most squares.new)) }
-        ensures needed { result ≡ Err Full → SomeSquare (S.needs_node squares.new) (2 ^ MAX_LEVEL)
-            (state_so_far (S.content squares.old) self) }
+        ensures grows { Grows S.Squares squares.old squares.new result
+            (λ P. SomeSquare P (2 ^ MAX_LEVEL) (state_so_far (S.content squares.old) self)) }
     {
         let Plane { pile, rows, row } = self;
         pile.whole_plane(squares, row, SIDE - rows - 1)

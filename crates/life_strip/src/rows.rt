@@ -1,11 +1,10 @@
 //! Strips one below the other.
-ghost use Rattle.std.specs.Prelude.{◌≡◌, ℕ, suc, ◌+◌, ◌-◌, ◌^◌, ◌<◌, ◌≤◌, ◌++◌, ◌∷◌, [], All, length, Err, IfSome, IfOk, IfErr, OnOk};
-ghost use Rattle.life_base.specs.declared.kind.Kind.TheVariants.{Full};
+ghost use Rattle.std.specs.Prelude.{◌≡◌, ℕ, suc, ◌+◌, ◌-◌, ◌^◌, ◌<◌, ◌≤◌, ◌++◌, ◌∷◌, [], All, length, MatchOption, IfSome, IfOk, OnOk};
 ghost use Rattle.life_base.specs.Tree.{depth, state_at};
-ghost use Rattle.life_quad.specs.Keeping.{KeepsSquares, IsWantKind};
+ghost use Rattle.life_quad.specs.Grows.{Grows};
 ghost use Rattle.life_strip.specs.Strip.{quad_at};
-ghost use Rattle.life_strip.specs.Picture.{picture, height, AreFalling, AreStacked, IsLowest, IsRow, IsSound, IsStack};
-ghost use Rattle.life_strip.specs.Needed.{SomeSquare};
+ghost use Rattle.life_strip.specs.Picture.{picture, height, AreFalling, AreStacked, IsLowest, IsNotLast, IsRow, IsSound, IsStack};
+ghost use Rattle.life_strip.specs.Needed.{SomeColumn, SomeSquare};
 
 use crate::bands::band;
 use crate::spans::{Strip, find, pair};
@@ -28,12 +27,9 @@ fn merge<S: Squares>(
     ensures level { IfOk result (λ r. r.level ≡ suc upper.now.level) }
     ensures stack { IfOk result
         (λ r. IsStack (S.content squares.old) (S.content squares.new) upper.now lower.now r) }
-    ensures keeps { KeepsSquares S.knows S.content S.stored S.most squares.old squares.new }
-    ensures refusals { IfErr result (IsWantKind (S.stored squares.new) (S.most squares.new)) }
-    ensures needed { result ≡ Err Full → (column : ℕ)
-        × (column < 2 ^ (MAX_LEVEL - (upper.now.level + 1)))
-        × S.needs_node squares.new (quad_at (S.content squares.old) upper.now.level
-        upper.now.spans.items lower.now.spans.items column) }
+    ensures grows { Grows S.Squares squares.old squares.new result
+        (λ P. SomeColumn P (upper.now.level + 1) (quad_at (S.content squares.old)
+        upper.now.level upper.now.spans.items lower.now.spans.items)) }
 {
     let spans = pair(
         squares,
@@ -46,6 +42,22 @@ fn merge<S: Squares>(
         level: upper.level + 1,
         spans,
     })
+}
+
+// Takes the last strip, if it has the level.
+#[inline(always)]
+fn take_last(strips: &mut Vec<Strip>, level: u8) -> Option<Strip>
+    ensures { MatchOption result
+        ((strips.new.items ≡ strips.old.items) × IsNotLast level strips.old.items)
+        (λ last. (strips.old.items ≡ strips.new.items ++ last ∷ []) × (last.level ≡ level)) }
+{
+    let Some(last) = strips.last() else {
+        return None;
+    };
+    if last.level != level {
+        return None;
+    }
+    strips.pop()
 }
 
 // One strip more, below the others. While the last two have one level, they become one of the next.
@@ -66,24 +78,18 @@ pub(crate) fn push_strip<S: Squares>(
     ensures picture { OnOk result ((column row : ℕ)
         → picture (S.content squares.new) strips.new.items column row
         ≡ picture (S.content squares.old) (strips.old.items ++ strip ∷ []) column row) }
-    ensures keeps { KeepsSquares S.knows S.content S.stored S.most squares.old squares.new }
-    ensures refusals { IfErr result (IsWantKind (S.stored squares.new) (S.most squares.new)) }
-    ensures needed { result ≡ Err Full → SomeSquare (S.needs_node squares.new)
-        (height strips.old.items + 2 ^ strip.level)
-        (picture (S.content squares.old) (strips.old.items ++ strip ∷ [])) }
+    ensures grows { Grows S.Squares squares.old squares.new result
+        (λ P. SomeSquare P (height strips.old.items + 2 ^ strip.level)
+        (picture (S.content squares.old) (strips.old.items ++ strip ∷ []))) }
 {
-    let Some(last) = strips.pop() else {
-        strips.push(strip)?;
-        return Ok(());
-    };
-    if last.level == strip.level {
-        let merged = merge(squares, spare, &last, &strip)?;
+    let mut lowest = strip;
+    while let Some(last) = take_last(strips, lowest.level) {
+        let merged = merge(squares, spare, &last, &lowest)?;
         spare.give(last.spans);
-        spare.give(strip.spans);
-        return push_strip(squares, spare, strips, merged);
+        spare.give(lowest.spans);
+        lowest = merged;
     }
-    strips.push(last)?;
-    strips.push(strip)?;
+    strips.push(lowest)?;
     Ok(())
 }
 
@@ -119,10 +125,8 @@ pub(crate) fn band_strip<S: Squares>(
     ensures picture { IfOk result (λ r. IfSome r (λ s. (column row : ℕ)
         → picture (S.content squares.new) (s ∷ []) column row
         ≡ picture (S.content squares.old) rows.now column row)) }
-    ensures keeps { KeepsSquares S.knows S.content S.stored S.most squares.old squares.new }
-    ensures refusals { IfErr result (IsWantKind (S.stored squares.new) (S.most squares.new)) }
-    ensures needed { result ≡ Err Full
-        → SomeSquare (S.needs_node squares.new) 4 (picture (S.content squares.old) rows.now) }
+    ensures grows { Grows S.Squares squares.old squares.new result
+        (λ P. SomeSquare P 4 (picture (S.content squares.old) rows.now)) }
 {
     let first = rows[0].spans.as_slice();
     let second = rows[1].spans.as_slice();

@@ -1,10 +1,11 @@
 //! Strips of squares, and how two of them make one of the next level.
-ghost use Rattle.std.specs.Prelude.{◌≡◌, ℕ, ◌+◌, ◌-◌, ◌*◌, ◌^◌, ◌<◌, ◌≤◌, Some, None, MatchOption, IfSome, length, slice_get, Err, IfOk, IfErr, OnOk, OnErr};
-ghost use Rattle.life_base.specs.declared.kind.Kind.TheVariants.{Full, Memory};
+ghost use Rattle.std.specs.Prelude.{◌≡◌, ℕ, ◌+◌, ◌-◌, ◌*◌, ◌^◌, ◌<◌, ◌≤◌, Some, None, MatchOption, length, slice_get, IfOk, IfErr, OnOk};
+ghost use Rattle.life_base.specs.declared.kind.Kind.TheVariants.{Memory};
 ghost use Rattle.life_strip.specs.declared.spans.Span.{Span as SpanValue};
 ghost use Rattle.life_base.specs.Tree.{blank};
-ghost use Rattle.life_quad.specs.Keeping.{KeepsSquares, IsWantKind};
-ghost use Rattle.life_strip.specs.Strip.{IsStrip, AreBefore, AreWithin, HaveColumns, IsPaired, EndsAfter, IsPast, IsBefore, IsFound, IsNearer, IsExtended, IsAt, Rise, quad_at, square_in, goes_to};
+ghost use Rattle.life_quad.specs.Grows.{Grows, GrowsOnly};
+ghost use Rattle.life_strip.specs.Strip.{IsStrip, AreBefore, AreWithin, HaveColumns, IsPaired, EndsAfter, IsPast, IsFound, IsNearer, IsExtended, IsAt, Rise, quad_at, square_in, goes_to};
+ghost use Rattle.life_strip.specs.Needed.{SomeColumn};
 
 use crate::spare::Spare;
 use life_base::{Kind, MAX_LEVEL};
@@ -207,10 +208,8 @@ fn join_at<S: Squares>(
     ensures south { IfOk result (λ r. IsAt lower.now (2 * column + 1) r.south) }
     ensures north_later { IfOk result (λ r. north.end ≤ r.north.end) }
     ensures south_later { IfOk result (λ r. south.end ≤ r.south.end) }
-    ensures keeps { KeepsSquares S.knows S.content S.stored S.most squares.old squares.new }
-    ensures refusals { IfErr result (IsWantKind (S.stored squares.new) (S.most squares.new)) }
-    ensures needed { OnErr result (S.needs_node squares.new
-        (quad_at (S.content squares.old) level upper.now lower.now column)) }
+    ensures grows { GrowsOnly S.Squares squares.old squares.new result
+        (λ P. P (quad_at (S.content squares.old) level upper.now lower.now column)) }
 {
     let west = 2 * column;
     let east = 2 * column + 1;
@@ -272,11 +271,9 @@ pub(crate) fn pair<S: Squares>(
     ensures within { IfOk result (λ r. AreWithin (level + 1) r.items) }
     ensures paired { IfOk result (λ r. IsPaired (S.content squares.old) (S.content squares.new)
         level upper.now lower.now r.items) }
-    ensures keeps { KeepsSquares S.knows S.content S.stored S.most squares.old squares.new }
-    ensures refusals { IfErr result (IsWantKind (S.stored squares.new) (S.most squares.new)) }
-    ensures needed { result ≡ Err Full → (column : ℕ) × (column < 2 ^ (MAX_LEVEL - (level + 1)))
-        × S.needs_node squares.new
-        (quad_at (S.content squares.old) level upper.now lower.now column) }
+    ensures grows { Grows S.Squares squares.old squares.new result
+        (λ P. SomeColumn P (level + 1)
+        (quad_at (S.content squares.old) level upper.now lower.now)) }
 {
     let blank = squares.empty(level);
     // As a rule each span of the two strips adds one span at most, and never more spans than columns come of them.

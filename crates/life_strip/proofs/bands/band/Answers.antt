@@ -1,13 +1,17 @@
 use Rattle.life_base.specs.declared.cell.TheConstants.{MAX_LEVEL}
-use Rattle.std.proofs.Common.{◌≡◌, ℕ, ◌+◌, ◌*◌, ◌/◌, ◌^◌, ◌<◌, List, arith, sym, subst}
-use Rattle.std.proofs.lemmas.Result.{err_from_is_err_and}
+use Rattle.std.proofs.Common.{◌≡◌, ℕ, ◌+◌, ◌*◌, ◌/◌, ◌^◌, ◌<◌, List, arith, rules, sym, subst}
+use Rattle.life_base.specs.Tree.{Tree}
+use Rattle.life_quad.specs.declared.id.Id.{Id}
 use Rattle.life_quad.specs.Refused.{SomePart}
-use Rattle.life_quad.proofs.KeepingLemmas.{keeps-then}
+use Rattle.life_quad.specs.Store.{four}
+use Rattle.life_quad.proofs.KeepingLemmas.{keeps-then, adds-then}
+use Rattle.life_quad.proofs.GrowsLemmas.{grows-behind, grows-err, grows-still, grows-same}
 use Rattle.life_strip.specs.declared.spans.Span.{Span}
+use Rattle.life_strip.specs.declared.words.Words.{Words}
 use Rattle.life_strip.specs.Strip.{IsFound, IsPast, AreWithin, HaveColumns}
-use Rattle.life_strip.specs.Band.{four_at}
+use Rattle.life_strip.specs.Band.{four_at, cells_at}
+use Rattle.life_strip.specs.Needed.{SomeColumn}
 use Rattle.life_strip.proofs.SpanLemmas.{past_later, filled-all, filled-skip, before_columns, nearer-both, blank-before, ends-after}
-use Rattle.life_strip.proofs.NeededLemmas.{err_again}
 use Rattle.life_strip.proofs.BandLemmas.{nearest-inside, nearest-start, nearer-none, words-wanted, four-same, four-blank, four-unbegun}
 use Rattle.life_strip.proofs.bands.band.Goals as goal
 
@@ -63,27 +67,12 @@ push_rows-requires-clause-within g c =
     r.third_within r.fourth_within c.nearer-in-Some.ensures c.nearer-in-Some-2.ensures c.in-Some-nearer.ensures in
     omega (arith, inside)
 
-pub returns-in_err-block-clause-keeps : goal.returns-in_err-block-clause-keeps
-returns-in_err-block-clause-keeps g c = keeps-then c.loop-first_column.invariant.5 c.in_err-block.ensures.keeps
-
-pub returns-in_err-block-clause-needed : goal.returns-in_err-block-clause-needed
-returns-in_err-block-clause-needed g c =
-    let r = c.requires in
-    let inv = c.loop-first_column.invariant in
-    let inside = nearest-inside c.stretch_at-a.ensures c.stretch_at-b.ensures c.stretch_at-c.ensures c.stretch_at-d.ensures r.first_within r.second_within
-    r.third_within r.fourth_within c.nearer-in-Some.ensures c.nearer-in-Some-2.ensures c.in-Some-nearer.ensures in
-    let u = c.in-Some-two_words.ensures in
-    let l = c.in-Some-two_words-2.ensures in
-    let wanted = words-wanted inv.5 c.args.first.now c.args.second.now c.args.third.now c.args.fourth.now r.first r.second r.third r.fourth
-    (c.in-Some.first_column / 64) c.in-Some-two_words.upper c.in-Some-two_words-2.lower u.north u.south l.north l.south in
-    let p = err_from_is_err_and c.from_residual-in_err-block.result c.from_residual-in_err-block.ensures.1 in
-    rw (p.1, p.2)
-    (λ e. let some = c.in_err-block.ensures.needed (err_again e) in (
-      16 * (c.in-Some.first_column / 64) + some.0,
-      omega (arith, inside, some.1),
-      subst (SomePart (g.S.Squares.needs_node c.push_rows.new.squares)) (wanted some.0 some.1)
-          some.2,
-    ))
+-- a square of a block of columns is one of those that the call needs
+of-block : (content : Id → Tree) (a b c d : List Span) (block : ℕ) (upper lower : Words) → 64 * block < 2 ^ MAX_LEVEL
+    → ((square : ℕ) → square < 16 → four (cells_at upper lower square) ≡ four_at content a b c d (16 * block + square)) → (P : Tree → Type 0)
+    → (i : ℕ) × (i < 16) × SomePart P (four (cells_at upper lower i)) → SomeColumn (SomePart P) 2 (four_at content a b c d)
+of-block content a b c d block upper lower inside wanted P n =
+    (16 * block + n.0, omega (arith, inside, n.1), subst (SomePart P) (wanted n.0 n.1) n.2)
 
 -- the row goes on from a later block
 from_block : (spans : List Span) (index block next : ℕ) → AreWithin 0 spans → IsPast spans index (64 * block + 64) → block < next
@@ -122,6 +111,8 @@ loop-first_column-preserved g c =
     let l = c.in-Some-two_words-2.ensures in
     let wanted = words-wanted inv.5 c.args.first.now c.args.second.now c.args.third.now c.args.fourth.now r.first r.second r.third r.fourth
     (c.in-Some.first_column / 64) c.in-Some-two_words.upper c.in-Some-two_words-2.lower u.north u.south l.north l.south in
+    let inside = nearest-inside c.stretch_at-a.ensures c.stretch_at-b.ensures c.stretch_at-c.ensures c.stretch_at-d.ensures r.first_within r.second_within
+    r.third_within r.fourth_within c.nearer-in-Some.ensures c.nearer-in-Some-2.ensures c.in-Some-nearer.ensures in
     let at : 64 * block ≡ 4 * (16 * block) = omega arith in
     let fa = subst (λ k. IsFound c.args.first.now k c.empty-blank.result c.stretch_at-a.result) at c.stretch_at-a.ensures in
     let fb = subst (λ k. IsFound c.args.second.now k c.empty-blank.result c.stretch_at-b.result) at c.stretch_at-b.ensures in
@@ -142,8 +133,11 @@ loop-first_column-preserved g c =
       c.find-b-in-Some.ensures,
       c.find-c-in-Some.ensures,
       c.find-d-in-Some.ensures,
-      keeps-then inv.5 h.keeps,
+      keeps-then inv.5 h.grows.keeps,
       h.within,
+      adds-then _ inv.7 h.grows.adds (λ P n. n)
+          (of-block C c.args.first.now c.args.second.now c.args.third.now c.args.fourth.now block c.in-Some-two_words.upper c.in-Some-two_words-2.lower
+          (omega (arith, inside)) wanted),
     )
 
 pub returns-clause-squares : goal.returns-clause-squares
@@ -165,3 +159,27 @@ returns-clause-squares g c =
     (four-blank (C c.args.squares.now) (16 * c.loop-first_column.block) c.empty-blank.result c.args.first.now c.args.second.now c.args.third.now
     c.args.fourth.now
     c.loop-first_column.a c.loop-first_column.b c.loop-first_column.c c.loop-first_column.d fa fb fc fd north.0 north.1 south.0 south.1)
+
+pub returns-in_err-spans-clause-grows : goal.returns-in_err-spans-clause-grows
+returns-in_err-spans-clause-grows g c = grows-same _ c.args.squares.now (search rules)
+
+pub returns-in_err-block-clause-grows : goal.returns-in_err-block-clause-grows
+returns-in_err-block-clause-grows g c =
+    let r = c.requires in
+    let inv = c.loop-first_column.invariant in
+    let C = g.S.Squares.content c.args.squares.now in
+    let block = c.in-Some.first_column / 64 in
+    let inside = nearest-inside c.stretch_at-a.ensures c.stretch_at-b.ensures c.stretch_at-c.ensures c.stretch_at-d.ensures r.first_within r.second_within
+    r.third_within r.fourth_within c.nearer-in-Some.ensures c.nearer-in-Some-2.ensures c.in-Some-nearer.ensures in
+    let u = c.in-Some-two_words.ensures in
+    let l = c.in-Some-two_words-2.ensures in
+    let wanted = words-wanted inv.5 c.args.first.now c.args.second.now c.args.third.now c.args.fourth.now r.first r.second r.third r.fourth
+    block c.in-Some-two_words.upper c.in-Some-two_words-2.lower u.north u.south l.north l.south in
+    let M = λ (P : Tree → Type 0). SomeColumn (SomePart P) 2 (four_at C c.args.first.now c.args.second.now c.args.third.now c.args.fourth.now) in
+    grows-err M (grows-behind M inv.5 inv.7 c.in_err-block.ensures.grows
+    (of-block C c.args.first.now c.args.second.now c.args.third.now c.args.fourth.now block c.in-Some-two_words.upper c.in-Some-two_words-2.lower
+    (omega (arith, inside)) wanted))
+    c.from_residual-in_err-block.ensures.1 (λ P n. n)
+
+pub returns-clause-grows : goal.returns-clause-grows
+returns-clause-grows g c = let inv = c.loop-first_column.invariant in grows-still _ inv.5 inv.7 tt

@@ -1,8 +1,10 @@
 use Rattle.life_base.specs.declared.cell.TheConstants.{MAX_LEVEL}
 use Rattle.std.proofs.Common.{◌-◌, ◌*◌, ◌^◌, ◌≤◌}
-use Rattle.life_quad.specs.Keeping.{KeepsSquares}
+use Rattle.life_quad.specs.Keeping.{KeepsSquares, AddsOnly}
+use Rattle.life_quad.specs.Refused.{SomePart}
 use Rattle.life_strip.specs.Strip.{IsFound, FilledTo}
 use Rattle.life_strip.specs.Band.{four_at}
+use Rattle.life_strip.specs.Needed.{SomeColumn}
 use Rattle.life_strip.proofs.bands.band.Given as goal
 
 abbrev pub invariant-loop-first_column : goal.invariant-loop-first_column
@@ -15,6 +17,8 @@ invariant-loop-first_column g l =
     × IsFound l.fourth (64 * l.block) l.blank l.d
     × KeepsSquares g.S.Squares.knows g.S.Squares.content g.S.Squares.stored g.S.Squares.most l.fn.squares l.squares
     × (64 * l.block ≤ 2 ^ MAX_LEVEL)
+    × AddsOnly g.S.Squares.stored
+    (λ P. SomeColumn (SomePart P) 2 (four_at (g.S.Squares.content l.fn.squares) l.first l.second l.third l.fourth)) l.fn.squares l.squares
 
 abbrev pub decreases-loop-first_column : goal.decreases-loop-first_column
 decreases-loop-first_column g l = 2 ^ MAX_LEVEL - l.block

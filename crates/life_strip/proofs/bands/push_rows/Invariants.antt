@@ -1,6 +1,7 @@
 use Rattle.std.proofs.Common.{◌≡◌, ℕ, ◌+◌, ◌-◌, ◌*◌, ◌<◌, ◌≤◌}
 use Rattle.life_base.specs.Tree.{Tree}
-use Rattle.life_quad.specs.Keeping.{KeepsSquares}
+use Rattle.life_quad.specs.Keeping.{KeepsSquares, AddsOnly}
+use Rattle.life_quad.specs.Refused.{SomePart}
 use Rattle.life_quad.specs.Store.{four}
 use Rattle.life_strip.specs.Band.{cells_at}
 use Rattle.life_strip.specs.Strip.{FilledTo}
@@ -13,6 +14,7 @@ invariant-loop-square g l =
     → FilledTo (g.S.Squares.knows l.squares) (g.S.Squares.content l.squares) 2 want l.spans.items (16 * l.block + l.square))
     × KeepsSquares g.S.Squares.knows g.S.Squares.content g.S.Squares.stored g.S.Squares.most l.fn.squares l.squares
     × (l.square ≤ 16)
+    × AddsOnly g.S.Squares.stored (λ P. (i : ℕ) × (i < 16) × SomePart P (four (cells_at l.upper l.lower i))) l.fn.squares l.squares
 
 abbrev pub decreases-loop-square : goal.decreases-loop-square
 decreases-loop-square g l = 16 - l.square

@@ -1,6 +1,8 @@
 use Rattle.std.proofs.Common.{sym, ◌∙◌, ap, arith}
+use Rattle.std.proofs.lemmas.Result.{err_from_is_err_and}
 use Rattle.life_base.specs.Tree.{depth}
 use Rattle.life_quad.specs.Store.{four}
+use Rattle.life_quad.proofs.GrowsLemmas.{grows-still, grows-same}
 use Rattle.life_strip.proofs.PictureLemmas.{on_ok_map}
 use Rattle.life_strip.proofs.SpanLemmas.{filled-skip, filled-more}
 use Rattle.life_strip.proofs.bands.push_square.Goals as goal
@@ -22,3 +24,15 @@ returns-clause-filled g c =
     2 want c.args.spans.now.items c.extend.new.spans.items c.args.column c.args.end c.in_ok-id.id p (columns p.before) id.known (ap depth id.square)
     (λ x le lt. same x le lt ∙ sym id.square))
     c.extend.ensures.columns
+
+pub returns-then-cells-eq0-clause-grows : goal.returns-then-cells-eq0-clause-grows
+returns-then-cells-eq0-clause-grows g c = grows-same _ c.args.squares.now tt
+
+pub returns-in_err-id-clause-grows : goal.returns-in_err-id-clause-grows
+returns-in_err-id-clause-grows g c =
+    let small = c.in_err-id.ensures in
+    let p = err_from_is_err_and c.from_residual.result c.from_residual.ensures.1 in
+    record { keeps = small.keeps; refusals = rw (p.1, p.2) small.refusals; needed = λ e. small.needed; adds = small.adds }
+
+pub returns-clause-grows : goal.returns-clause-grows
+returns-clause-grows g c = let small = c.in_ok-id.ensures in grows-still _ small.keeps small.adds c.extend.ensures.refusals

@@ -1,9 +1,8 @@
 use Rattle.std.proofs.Common.{◌≡◌, ℕ, arith, refl, subst}
 use Rattle.std.specs.Prelude.{IfSome}
-use Rattle.std.proofs.lemmas.Result.{err_from_is_err_and}
+use Rattle.life_quad.proofs.GrowsLemmas.{grows-err, grows-ok}
 use Rattle.life_strip.specs.Strip.{square_at}
 use Rattle.life_strip.specs.Band.{four_at}
-use Rattle.life_strip.proofs.NeededLemmas.{err_again}
 use Rattle.life_strip.proofs.BandPictures.{spans-at, picture-read, SomeSquare-read}
 use Rattle.life_strip.proofs.rows.band_strip.Goals as goal
 
@@ -27,17 +26,6 @@ band-requires g c =
       fourth_within = fourth.1;
     }
 
-pub returns-in_err-spans-clause-needed : goal.returns-in_err-spans-clause-needed
-returns-in_err-spans-clause-needed g c =
-    let p = err_from_is_err_and c.from_residual.result c.from_residual.ensures.1 in
-    rw (p.1, p.2)
-    (λ e. let n = c.in_err-spans.ensures.needed (err_again e) in
-    SomeSquare-read (g.S.Squares.knows c.args.squares.now) (g.S.Squares.content c.args.squares.now) c.args.rows.now c.requires.count
-    c.requires.rows _ _ _ _ _ _ _ _
-    c.index-rows-0.is c.index-rows-1.is c.index-rows-2.is c.index-rows-3.is c.as_slice-first.ensures.value c.as_slice-second.ensures.value
-    c.as_slice-third.ensures.value c.as_slice-fourth.ensures.value
-    (g.S.Squares.needs_node c.band.new.squares) (g.met.S.Squares.full c.args.squares.now) n.0 n.1 n.2)
-
 pub returns-in-Some-clause-picture : goal.returns-in-Some-clause-picture
 returns-in-Some-clause-picture g c =
     let C = g.S.Squares.content c.args.squares.now in
@@ -50,3 +38,30 @@ returns-in-Some-clause-picture g c =
     c.index-rows-0.is c.index-rows-1.is c.index-rows-2.is c.index-rows-3.is c.as_slice-first.ensures.value c.as_slice-second.ensures.value
     c.as_slice-third.ensures.value c.as_slice-fourth.ensures.value
     C' (record { level = 2; spans = c.in-Some.spans }) refl squares
+
+pub returns-in_err-spans-clause-grows : goal.returns-in_err-spans-clause-grows
+returns-in_err-spans-clause-grows g c =
+    grows-err _ c.in_err-spans.ensures.grows c.from_residual.ensures.1
+    (λ P n. SomeSquare-read (g.S.Squares.knows c.args.squares.now) (g.S.Squares.content c.args.squares.now) c.args.rows.now c.requires.count
+    c.requires.rows _ _ _ _ _ _ _ _
+    c.index-rows-0.is c.index-rows-1.is c.index-rows-2.is c.index-rows-3.is c.as_slice-first.ensures.value c.as_slice-second.ensures.value
+    c.as_slice-third.ensures.value c.as_slice-fourth.ensures.value
+    P (g.met.S.Squares.full c.args.squares.now) n.0 n.1 n.2)
+
+pub returns-in-Some-clause-grows : goal.returns-in-Some-clause-grows
+returns-in-Some-clause-grows g c =
+    grows-ok _ c.in_ok-spans.ensures.grows
+    (λ P n. SomeSquare-read (g.S.Squares.knows c.args.squares.now) (g.S.Squares.content c.args.squares.now) c.args.rows.now c.requires.count
+    c.requires.rows _ _ _ _ _ _ _ _
+    c.index-rows-0.is c.index-rows-1.is c.index-rows-2.is c.index-rows-3.is c.as_slice-first.ensures.value c.as_slice-second.ensures.value
+    c.as_slice-third.ensures.value c.as_slice-fourth.ensures.value
+    P (g.met.S.Squares.full c.args.squares.now) n.0 n.1 n.2)
+
+pub returns-in-None-clause-grows : goal.returns-in-None-clause-grows
+returns-in-None-clause-grows g c =
+    grows-ok _ c.in_ok-spans.ensures.grows
+    (λ P n. SomeSquare-read (g.S.Squares.knows c.args.squares.now) (g.S.Squares.content c.args.squares.now) c.args.rows.now c.requires.count
+    c.requires.rows _ _ _ _ _ _ _ _
+    c.index-rows-0.is c.index-rows-1.is c.index-rows-2.is c.index-rows-3.is c.as_slice-first.ensures.value c.as_slice-second.ensures.value
+    c.as_slice-third.ensures.value c.as_slice-fourth.ensures.value
+    P (g.met.S.Squares.full c.args.squares.now) n.0 n.1 n.2)

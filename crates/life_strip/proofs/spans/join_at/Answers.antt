@@ -1,8 +1,9 @@
-use Rattle.std.proofs.Common.{◌≡◌, ℕ, ◌+◌, ◌*◌, ◌<◌, List, arith, sym, ◌∙◌, ap, subst}
+use Rattle.std.proofs.Common.{◌≡◌, ℕ, ◌+◌, ◌*◌, ◌<◌, List, arith, rules, sym, ◌∙◌, ap, subst}
 use Rattle.std.proofs.lemmas.Result.{err_from_is_err_and}
 use Rattle.life_base.specs.declared.cell.TheConstants.{MAX_LEVEL}
 use Rattle.life_base.specs.Tree.{Tree, quad, depth, blank}
 use Rattle.life_quad.specs.declared.id.Id.{Id}
+use Rattle.life_quad.proofs.KeepingLemmas.{adds-as}
 use Rattle.life_strip.specs.declared.spans.Span.{Span}
 use Rattle.life_strip.specs.declared.spans.Place.{Place}
 use Rattle.life_strip.specs.Strip.{quad_at, square_in, IsAt, IsStrip}
@@ -93,8 +94,8 @@ returns-clause-square g c =
     c.args.column r.upper r.lower r.known r.blank r.north c.pass-north_east.ensures.place r.south c.pass-south_east.ensures.place _ _ _ _
     c.square_of-nw.ensures c.square_of-ne.ensures c.square_of-sw.ensures c.square_of-se.ensures
 
-pub returns-in_err-square-clause-needed : goal.returns-in_err-square-clause-needed
-returns-in_err-square-clause-needed g c =
+pub returns-in_err-square-clause-grows : goal.returns-in_err-square-clause-grows
+returns-in_err-square-clause-grows g c =
     let r = c.requires in
     let s = c.args.squares.now in
     let C = g.S.Squares.content s in
@@ -102,6 +103,28 @@ returns-in_err-square-clause-needed g c =
     r.north c.pass-north_east.ensures.place r.south c.pass-south_east.ensures.place _ _ _ _
     c.square_of-nw.ensures c.square_of-ne.ensures c.square_of-sw.ensures c.square_of-se.ensures in
     let p = err_from_is_err_and c.from_residual.result c.from_residual.ensures.1 in
-    rw p.1
-    (subst (λ q. g.S.Squares.needs_node q (quad_at C c.args.level c.args.upper.now c.args.lower.now c.args.column)) (sym c.in_err-square.ensures.unchanged)
-    (subst (g.S.Squares.needs_node s) same c.in_err-square.ensures.needed))
+    let join = c.in_err-square.ensures in
+    record {
+      keeps = join.keeps;
+      refusals = search rules;
+      needed = rw p.1
+          (subst (λ q. g.S.Squares.needs_node q (quad_at C c.args.level c.args.upper.now c.args.lower.now c.args.column)) (sym join.unchanged)
+          (subst (g.S.Squares.needs_node s) same join.needed));
+      adds = adds-as (λ P. P (quad_at C c.args.level c.args.upper.now c.args.lower.now c.args.column)) join.adds (λ P h. subst P same h);
+    }
+
+pub returns-clause-grows : goal.returns-clause-grows
+returns-clause-grows g c =
+    let r = c.requires in
+    let s = c.args.squares.now in
+    let C = g.S.Squares.content s in
+    let same = are_quarters (g.S.Squares.knows s) C c.args.level c.args.upper.now c.args.lower.now c.args.empty c.args.column r.upper r.lower r.known r.blank
+    r.north c.pass-north_east.ensures.place r.south c.pass-south_east.ensures.place _ _ _ _
+    c.square_of-nw.ensures c.square_of-ne.ensures c.square_of-sw.ensures c.square_of-se.ensures in
+    let join = c.in_ok-square.ensures in
+    record {
+      keeps = join.keeps;
+      refusals = tt;
+      needed = tt;
+      adds = adds-as (λ P. P (quad_at C c.args.level c.args.upper.now c.args.lower.now c.args.column)) join.adds (λ P h. subst P same h);
+    }

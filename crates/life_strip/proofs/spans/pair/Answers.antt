@@ -1,12 +1,15 @@
-use Rattle.std.proofs.Common.{◌≡◌, ℕ, suc, ◌+◌, ◌-◌, ◌*◌, ◌/◌, ◌^◌, ◌<◌, ◌≤◌, ◌⊎◌, inl, inr, Bool, true, false, nat_le, max, List, arith, refl, sym, ◌∙◌, ap, subst}
+use Rattle.std.proofs.Common.{◌≡◌, ℕ, suc, ◌+◌, ◌-◌, ◌*◌, ◌/◌, ◌^◌, ◌<◌, ◌≤◌, ◌⊎◌, inl, inr, Bool, true, false, nat_le, max, List, arith, rules, refl, sym, ◌∙◌, ap, subst}
 use Rattle.std.proofs.Math.Pow.{pow_mono}
 use Rattle.life_base.specs.declared.cell.TheConstants.{MAX_LEVEL}
-use Rattle.life_base.specs.Tree.{depth}
-use Rattle.life_quad.proofs.KeepingLemmas.{keeps-then}
+use Rattle.life_base.specs.Tree.{Tree, depth}
+use Rattle.life_quad.specs.declared.id.Id.{Id}
+use Rattle.life_quad.proofs.KeepingLemmas.{keeps-then, adds-then}
+use Rattle.life_quad.proofs.GrowsLemmas.{grows-behind, grows-err, grows-still, grows-same, only-grows}
 use Rattle.life_strip.specs.declared.spans.Span.{Span}
 use Rattle.life_strip.specs.declared.spans.Place.{Place}
 use Rattle.life_strip.specs.declared.spans.TheConstants.{NEVER}
 use Rattle.life_strip.specs.Strip.{FilledTo, IsAt, AreWithin, HaveColumns, EndsAfter, IsPast, Rise, quad_at}
+use Rattle.life_strip.specs.Needed.{SomeColumn}
 use Rattle.life_strip.proofs.SpanLemmas.{before_columns, depth-square_at, filled-skip, filled-more, filled-all, extended-push, from-first, quad-blank, quad-keeps, strip-keeps}
 use Rattle.life_strip.proofs.PlaceLemmas.{front, at-later, at-over, goes-end, quad-goes}
 use Rattle.life_strip.proofs.spans.pair.Goals as goal
@@ -50,6 +53,14 @@ split first end next e = by (nat_le (end / 2) (first / 2 + 1)) refl
     by : (b : Bool) → nat_le (end / 2) (first / 2 + 1) ≡ b → 2 * next ≤ 2 * (first / 2) + 2 ⊎ 2 * next ≤ end
     by true t = inl (let le : end / 2 ≤ first / 2 + 1 = grind arith in omega (arith, e, le))
     by false t = inr (let lt : first / 2 + 1 < end / 2 = grind arith in omega (arith, e, lt))
+
+-- a square of four in a column is one of those that the call needs
+one-column : (level : ℕ) (old now : Id → Tree) (upper lower : List Span) (start : ℕ) → quad_at now level upper lower start ≡ quad_at old level upper lower start
+    → start < 2 ^ (MAX_LEVEL - suc level) → (P : Tree → Type 0) → P (quad_at now level upper lower start)
+    → SomeColumn P (level + 1) (quad_at old level upper lower)
+one-column level old now upper lower start same within P p =
+    let deeper : level + 1 ≡ suc level = omega arith in
+    (start, subst (λ n. start < 2 ^ (MAX_LEVEL - n)) (sym deeper) within, subst P same p)
 
 pub place_at-north-requires : goal.place_at-north-requires
 place_at-north-requires g c = at-first c.args.level c.args.upper.now c.requires.upper_within
@@ -178,7 +189,7 @@ loop-first-preserved g c =
     let down : 2 * x + 1 < c.end_of-in-loop-first.result = omega (arith, lo, hi, c.max-column.ensures, c.min-end.ensures) in
     quad-goes (C old) level upper lower start x north south hn hs lo (subst (λ z. 2 * x + 1 < z) c.end_of.ensures up)
     (subst (λ z. 2 * x + 1 < z) c.end_of-in-loop-first.ensures down) in
-    let pushed = filled-more {knows = K now} {knows' = K new} {now = C now} {now' = C new} h.keeps.contents (suc level) want c.loop-first.spans.items _
+    let pushed = filled-more {knows = K now} {knows' = K new} {now = C now} {now' = C new} h.grows.keeps.contents (suc level) want c.loop-first.spans.items _
     start next c.in_ok-joined.joined.square skipped
     (extended-push start next c.in_ok-joined.joined.square later c.loop-first.spans.items skipped.before) h.known deep
     (from-first want (C new c.in_ok-joined.joined.square) start next (sym square) same) in
@@ -188,7 +199,10 @@ loop-first-preserved g c =
       filled = subst (λ z. FilledTo (K new) (C new) (suc level) want z next) (sym c.in_ok-push.ensures.items) pushed;
       north = c.pass-north.ensures.place;
       south = c.pass-south.ensures.place;
-      keeps = keeps-then inv.keeps h.keeps;
+      keeps = keeps-then inv.keeps h.grows.keeps;
+      adds = adds-then _ inv.adds h.grows.adds (λ P n. n)
+          (one-column level (C old) (C now) upper lower start
+          (quad-keeps {knows = K old} {knows' = K now} {old = C old} {now = C now} inv.keeps.contents level upper lower r.upper r.lower start) within);
       within = omega (arith, c.max-column.ensures, reach, within);
       upper = omega (arith, near);
       lower = omega (arith, near);
@@ -213,20 +227,47 @@ returns-clause-paired g c =
     (λ x le. quad-blank (g.S.Squares.content c.args.squares.now) c.args.level upper lower (2 * column) x
     (λ y from to. north y from) (λ y from to. south y from) (omega (arith, le)))
 
-pub returns-in_err-joined-clause-needed : goal.returns-in_err-joined-clause-needed
-returns-in_err-joined-clause-needed g c =
+pub returns-in_err-spans-clause-grows : goal.returns-in_err-spans-clause-grows
+returns-in_err-spans-clause-grows g c = grows-same _ c.args.squares.now (search rules)
+
+pub returns-in_err-joined-clause-grows : goal.returns-in_err-joined-clause-grows
+returns-in_err-joined-clause-grows g c =
     let r = c.requires in
     let K = g.S.Squares.knows in
     let C = g.S.Squares.content in
+    let old = c.args.squares.now in
+    let now = c.loop-first.squares in
+    let upper = c.args.upper.now in
+    let lower = c.args.lower.now in
+    let level = c.args.level in
     let inv = c.loop-first.invariant in
     let start = c.loop-first.first / 2 in
-    let same = quad-keeps {knows = K c.args.squares.now} {knows' = K c.loop-first.squares} {old = C c.args.squares.now} {now = C c.loop-first.squares}
-    inv.keeps.contents c.args.level c.args.upper.now c.args.lower.now r.upper r.lower start in
-    let f = front c.args.level c.args.upper.now c.args.lower.now r.low r.upper_within r.lower_within c.loop-first.column c.loop-first.north
-    c.loop-first.south inv.north inv.south c.loop-first.first inv.upper inv.lower inv.one inv.other c.loop-first-test.true in
-    let deeper : c.args.level + 1 ≡ suc c.args.level = omega arith in
-    λ e. (
-      start,
-      subst (λ n. start < 2 ^ (MAX_LEVEL - n)) (sym deeper) f.within,
-      subst (g.S.Squares.needs_node c.join_at.new.squares) same c.in_err-joined.ensures.needed,
-    )
+    let same = quad-keeps {knows = K old} {knows' = K now} {old = C old} {now = C now} inv.keeps.contents level upper lower r.upper r.lower start in
+    let f = front level upper lower r.low r.upper_within r.lower_within c.loop-first.column c.loop-first.north c.loop-first.south inv.north inv.south
+    c.loop-first.first inv.upper inv.lower inv.one inv.other c.loop-first-test.true in
+    let M = λ (P : Tree → Type 0). SomeColumn P (level + 1) (quad_at (C old) level upper lower) in
+    grows-err M (grows-behind M inv.keeps inv.adds (only-grows c.in_err-joined.ensures.grows) (one-column level (C old) (C now) upper lower start same f.within))
+    c.from_residual-in_err-joined.ensures.1 (λ P n. n)
+
+pub returns-in_err-push-clause-grows : goal.returns-in_err-push-clause-grows
+returns-in_err-push-clause-grows g c =
+    let r = c.requires in
+    let K = g.S.Squares.knows in
+    let C = g.S.Squares.content in
+    let old = c.args.squares.now in
+    let now = c.loop-first.squares in
+    let upper = c.args.upper.now in
+    let lower = c.args.lower.now in
+    let level = c.args.level in
+    let inv = c.loop-first.invariant in
+    let start = c.loop-first.first / 2 in
+    let same = quad-keeps {knows = K old} {knows' = K now} {old = C old} {now = C now} inv.keeps.contents level upper lower r.upper r.lower start in
+    let f = front level upper lower r.low r.upper_within r.lower_within c.loop-first.column c.loop-first.north c.loop-first.south inv.north inv.south
+    c.loop-first.first inv.upper inv.lower inv.one inv.other c.loop-first-test.true in
+    let M = λ (P : Tree → Type 0). SomeColumn P (level + 1) (quad_at (C old) level upper lower) in
+    let join = c.in_ok-joined.ensures.grows in
+    grows-still M (keeps-then inv.keeps join.keeps)
+    (adds-then M inv.adds join.adds (λ P n. n) (one-column level (C old) (C now) upper lower start same f.within)) (search rules)
+
+pub returns-clause-grows : goal.returns-clause-grows
+returns-clause-grows g c = let inv = c.loop-first.invariant in grows-still _ inv.keeps inv.adds tt

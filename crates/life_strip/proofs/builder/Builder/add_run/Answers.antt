@@ -1,14 +1,13 @@
 use Rattle.std.proofs.Common.{List, ◌≤◌, ◌^◌, ◌+ℤ◌, pos, nat_abs, sym, subst, arith}
 use Rattle.std.proofs.lemmas.Int.{ints}
-use Rattle.std.proofs.lemmas.Result.{err_from_is_err_and}
+use Rattle.life_quad.proofs.GrowsLemmas.{grows-err, grows-ok}
 use Rattle.life_base.specs.declared.cell.Run.{Run}
 use Rattle.life_base.specs.declared.cell.TheConstants.{MAX_LEVEL}
-use Rattle.life_strip.specs.Given.{IsNext, half_plane, state_by, by_columns}
-use Rattle.life_strip.specs.Needed.{SomeSquare}
+use Rattle.life_strip.specs.Given.{IsNext, half_plane}
 use Rattle.life_strip.specs.Plane.{cell_so_far}
 use Rattle.life_strip.specs.Filling.{Building, IsFilling}
 use Rattle.life_strip.proofs.GivenLemmas.{next-push}
-use Rattle.life_strip.proofs.FillingLemmas.{filling-push, needed-runs}
+use Rattle.life_strip.proofs.FillingLemmas.{filling-push, needed-seen}
 use Rattle.life_strip.proofs.builder.Builder.add_run.Goals as goal
 
 pub add_run-requires-clause-free : goal.add_run-requires-clause-free
@@ -19,22 +18,6 @@ add_run-requires-clause-free g c =
     let fill : IsFilling K C inside = subst (IsFilling K C) (sym c.self.view_is) c.requires.filling in
     fill.next c.args.run.x c.args.run.y c.requires.inside.north
     (subst (λ (b : Building). IsNext b.runs c.args.run.x c.args.run.y) (sym c.self.view_is) c.requires.next)
-
-pub returns-in_err-add_run-clause-needed : goal.returns-in_err-add_run-clause-needed
-returns-in_err-add_run-clause-needed g c =
-    let K = g.S.Squares.knows c.args.squares.now in
-    let C = g.S.Squares.content c.args.squares.now in
-    let P = g.S.Squares.needs_node c.add_run.new.squares in
-    let inside : Building = record { runs = c.self.inside.log.runs; kept = c.self.inside.plane } in
-    let fill : IsFilling K C inside = subst (IsFilling K C) (sym c.self.view_is) c.requires.filling in
-    let p = err_from_is_err_and c.from_residual.result c.from_residual.ensures.1 in
-    let rows = nat_abs (c.args.run.y +ℤ pos half_plane) in
-    let north = c.requires.inside.north in
-    let south = c.requires.inside.south in
-    let few : rows ≤ 2 ^ MAX_LEVEL = omega (arith, ints, north, south) in
-    rw (p.1, p.2)
-    (λ e. subst (λ (b : Building). SomeSquare P rows (by_columns (state_by b.runs))) c.self.view_is
-    (needed-runs C inside rows few fill.cells (c.in_err-add_run.ensures.needed e)))
 
 pub returns-clause-filling : goal.returns-clause-filling
 returns-clause-filling g c =
@@ -52,3 +35,27 @@ returns-clause-filling g c =
 pub returns-clause-next : goal.returns-clause-next
 returns-clause-next g c i j h =
     subst (λ (runs : List Run). IsNext runs i j) (sym c.then-self-inside.ensures) (next-push c.self.inside.log.runs c.args.run i j h)
+
+pub returns-in_err-add_run-clause-grows : goal.returns-in_err-add_run-clause-grows
+returns-in_err-add_run-clause-grows g c =
+    let K = g.S.Squares.knows c.args.squares.now in
+    let C = g.S.Squares.content c.args.squares.now in
+    let inside : Building = record { runs = c.self.inside.log.runs; kept = c.self.inside.plane } in
+    let rows = nat_abs (c.args.run.y +ℤ pos half_plane) in
+    let north = c.requires.inside.north in
+    let south = c.requires.inside.south in
+    let few : rows ≤ 2 ^ MAX_LEVEL = omega (arith, ints, north, south) in
+    grows-err _ c.in_err-add_run.ensures.grows c.from_residual.ensures.1
+    (needed-seen K C inside _ rows few c.self.view_is c.requires.filling)
+
+pub returns-clause-grows : goal.returns-clause-grows
+returns-clause-grows g c =
+    let K = g.S.Squares.knows c.args.squares.now in
+    let C = g.S.Squares.content c.args.squares.now in
+    let inside : Building = record { runs = c.self.inside.log.runs; kept = c.self.inside.plane } in
+    let rows = nat_abs (c.args.run.y +ℤ pos half_plane) in
+    let north = c.requires.inside.north in
+    let south = c.requires.inside.south in
+    let few : rows ≤ 2 ^ MAX_LEVEL = omega (arith, ints, north, south) in
+    grows-ok _ c.in_ok-add_run.ensures.grows
+    (needed-seen K C inside _ rows few c.self.view_is c.requires.filling)

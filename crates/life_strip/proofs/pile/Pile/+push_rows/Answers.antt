@@ -1,9 +1,8 @@
 use Rattle.std.proofs.Common.{◌≡◌, ℕ, ◌++◌, ◌∷◌, [], List, All, arith, rules, sym, ◌∙◌, ap, subst}
-use Rattle.std.proofs.lemmas.Result.{err_from_is_err_and}
 use Rattle.life_base.specs.Tree.{Tree}
 use Rattle.life_quad.specs.declared.id.Id.{Id}
 use Rattle.life_quad.specs.Keeping.{KeepsSquares}
-use Rattle.life_quad.proofs.KeepingLemmas.{keeps-then}
+use Rattle.life_quad.proofs.GrowsLemmas.{grows-then, grows-err, grows-same}
 use Rattle.life_strip.specs.declared.spans.Strip.{Strip}
 use Rattle.life_strip.specs.Picture.{picture, height, IsRow, IsSound}
 use Rattle.life_strip.specs.Needed.{SomeSquare}
@@ -38,9 +37,6 @@ push_strip-requires-clause-room g t c =
     let h = height-last c.args.self.now.strips.items c.pop.new.self.items c.args.self.now.band.items c.in-Some.last c.in-Some.ensures.items in
     omega (arith, h, c.requires.room, c.in_ok-push_rows.ensures.closed.height)
 
-pub returns-clause-keeps : goal.returns-clause-keeps
-returns-clause-keeps g t c = keeps-then c.in_ok-push_rows.ensures.keeps c.push_strip.ensures.keeps
-
 pub returns-clause-closed : goal.returns-clause-closed
 returns-clause-closed g t c =
     let r = c.in_ok-push_rows.ensures.closed in
@@ -51,29 +47,37 @@ returns-clause-closed g t c =
       strips = strips;
       height = omega (arith, more, h, r.height);
       picture = λ i j. cells i j
-          ∙ last-below c.in_ok-push_rows.ensures.keeps c.args.self.now.strips.items c.pop.new.self.items c.args.self.now.band.items
+          ∙ last-below c.in_ok-push_rows.ensures.grows.keeps c.args.self.now.strips.items c.pop.new.self.items c.args.self.now.band.items
           c.push_rows.new.self.strips.items c.in-Some.last c.in-Some.ensures.items c.requires.rows r.height r.picture i j;
     }) e.strips e.height e.picture
 
-pub returns-in_err-push_rows-clause-needed : goal.returns-in_err-push_rows-clause-needed
-returns-in_err-push_rows-clause-needed g t c =
-    let C = g.S.Squares.content c.args.squares.now in
+-- a square of all rows but the last is one of all
+of-upper : (content : Id → Tree) (xs ys zs : List Strip) (last : Strip) → zs ≡ ys ++ last ∷ [] → (P : Tree → Type 0)
+    → SomeSquare P (height (xs ++ ys)) (picture content (xs ++ ys)) → SomeSquare P (height (xs ++ zs)) (picture content (xs ++ zs))
+of-upper content xs ys zs last items P n =
+    let h = height-last xs ys zs last items in
+    subst (λ z. SomeSquare P (height (xs ++ zs)) (picture content z)) (sym (append-last xs ys zs last items))
+    (SomeSquare-above content (xs ++ ys) (last ∷ []) (height (xs ++ zs)) (omega (arith, h)) n)
+
+pub returns-in_default-clause-grows : goal.returns-in_default-clause-grows
+returns-in_default-clause-grows g t c = grows-same _ c.args.squares.now tt
+
+pub returns-in_err-push_rows-clause-grows : goal.returns-in_err-push_rows-clause-grows
+returns-in_err-push_rows-clause-grows g t c =
+    grows-err _ c.in_err-push_rows.ensures.grows c.from_residual.ensures.1
+    (of-upper (g.S.Squares.content c.args.squares.now) c.args.self.now.strips.items c.pop.new.self.items c.args.self.now.band.items c.in-Some.last
+    c.in-Some.ensures.items)
+
+pub returns-clause-grows : goal.returns-clause-grows
+returns-clause-grows g t c =
     let xs = c.args.self.now.strips.items in
     let ys = c.pop.new.self.items in
     let zs = c.args.self.now.band.items in
     let last = c.in-Some.last in
-    let h = height-last xs ys zs last c.in-Some.ensures.items in
-    let p = err_from_is_err_and c.from_residual.result c.from_residual.ensures.1 in
-    rw (p.1, p.2)
-    (λ e. subst (λ z. SomeSquare (g.S.Squares.needs_node c.push_rows.new.squares) (height (xs ++ zs)) (picture C z))
-    (sym (append-last xs ys zs last c.in-Some.ensures.items))
-    (SomeSquare-above C (xs ++ ys) (last ∷ []) (height (xs ++ zs)) (omega (arith, h)) (c.in_err-push_rows.ensures.needed e)))
-
-pub returns-clause-needed : goal.returns-clause-needed
-returns-clause-needed g t c =
+    let items = c.in-Some.ensures.items in
     let r = c.in_ok-push_rows.ensures.closed in
-    let h = height-last c.args.self.now.strips.items c.pop.new.self.items c.args.self.now.band.items c.in-Some.last c.in-Some.ensures.items in
-    λ e. SomeSquare-same (omega (arith, h, r.height))
-    (last-below c.in_ok-push_rows.ensures.keeps c.args.self.now.strips.items c.pop.new.self.items c.args.self.now.band.items
-    c.push_rows.new.self.strips.items c.in-Some.last c.in-Some.ensures.items c.requires.rows r.height r.picture)
-    (c.push_strip.ensures.needed e)
+    let h = height-last xs ys zs last items in
+    grows-then _ c.in_ok-push_rows.ensures.grows c.push_strip.ensures.grows
+    (of-upper (g.S.Squares.content c.args.squares.now) xs ys zs last items)
+    (λ P n. SomeSquare-same (omega (arith, h, r.height))
+    (last-below c.in_ok-push_rows.ensures.grows.keeps xs ys zs c.push_rows.new.self.strips.items last items c.requires.rows r.height r.picture) n)

@@ -1,6 +1,6 @@
-use Rattle.std.proofs.Common.{List, length-append, ◌≡◌, ◌+◌, ◌^◌, ◌++◌, ◌∷◌, [], length, All, arith, refl, sym, ◌∙◌, ap, subst}
+use Rattle.std.proofs.Common.{List, length-append, ◌≡◌, ◌+◌, ◌^◌, ◌++◌, ◌∷◌, [], length, All, arith, rules, refl, sym, ◌∙◌, ap, subst}
 use Rattle.std.proofs.lemmas.List.Elements.{All-push}
-use Rattle.life_quad.proofs.KeepingLemmas.{keeps-same}
+use Rattle.life_quad.proofs.GrowsLemmas.{grows-as, grows-same}
 use Rattle.life_strip.specs.Picture.{picture, height, IsRow}
 use Rattle.life_strip.specs.declared.spans.Strip.{Strip}
 use Rattle.life_strip.proofs.NeededLemmas.{SomeSquare-same}
@@ -37,12 +37,6 @@ pub returns-then-len-lt4-clause-picture : goal.returns-then-len-lt4-clause-pictu
 returns-then-len-lt4-clause-picture g c i j =
     ap (λ z. picture (g.S.Squares.content c.args.squares.now) z i j)
     (append-last c.args.self.now.strips.items c.args.self.now.band.items c.push.new.self.items c.args.row c.in_ok-push.ensures.items)
-
-pub returns-then-len-lt4-clause-keeps : goal.returns-then-len-lt4-clause-keeps
-returns-then-len-lt4-clause-keeps g c = keeps-same c.args.squares.now
-
-pub returns-in_err-push-clause-keeps : goal.returns-in_err-push-clause-keeps
-returns-in_err-push-clause-keeps g c = keeps-same c.args.squares.now
 
 pub close_band-requires-clause-strips : goal.close_band-requires-clause-strips
 close_band-requires-clause-strips g c = c.requires.pile.strips
@@ -89,19 +83,23 @@ returns-clause-picture g c =
     ∙ ap (λ z. picture (C c.args.squares.now) z i j) in_order)
     c.close_band.ensures.closed
 
-pub returns-clause-keeps : goal.returns-clause-keeps
-returns-clause-keeps g c = c.close_band.ensures.keeps
-
 pub returns-clause-height : goal.returns-clause-height
 returns-clause-height g c =
     let h = one-row c.args.self.now.strips.items c.args.self.now.band.items c.push.new.self.items c.args.row c.in_ok-push.ensures.items c.requires.row.level in
     on_ok_map c.close_band.result
     (λ r. ap height (no-rows c.close_band.new.self.strips.items c.close_band.new.self.band.items r.empty) ∙ r.height ∙ h) c.close_band.ensures.closed
 
-pub returns-clause-needed : goal.returns-clause-needed
-returns-clause-needed g c =
+pub returns-in_err-push-clause-grows : goal.returns-in_err-push-clause-grows
+returns-in_err-push-clause-grows g c = grows-same _ c.args.squares.now (search rules)
+
+pub returns-then-len-lt4-clause-grows : goal.returns-then-len-lt4-clause-grows
+returns-then-len-lt4-clause-grows g c = grows-same _ c.args.squares.now tt
+
+pub returns-clause-grows : goal.returns-clause-grows
+returns-clause-grows g c =
     let xs = c.args.self.now.strips.items in
     let ys = c.args.self.now.band.items in
     let h = one-row xs ys c.push.new.self.items c.args.row c.in_ok-push.ensures.items c.requires.row.level in
     let in_order = append-last xs ys c.push.new.self.items c.args.row c.in_ok-push.ensures.items in
-    λ e. SomeSquare-same (omega (arith, h)) (λ i j. ap (λ z. picture (g.S.Squares.content c.args.squares.now) z i j) in_order) (c.close_band.ensures.needed e)
+    grows-as _ c.close_band.ensures.grows
+    (λ P n. SomeSquare-same (omega (arith, h)) (λ i j. ap (λ z. picture (g.S.Squares.content c.args.squares.now) z i j) in_order) n)

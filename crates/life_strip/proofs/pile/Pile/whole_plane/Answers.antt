@@ -1,7 +1,7 @@
 use Rattle.std.proofs.Common.{arith, refl, sym, ◌∙◌, ap, subst}
-use Rattle.std.proofs.lemmas.Result.{err_from_is_err_and}
+use Rattle.life_quad.proofs.GrowsLemmas.{grows-err, grows-ok}
 use Rattle.life_strip.specs.Picture.{picture, height, AreStacked}
-use Rattle.life_strip.proofs.NeededLemmas.{err_again, SomeSquare-same}
+use Rattle.life_strip.proofs.NeededLemmas.{SomeSquare-same}
 use Rattle.life_strip.proofs.BandPictures.{band-over}
 use Rattle.life_strip.proofs.pile.Pile.whole_plane.Goals as goal
 
@@ -19,17 +19,6 @@ whole-requires-clause-strips g c =
     subst (AreStacked (g.S.Squares.knows c.end_row.new.squares) (g.S.Squares.content c.end_row.new.squares)) (sym c.as_slice.ensures.value)
     c.in_ok-end_row.ensures.pile.strips
 
-pub returns-in_err-end_row-clause-keeps : goal.returns-in_err-end_row-clause-keeps
-returns-in_err-end_row-clause-keeps g c = c.in_err-end_row.ensures.keeps
-
-pub returns-in_err-end_row-clause-needed : goal.returns-in_err-end_row-clause-needed
-returns-in_err-end_row-clause-needed g c =
-    let p = err_from_is_err_and c.from_residual.result c.from_residual.ensures.1 in
-    rw (p.1, p.2) (λ e. SomeSquare-same (omega (arith, c.requires.whole)) (λ i j. refl) (c.in_err-end_row.ensures.needed (err_again e)))
-
-pub returns-clause-keeps : goal.returns-clause-keeps
-returns-clause-keeps g c = c.in_ok-end_row.ensures.keeps
-
 pub whole-requires-clause-full : goal.whole-requires-clause-full
 whole-requires-clause-full g c =
     let r = c.in_ok-end_row.ensures in
@@ -43,3 +32,12 @@ returns-clause-cells g c i j li lj =
     let r = c.in_ok-end_row.ensures in
     let alone = band-over (g.S.Squares.knows c.end_row.new.squares) C c.end_row.new.self r.pile (r.height ∙ c.requires.whole) in
     c.whole.ensures.cells i j li lj ∙ ap (λ z. picture C z i j) (c.as_slice.ensures.value ∙ sym alone) ∙ r.picture i j
+
+pub returns-in_err-end_row-clause-grows : goal.returns-in_err-end_row-clause-grows
+returns-in_err-end_row-clause-grows g c =
+    grows-err _ c.in_err-end_row.ensures.grows c.from_residual.ensures.1
+    (λ P n. SomeSquare-same (omega (arith, c.requires.whole)) (λ i j. refl) n)
+
+pub returns-clause-grows : goal.returns-clause-grows
+returns-clause-grows g c =
+    grows-ok _ c.in_ok-end_row.ensures.grows (λ P n. SomeSquare-same (omega (arith, c.requires.whole)) (λ i j. refl) n)

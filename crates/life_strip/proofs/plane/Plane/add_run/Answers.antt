@@ -1,12 +1,16 @@
-use Rattle.std.proofs.Common.{◌≡◌, ◌+◌, ◌^◌, ◌++◌, ◌∷◌, [], sym, ◌∙◌, ap, subst, arith}
+use Rattle.std.proofs.Common.{ℕ, ℤ, pos, nat_abs, ◌+ℤ◌, ◌≡◌, ◌+◌, ◌^◌, ◌++◌, ◌∷◌, [], sym, ◌∙◌, ap, subst, arith}
 use Rattle.std.specs.Prelude.{if◌then◌else◌}
 use Rattle.std.proofs.lemmas.Int.{ints}
-use Rattle.life_base.specs.Tree.{depth}
+use Rattle.life_base.specs.Tree.{Tree, depth}
+use Rattle.life_quad.proofs.KeepingLemmas.{adds-as}
+use Rattle.life_quad.proofs.GrowsLemmas.{grows-err, grows-still}
 use Rattle.life_quad.specs.Span.{is_in_span}
 use Rattle.life_strip.specs.declared.spans.Strip.{Strip}
 use Rattle.life_strip.specs.Strip.{IsStrip, AreBefore, AreWithin}
 use Rattle.life_strip.specs.Picture.{picture, height}
 use Rattle.life_strip.specs.Pile.{strips_of}
+use Rattle.life_strip.specs.Given.{half_plane}
+use Rattle.life_strip.specs.Needed.{SomeSquare}
 use Rattle.life_strip.specs.Plane.{state_so_far}
 use Rattle.life_base.specs.declared.cell.TheConstants.{MAX_LEVEL}
 use Rattle.life_strip.proofs.SpanLemmas.{before_more, extended-columns}
@@ -51,12 +55,6 @@ returns-clause-cells g c =
 
 pub go_to_row-requires-clause-filled : goal.go_to_row-requires-clause-filled
 go_to_row-requires-clause-filled g c = c.requires.filled
-
-pub returns-in_err-go_to_row-clause-keeps : goal.returns-in_err-go_to_row-clause-keeps
-returns-in_err-go_to_row-clause-keeps g c = c.in_err-go_to_row.ensures.keeps
-
-pub returns-clause-keeps : goal.returns-clause-keeps
-returns-clause-keeps g c = c.in_ok-go_to_row.ensures.keeps
 
 pub returns-clause-filled : goal.returns-clause-filled
 returns-clause-filled g c =
@@ -108,3 +106,22 @@ returns-clause-beside g c =
     c.args.run.x c.args.run.y i c.offset-column.result c.offset-row.result c.args.run.len
     ex ey c.in_ok-go_to_row.ensures.rows (λ k d lt. ((extended (begun g c)).before k d lt).1) beside)
     c.extend.ensures.columns
+
+-- the row of a run, counted from the edge of the plane
+of-row : (state : ℕ → ℕ → ℕ) (row : ℕ) (y : ℤ) → pos row ≡ y → (P : Tree → Type 0) → SomeSquare P row state → SomeSquare P (nat_abs y) state
+of-row state row y same P n = subst (λ z. SomeSquare P (nat_abs z) state) same n
+
+pub returns-in_err-go_to_row-clause-grows : goal.returns-in_err-go_to_row-clause-grows
+returns-in_err-go_to_row-clause-grows g c =
+    grows-err _ c.in_err-go_to_row.ensures.grows c.from_residual.ensures.1
+    (of-row (state_so_far (g.S.Squares.content c.args.squares.now) c.args.self.now) c.offset-row.result (c.args.run.y +ℤ pos half_plane)
+    (row_of_run c.args.run c.offset-row.result c.requires.inside c.offset-row.ensures))
+
+pub returns-clause-grows : goal.returns-clause-grows
+returns-clause-grows g c =
+    let row = c.in_ok-go_to_row.ensures.grows in
+    grows-still _ row.keeps
+    (adds-as _ row.adds
+    (of-row (state_so_far (g.S.Squares.content c.args.squares.now) c.args.self.now) c.offset-row.result (c.args.run.y +ℤ pos half_plane)
+    (row_of_run c.args.run c.offset-row.result c.requires.inside c.offset-row.ensures)))
+    c.extend.ensures.refusals

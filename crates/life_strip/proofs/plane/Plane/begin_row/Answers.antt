@@ -1,5 +1,8 @@
-use Rattle.std.proofs.Common.{◌++◌, ◌∷◌, [], ◌∙◌, ap, refl, sym, subst, arith}
-use Rattle.std.proofs.lemmas.Result.{err_from_is_err_and}
+use Rattle.std.proofs.Common.{◌≡◌, ℕ, ◌≤◌, List, ◌++◌, ◌∷◌, [], ◌∙◌, ap, refl, sym, subst, arith, rules}
+use Rattle.life_base.specs.Tree.{Tree}
+use Rattle.life_quad.specs.declared.id.Id.{Id}
+use Rattle.life_quad.proofs.GrowsLemmas.{grows-err, grows-ok, grows-same}
+use Rattle.life_strip.specs.declared.spans.Strip.{Strip}
 use Rattle.life_strip.specs.Picture.{picture, IsRow}
 use Rattle.life_strip.specs.Needed.{SomeSquare}
 use Rattle.life_strip.specs.Pile.{strips_of}
@@ -19,12 +22,6 @@ end_row-requires-clause-row g c =
 pub end_row-requires-clause-room : goal.end_row-requires-clause-room
 end_row-requires-clause-room g c = omega (arith, c.requires.filled.rows, c.requires.later, c.requires.inside)
 
-pub returns-in_err-end_row-clause-keeps : goal.returns-in_err-end_row-clause-keeps
-returns-in_err-end_row-clause-keeps g c = c.in_err-end_row.ensures.keeps
-
-pub returns-clause-keeps : goal.returns-clause-keeps
-returns-clause-keeps g c = c.in_ok-end_row.ensures.keeps
-
 pub returns-clause-picture : goal.returns-clause-picture
 returns-clause-picture g c i j =
     picture-blank (g.S.Squares.content c.end_row.new.squares) (strips_of c.end_row.new.self) c.replace-begun.new.dest
@@ -33,11 +30,23 @@ returns-clause-picture g c i j =
     ∙ ap (λ s. picture (g.S.Squares.content c.args.squares.now) (strips_of c.args.self.now.pile ++ s ∷ []) i j)
     c.replace-begun.ensures.value
 
-pub returns-in_err-end_row-clause-needed : goal.returns-in_err-end_row-clause-needed
-returns-in_err-end_row-clause-needed g c =
-    let p = err_from_is_err_and c.from_residual-in_err-end_row.result c.from_residual-in_err-end_row.ensures.1 in
-    rw (p.1, p.2)
-    (λ e. subst (λ s. SomeSquare (g.S.Squares.needs_node c.end_row.new.squares) c.args.row
-    (picture (g.S.Squares.content c.args.squares.now) (strips_of c.args.self.now.pile ++ s ∷ [])))
-    c.replace-begun.ensures.value (SomeSquare-same (omega (arith, c.requires.filled.rows, c.requires.later)) (λ i j. refl)
-    (c.in_err-end_row.ensures.needed e)))
+-- a square of the rows that are over and of the row before is one of the plane so far
+of-rows : (content : Id → Tree) (xs : List Strip) (begun row : Strip) (rows all : ℕ) → begun ≡ row → rows ≤ all → (P : Tree → Type 0)
+    → SomeSquare P rows (picture content (xs ++ begun ∷ [])) → SomeSquare P all (picture content (xs ++ row ∷ []))
+of-rows content xs begun row rows all same le P n =
+    subst (λ s. SomeSquare P all (picture content (xs ++ s ∷ []))) same (SomeSquare-same le (λ i j. refl) n)
+
+pub returns-in_err-spans-clause-grows : goal.returns-in_err-spans-clause-grows
+returns-in_err-spans-clause-grows g c = grows-same _ c.args.squares.now (search rules)
+
+pub returns-in_err-end_row-clause-grows : goal.returns-in_err-end_row-clause-grows
+returns-in_err-end_row-clause-grows g c =
+    grows-err _ c.in_err-end_row.ensures.grows c.from_residual-in_err-end_row.ensures.1
+    (of-rows (g.S.Squares.content c.args.squares.now) (strips_of c.args.self.now.pile) _ _ _ c.args.row c.replace-begun.ensures.value
+    (omega (arith, c.requires.filled.rows, c.requires.later)))
+
+pub returns-clause-grows : goal.returns-clause-grows
+returns-clause-grows g c =
+    grows-ok _ c.in_ok-end_row.ensures.grows
+    (of-rows (g.S.Squares.content c.args.squares.now) (strips_of c.args.self.now.pile) _ _ _ c.args.row c.replace-begun.ensures.value
+    (omega (arith, c.requires.filled.rows, c.requires.later)))

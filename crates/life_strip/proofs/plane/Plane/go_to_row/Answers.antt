@@ -1,5 +1,5 @@
-use Rattle.life_quad.proofs.KeepingLemmas.{keeps-same}
+use Rattle.life_quad.proofs.GrowsLemmas.{grows-same}
 use Rattle.life_strip.proofs.plane.Plane.go_to_row.Goals as goal
 
-pub returns-then-self-row-clause-keeps : goal.returns-then-self-row-clause-keeps
-returns-then-self-row-clause-keeps g c = keeps-same c.args.squares.now
+pub returns-then-self-row-clause-grows : goal.returns-then-self-row-clause-grows
+returns-then-self-row-clause-grows g c = grows-same _ c.args.squares.now tt

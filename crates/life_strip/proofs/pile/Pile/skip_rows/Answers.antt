@@ -1,0 +1,123 @@
+use Rattle.std.proofs.Common.{◌≡◌, ℕ, ◌+◌, ◌-◌, ◌^◌, ◌≤◌, ◌++◌, ◌∷◌, [], List, refl, sym, ◌∙◌, ap, subst, arith}
+use Rattle.life_base.specs.Tree.{Tree}
+use Rattle.life_quad.specs.declared.id.Id.{Id}
+use Rattle.life_quad.proofs.KeepingLemmas.{keeps-then, keeps-same, adds-none, adds-then}
+use Rattle.life_quad.proofs.GrowsLemmas.{grows-behind, grows-err, grows-still}
+use Rattle.life_strip.specs.declared.spans.Strip.{Strip}
+use Rattle.life_strip.specs.Pile.{strips_of}
+use Rattle.life_strip.specs.Picture.{picture, height, IsLowest}
+use Rattle.life_strip.specs.Needed.{SomeSquare}
+use Rattle.life_strip.proofs.NeededLemmas.{SomeSquare-same}
+use Rattle.life_strip.proofs.PictureLemmas.{picture-blank}
+use Rattle.life_strip.proofs.BandPictures.{no-rows, none_of, four-divides, lowest-more, pile-alone}
+use Rattle.life_strip.proofs.pile.Pile.skip_rows.Goals as goal
+
+-- a blank strip that is put below strips without rows changes no cell
+skipped : (content new : Id → Tree) (xs ys zs : List Strip) (s : Strip) → ys ≡ [] → s.spans.items ≡ []
+    → ((i j : ℕ) → picture new zs i j ≡ picture content (xs ++ s ∷ []) i j)
+    → (i j : ℕ) → picture new (zs ++ ys) i j ≡ picture content (xs ++ ys) i j
+skipped content new xs ys zs s none blank cells i j =
+    ap (λ z. picture new z i j) (no-rows zs ys none) ∙ cells i j ∙ picture-blank content xs s blank i j
+    ∙ sym (ap (λ z. picture content z i j) (no-rows xs ys none))
+
+skipped-height : (xs ys zs : List Strip) (n : ℕ) → ys ≡ [] → height zs ≡ height xs + n → height (zs ++ ys) ≡ height (xs ++ ys) + n
+skipped-height xs ys zs n none e =
+    let h = ap height (no-rows xs ys none) in
+    let k = ap height (no-rows zs ys none) in
+    omega (arith, h, k, e)
+
+-- a square of some rows and of a blank strip below them is one of all rows
+of-all : (now old : Id → Tree) (xs all : List Strip) (s : Strip) (rows most : ℕ) → s.spans.items ≡ [] → rows ≤ most
+    → ((i j : ℕ) → picture now xs i j ≡ picture old all i j) → (P : Tree → Type 0) → SomeSquare P rows (picture now (xs ++ s ∷ []))
+    → SomeSquare P most (picture old all)
+of-all now old xs all s rows most blank le same P n = SomeSquare-same le (λ i j. picture-blank now xs s blank i j ∙ same i j) n
+
+-- the cells of strips below which no rows are
+alone : (now old : Id → Tree) (xs ys all : List Strip) → ys ≡ [] → ((i j : ℕ) → picture now (xs ++ ys) i j ≡ picture old all i j)
+    → (i j : ℕ) → picture now xs i j ≡ picture old all i j
+alone now old xs ys all none same i j = sym (ap (λ z. picture now z i j) (no-rows xs ys none)) ∙ same i j
+
+pub loop-rest-init : goal.loop-rest-init
+loop-rest-init g c =
+    let store = c.args.squares.now in
+    record { pile = c.requires.pile; rows = refl; cells = λ i j. refl; keeps = keeps-same store; adds = adds-none _ store }
+
+pub returns-clause-grows : goal.returns-clause-grows
+returns-clause-grows g c = let inv = c.loop-rest.invariant in grows-still _ inv.keeps inv.adds tt
+
+pub returns-in_err-push_row-clause-grows : goal.returns-in_err-push_row-clause-grows
+returns-in_err-push_row-clause-grows g c =
+    let C = g.S.Squares.content in
+    let inv = c.loop-rest.invariant in
+    let all = strips_of c.args.self.now in
+    let M = λ (P : Tree → Type 0). SomeSquare P (height all + c.args.count) (picture (C c.args.squares.now) all) in
+    grows-err M (grows-behind M inv.keeps inv.adds c.in_err-push_row.ensures.grows
+    (of-all (C c.loop-rest.squares) (C c.args.squares.now) (strips_of c.loop-rest.self) all (record { level = 0; spans = c.new.result }) _
+    (height all + c.args.count) c.new.ensures.items (omega (arith, inv.rows, c.loop-rest-test.true)) inv.cells))
+    c.from_residual.ensures.1 (λ P n. n)
+
+pub loop-rest-preserved-then-rest-lt4 : goal.loop-rest-preserved-then-rest-lt4
+loop-rest-preserved-then-rest-lt4 g c =
+    let C = g.S.Squares.content in
+    let inv = c.loop-rest.invariant in
+    let row = c.in_ok-push_row.ensures in
+    let all = strips_of c.args.self.now in
+    let xs = strips_of c.loop-rest.self in
+    let s : Strip = record { level = 0; spans = c.new.result } in
+    record {
+      pile = row.pile;
+      rows = omega (arith, row.height, inv.rows, c.loop-rest-test.true);
+      cells = λ i j. row.picture i j ∙ picture-blank (C c.loop-rest.squares) xs s c.new.ensures.items i j ∙ inv.cells i j;
+      keeps = keeps-then inv.keeps row.grows.keeps;
+      adds = adds-then _ inv.adds row.grows.adds (λ P n. n)
+          (of-all (C c.loop-rest.squares) (C c.args.squares.now) xs all s _ (height all + c.args.count) c.new.ensures.items
+          (omega (arith, inv.rows, c.loop-rest-test.true)) inv.cells);
+    }
+
+pub returns-in_err-push_strip-clause-grows : goal.returns-in_err-push_strip-clause-grows
+returns-in_err-push_strip-clause-grows g c =
+    let C = g.S.Squares.content in
+    let inv = c.loop-rest.invariant in
+    let all = strips_of c.args.self.now in
+    let xs = c.loop-rest.self.strips.items in
+    let ys = c.loop-rest.self.band.items in
+    let empty = none_of ys (grind (arith, c.is_empty.ensures, c.if-not-is_empty.false)) in
+    let h = ap height (no-rows xs ys empty) in
+    let M = λ (P : Tree → Type 0). SomeSquare P (height all + c.args.count) (picture (C c.args.squares.now) all) in
+    grows-err M (grows-behind M inv.keeps inv.adds c.in_err-push_strip.ensures.grows
+    (of-all (C c.loop-rest.squares) (C c.args.squares.now) xs all (record { level = c.blank_level-level.result; spans = c.new-in-loop-rest.result }) _
+    (height all + c.args.count) c.new-in-loop-rest.ensures.items (omega (arith, h, inv.rows, c.blank_level-level.ensures.fits))
+    (alone (C c.loop-rest.squares) (C c.args.squares.now) xs ys all empty inv.cells)))
+    c.from_residual-in_err-push_strip.ensures.1 (λ P n. n)
+
+pub loop-rest-preserved : goal.loop-rest-preserved
+loop-rest-preserved g c =
+    let K = g.S.Squares.knows in
+    let C = g.S.Squares.content in
+    let now = c.loop-rest.squares in
+    let new = c.push_strip.new.squares in
+    let inv = c.loop-rest.invariant in
+    let pile = c.loop-rest.self in
+    let all = strips_of c.args.self.now in
+    let xs = pile.strips.items in
+    let ys = pile.band.items in
+    let zs = c.push_strip.new.strips.items in
+    let empty = none_of ys (grind (arith, c.is_empty.ensures, c.if-not-is_empty.false)) in
+    let level = c.blank_level-level.result in
+    let s : Strip = record { level = level; spans = c.new-in-loop-rest.result } in
+    let blank = c.new-in-loop-rest.ensures.items in
+    let deep = c.blank_level-level.ensures.largest 2 (subst (IsLowest 2) (sym c.as_slice.ensures.value) inv.pile.lowest) (omega arith)
+    (omega (arith, c.if-rest-lt4.false)) in
+    let r = c.in_ok-push_strip.ensures in
+    let e = ap height (no-rows xs ys empty) in
+    let h = skipped-height xs ys zs (2 ^ level) empty r.height in
+    record {
+      pile = pile-alone (K new) (C new) (record pile { spare = c.push_strip.new.spare; strips = c.push_strip.new.strips }) empty r.strips
+          (lowest-more xs zs (2 ^ level) (2 ^ (level - 2)) inv.pile.lowest r.strips.falling r.height (four-divides level deep));
+      rows = omega (arith, h, inv.rows, c.blank_level-level.ensures.fits);
+      cells = λ i j. skipped (C now) (C new) xs ys zs s empty blank r.picture i j ∙ inv.cells i j;
+      keeps = keeps-then inv.keeps r.grows.keeps;
+      adds = adds-then _ inv.adds r.grows.adds (λ P n. n)
+          (of-all (C now) (C c.args.squares.now) xs all s _ (height all + c.args.count) blank
+          (omega (arith, e, inv.rows, c.blank_level-level.ensures.fits)) (alone (C now) (C c.args.squares.now) xs ys all empty inv.cells));
+    }
