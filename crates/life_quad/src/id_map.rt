@@ -20,6 +20,7 @@ const NODES: u64 = FIRST_NODE / PAGE;
 /// The first room of a map is for the places of the small squares and of the first nodes, and for four pages. A pattern of a few squares
 /// needs no more, and asks for memory twice.
 const FIRST_PLACES: usize = NODES as usize + 2;
+
 const FIRST_VALUES: usize = 4 * PAGE as usize;
 
 /// What stands for the first index of a page that wasn't made: no value has it.
