@@ -1,7 +1,8 @@
 #!/usr/bin/env python3
 """Calls the shared library by ctypes, beside the program, on each file of a folder and on files that are refused, by each limit of a store in turn
-beside the independent reader, and from two threads at once; streams, fed in random pieces, beside the calls on whole files; and the forms of small and
-random files, their keys too, beside the independent reader. The last line is 'N passed, M failed'.
+beside the independent reader, with the limit that suffices for the bytes of a file, and from two threads at once; streams, fed in random pieces,
+beside the calls on whole files; and the forms of small and random files, their keys too, beside the independent reader. The last line is
+'N passed, M failed'.
 
 usage: tests/library/library.py PROGRAM FOLDER"""
 
@@ -78,6 +79,9 @@ MOVED = {
     "cells at the ends of the plane": (b"#CXRLE Pos=-2305843009213693952,777\nx = 1, y = 1\no4611686018427387902bo!\n", 246, 309),
     "no header": (b"o!\n", 0, 66),
 }
+
+# How many random files of each kind are read with the room that suffices for their bytes.
+ROOM_FILES = 200
 
 # Each call on a whole file, and what opens a stream that ends with its answer.
 CALLS = {
@@ -242,6 +246,59 @@ def check_limits():
         check(first == least, f"each limit: {what}: {first} and not {least}")
 
 
+def room_for(*files):
+    """A limit that suffices to read files, as the header says."""
+    return sum(14 * len(file) + 264 for file in files)
+
+
+def pairs_of_rows(level):
+    """An RLE file of pairs of rows, the one above and the other below each multiple of 2^level, of two cells left and two right of column 0. No files are
+    known that need more squares for their bytes: for some 26 of them four on each level up to this one."""
+    states, row = random.Random(56), -(2**61)
+    body = b""
+    for multiple in range(-(2**61) + 2**level, 2**61, 2**level):
+        four = bytes(states.choice(b"ABCDEFGHIJKLMNOPQRSTUVWX") for _ in range(4))
+        body += b"%d$%b$%b" % (multiple - 1 - row, four[:2], four[2:])
+        row = multiple
+    return b"#CXRLE Pos=-1,%d\nx = 0, y = 0, rule = F\n%b!\n" % (-(2**61), body)
+
+
+def files_of_a_kind(make, is_named):
+    """Random files of a format, under names or B/S rules."""
+    source = random.Random(f"{make.__name__} {is_named}")
+    found = []
+    while len(found) < ROOM_FILES:
+        rule, greatest = random_files.rule_text(source)
+        if (greatest > 1) == is_named:
+            found.append(make(source, rule, greatest))
+    return found
+
+
+def check_room():
+    """A limit of 14 squares for each byte and 264 is never Full, in each call that only reads, nor for two files the sum of both. Eight squares for
+    each byte don't suffice: the pairs of rows show it."""
+    reading = {word: CALLS[word] for word in ("canon", "show", "to_rle")}
+    kinds = {f"{make.__name__}, {'names' if is_named else 'B/S rules'}": files_of_a_kind(make, is_named)
+             for make in (random_files.rle_file, random_files.macrocell_file) for is_named in (False, True)}
+    kinds["the worked files"] = [file for file, _ in WORKED.values()]
+    for kind, files in kinds.items():
+        full = []
+        for at, file in enumerate(files):
+            calls = [call for whole, opened in reading.values() for call in (whole, by_stream(opened, at))]
+            full += [file for call in calls if outcome_of(call, file, room_for(file)) in (None, (b"", "Full\n"))]
+            both = outcome_of(compared_with(files[at - 1]), file, room_for(file, files[at - 1]))
+            full += [file] if both in (None, (b"", "Full\n")) else []
+        check(not full, f"room for {kind}: {full[:1]}")
+        some = sum(outcome_of(library.golly_canon_canon, file, 0) == (b"", "Full\n") for file in files)
+        check(some * 4 > len(files), f"of {len(files)} files ({kind}) only {some} need room")
+    for level in (55, 56, 57):
+        file = pairs_of_rows(level)
+        for word, (whole, opened) in reading.items():
+            for call in (whole, by_stream(opened, level)):
+                enough, too_few = (outcome_of(call, file, limit) for limit in (room_for(file), 8 * len(file)))
+                check(enough and enough[1] == "" and too_few == (b"", "Full\n"), f"room for pairs of rows about multiples of 2^{level}: {word}")
+
+
 def text_in(data, form):
     """The text of a file in a form, as the independent reader has it."""
     file = commands.File(data)
@@ -346,6 +403,7 @@ def main(program, folder):
 
     check_streams(files)
     check_limits()
+    check_room()
     check_forms()
 
     # Two threads at once: ctypes lets go of the interpreter while a call runs. Each stream stays with its thread.
