@@ -103,6 +103,7 @@ impl Pile {
     }
 
     // Rows without cells, in the fewest strips.
+    #[inline(always)]
     fn skip_rows<S: Squares>(&mut self, squares: &mut S, count: u64) -> Result<(), Kind>
         requires pile { IsPile (S.knows squares.old) (S.content squares.old) self.old }
         requires room { height (strips_of self.old) + count ≤ 2 ^ MAX_LEVEL }

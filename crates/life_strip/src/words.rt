@@ -85,6 +85,7 @@ pub(crate) fn read_word<S: Squares>(
 }
 
 // The words of two rows.
+#[inline(always)]
 pub(crate) fn two_words<S: Squares>(
     squares: &S,
     upper: &[Span],
