@@ -18,7 +18,7 @@ add_run-requires-clause-next g c =
     (c.loop-cell.invariant.next _ (slice_get-get_or _ _ _ c.loop-cell-test.true) last e)
 
 pub returns-in_err-add_run-clause-keeps : goal.returns-in_err-add_run-clause-keeps
-returns-in_err-add_run-clause-keeps g c = keeps-then c.loop-cell.invariant.keeps c.in_err-add_run.ensures.keeps
+returns-in_err-add_run-clause-keeps g c = keeps-then c.loop-cell.invariant.keeps c.in_err-add_run.ensures.grows.keeps
 
 pub returns-clause-cells : goal.returns-clause-cells
 returns-clause-cells g c =
@@ -34,7 +34,7 @@ loop-cell-preserved g c = record {
   next = λ d e. c.in_ok-add_run.ensures.next _ _
       (next-run (to_z w64 (of_z w64 c.args.columns)) (to_z w64 (of_z w64 c.args.rows)) c.args.cells.now c.loop-cell.cell-index _ d c.moved_run.result
       c.moved_run.ensures c.requires.order e);
-  keeps = keeps-then c.loop-cell.invariant.keeps c.in_ok-add_run.ensures.keeps;
+  keeps = keeps-then c.loop-cell.invariant.keeps c.in_ok-add_run.ensures.grows.keeps;
 }
 
 pub returns-in_err-add_run-clause-needed : goal.returns-in_err-add_run-clause-needed
@@ -45,11 +45,11 @@ returns-in_err-add_run-clause-needed g c =
     rw (p.1, p.2)
     (λ e. inl (subst₂ (λ (m n : ℤ). SomeOfRuns P (moved_runs m n cells)) (to_z-of_z c.ranges.columns) (to_z-of_z c.ranges.rows)
     (runs-above P (to_z w64 (of_z w64 c.args.columns)) (to_z w64 (of_z w64 c.args.rows)) cells c.loop-cell.builder.runs c.loop-cell.cell-index _
-    c.moved_run.result c.loop-cell-test.true c.loop-cell.invariant.runs c.moved_run.ensures (c.in_err-add_run.ensures.needed (full-again _ e)))))
+    c.moved_run.result c.loop-cell-test.true c.loop-cell.invariant.runs c.moved_run.ensures (c.in_err-add_run.ensures.grows.needed (full-again _ e)))))
 
 pub returns-clause-needed : goal.returns-clause-needed
 returns-clause-needed g c = λ e.
     let P = g.S.Squares.needs_node c.finish.new.squares in
     let all = c.loop-cell.invariant.runs ∙ (λ i. moved_runs (to_z-of_z c.ranges.columns i) (to_z-of_z c.ranges.rows i)
     (take_all _ c.args.cells.now c.loop-cell-test.false i)) in
-    inr (subst (λ (runs : List Run). SomeSquare P (2 ^ MAX_LEVEL) (by_columns (state_by runs))) all (c.finish.ensures.needed e))
+    inr (subst (λ (runs : List Run). SomeSquare P (2 ^ MAX_LEVEL) (by_columns (state_by runs))) all (c.finish.ensures.grows.needed e))

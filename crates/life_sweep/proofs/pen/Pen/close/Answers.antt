@@ -16,4 +16,4 @@ returns-in_err-add_run-clause-needed g c =
     let p = err_from_is_err_and c.from_residual.result c.from_residual.ensures.1 in
     rw (p.1, p.2)
     (λ e. subst (λ (o : Option Run). SomeAbove P (runs ++ open_runs o)) (sym c.in-Some.is)
-    (open-needs P runs run c.requires.holding.filling.order opened (c.in_err-add_run.ensures.needed e)))
+    (open-needs P runs run c.requires.holding.filling.order opened (c.in_err-add_run.ensures.grows.needed e)))
