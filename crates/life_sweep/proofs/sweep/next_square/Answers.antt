@@ -147,13 +147,13 @@ returns-in_err-finish-clause-needed g c =
     all-needs (g.S.Squares.needs_node c.finish.new.squares) (g.L.Law.answers c.args.law.now) plane (drawn_runs c.loop-band.pen) c.loop-band.leaves
     c.if-leaves.false
     (all-rows _ plane _ _ _ (g.met.L.Law.quiet c.args.law.now) over s.1)
-    (c.in_err-finish.ensures.grows.needed (full-kind c.in_err-finish.field-0.0 full)))
+    (c.in_err-finish.ensures.needed (full-kind c.in_err-finish.field-0.0 full)))
 
 pub returns-in_err-leaves-clause-keeps : goal.returns-in_err-leaves-clause-keeps
 returns-in_err-leaves-clause-keeps g c = keeps-then c.loop-band.invariant.keeps c.in_err-leaves.ensures.keeps
 
 pub returns-in_err-finish-clause-keeps : goal.returns-in_err-finish-clause-keeps
-returns-in_err-finish-clause-keeps g c = keeps-then c.loop-band.invariant.keeps c.in_err-finish.ensures.grows.keeps
+returns-in_err-finish-clause-keeps g c = keeps-then c.loop-band.invariant.keeps c.in_err-finish.ensures.keeps
 
 pub returns-clause-keeps : goal.returns-clause-keeps
-returns-clause-keeps g c = keeps-then c.loop-band.invariant.keeps c.in_ok-finish.ensures.grows.keeps
+returns-clause-keeps g c = keeps-then c.loop-band.invariant.keeps c.in_ok-finish.ensures.keeps
