@@ -2,7 +2,6 @@
 use Rattle.std.proofs.Common.{◌≡◌, ◌≢◌, ℕ, ◌+◌, ◌<◌, ◌≤◌, false, List, [], ◌++◌, length, arith, inl, inr, AllPairs}
 use Rattle.std.specs.Prelude.{Contains}
 use Rattle.life_base.specs.Lines.{whole_lines}
-use Rattle.life_base.specs.Text.{lines_of}
 use Rattle.life_base.specs.Tree.{Tree, is_blank_tree}
 use Rattle.life_base.specs.declared.cell.TheConstants.{MAX_LEVEL}
 use Rattle.life_quad.specs.Store.{Nodes, held}

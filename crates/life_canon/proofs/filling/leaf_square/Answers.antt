@@ -1,5 +1,5 @@
 -- A square of four that are made one behind the other: what the five calls store, and where a refused one is missing.
-use Rattle.std.proofs.Common.{◌≡◌, ◌∙◌, inl, inr, subst}
+use Rattle.std.proofs.Common.{◌∙◌, inl, inr, subst}
 use Rattle.life_base.specs.Tree.{Tree, quad}
 use Rattle.life_mc.specs.Squares.{leaf_tree}
 use Rattle.life_quad.specs.Refused.{SomePart}
