@@ -63,7 +63,7 @@ impl Reader {
     /// each Id of the store names the square that it named.
     ///
     /// The calls of one reader aren't `Full` where the limit of the store is `14 * length + 264` squares above those that it held before the
-    /// first byte, or more, with the length of all bytes that are fed (`laws::fronts_hold`).
+    /// first byte and those that other calls have stored since, or more, with the length of all bytes that are fed (`laws::fronts_hold`).
     pub fn feed(&mut self, store: &mut Shared, piece: &[u8]) -> Result<(), Fault>
         requires { self.old.spent ≡ false → Stands store.old self.old }
         ensures bytes { OnOk result (self.new.bytes ≡ self.old.bytes ++ piece.now) }
@@ -101,7 +101,7 @@ impl Reader {
                 Ok(())
             }
             Err(fault) => {
-                // Its contract tells the proof that a store holds each square once, and none that is blank.
+                // Its contract says that a store holds each square once, and none that is blank. The proof counts them.
                 let _ = store.len();
                 Err(fault)
             }
@@ -113,8 +113,8 @@ impl Reader {
     /// # Errors
     ///
     /// The fault of the last line where no line feed ends it, or `NoHeader` where the file lacks a header; `Full` or `Memory`;
-    /// `Spent` after an error of `feed`. After an error too each Id of the store names the square that it named. For `14 * length + 264`
-    /// squares more than the store held before the first byte its limit suffices, as in `feed`.
+    /// `Spent` after an error of `feed`. After an error too each Id of the store names the square that it named. A limit of
+    /// `14 * length + 264` squares more suffices, as in `feed`.
     pub fn finish(self, store: &mut Shared) -> Result<Pattern, Fault>
         requires { self.spent ≡ false → Stands store.old self }
         ensures pattern { IfOk result
@@ -134,6 +134,7 @@ impl Reader {
             return Err(Fault::of(Kind::Spent));
         }
         let answer = front.finish(store);
+        // As in `feed`.
         let _ = store.len();
         answer
     }

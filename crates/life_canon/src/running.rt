@@ -138,7 +138,8 @@ pub fn read_from<R: Source>(
         (source_run R.remaining R.failures source.old source.new) }
     ensures adds { AddsForRead (R.remaining source.old) store.old store.new }
     ensures room { result ≡ Err (fault_of Kind.Full)
-        → IsTightForRead (2 ^ 30) store.old (source_run R.remaining R.failures source.old source.new) }
+        → IsTightForRead (2 ^ 30) store.old
+        (source_run R.remaining R.failures source.old source.new) }
     ensures told { R.failures source.new ≡ 1
         → IsErrAnd result (λ fault. fault.kind ≡ Kind.ReadFault) }
     ensures keeps { Keeps store.old store.new }
@@ -220,7 +221,8 @@ pub fn run_canon<R: Source, W: Sink>(
         (source_run R.remaining R.failures reader.old reader.new) }
     ensures adds { AddsForRead (R.remaining reader.old) store.old store.new }
     ensures room { result ≡ Err (fault_of Kind.Full)
-        → IsTightForRead (2 ^ 30) store.old (source_run R.remaining R.failures reader.old reader.new) }
+        → IsTightForRead (2 ^ 30) store.old
+        (source_run R.remaining R.failures reader.old reader.new) }
     ensures unwritten { IfErr result
         (λ fault. fault.kind ≢ Kind.WriteFault → writer.new ≡ writer.old) }
     ensures read_told { R.failures reader.new ≡ 1
