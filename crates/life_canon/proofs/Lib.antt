@@ -26,6 +26,7 @@ mod RowFacts
 mod RunFacts
 mod GrowFacts
 mod NeedFacts
+mod OnlyFacts
 mod PatternFacts
 pub mod Fits
 mod RefusalKinds
@@ -43,4 +44,5 @@ mod RoomRoots
 mod RoomNodes
 mod RoomLaw
 mod RoomCount
+mod Adding
 mod Rows

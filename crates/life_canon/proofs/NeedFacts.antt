@@ -1,10 +1,10 @@
 -- The squares that a refused call lacked: of the root that is grown or trimmed, of runs, and of lines with more lines behind them.
-use Rattle.std.proofs.Common.{◌≡◌, ℕ, zero, suc, ◌+◌, ◌-◌, ◌<◌, ◌≤◌, true, List, [], ◌∷◌, ◌++◌, length, take, drop, get_or, max, ap, sym, ◌∙◌, subst, arith, append_assoc, drop-cons, ℤ, ◌+ℤ◌, pos}
+use Rattle.std.proofs.Common.{◌≡◌, ℕ, zero, suc, ◌+◌, ◌-◌, ◌<◌, ◌≤◌, true, List, [], ◌∷◌, ◌++◌, length, take, drop, get_or, max, ap, sym, ◌∙◌, subst, arith, append_assoc, drop-cons, refl, ℤ, ◌+ℤ◌, pos}
 use Rattle.std.specs.Prelude.{nat_abs}
 use Rattle.std.proofs.lemmas.List.{append-nil, take-append-drop}
 use Rattle.life_base.proofs.Squares.{depth-blank}
 use Rattle.life_base.specs.Lines.{has_no_feed, whole_lines}
-use Rattle.life_base.specs.Refusal.{fault_at, fault_of}
+use Rattle.life_base.specs.Refusal.{Prefix, fault_at, fault_of}
 use Rattle.life_base.specs.Text.{lines_of}
 use Rattle.life_base.specs.declared.cell.TheConstants.{MAX_LEVEL}
 use Rattle.life_base.specs.declared.cell.Run.{Run}
@@ -12,8 +12,10 @@ use Rattle.life_base.specs.declared.fault.Fault.{Fault}
 use Rattle.life_base.specs.declared.kind.Kind.{Kind}
 use Rattle.life_base.specs.declared.kind.Kind.TheVariants.{Full}
 use Rattle.life_base.specs.Tree.{Tree, point, quad, depth, tree_cell, IsFull}
-use Rattle.life_base.proofs.WholeLines.{lines_are_whole}
+use Rattle.life_base.proofs.WholeLines.{lines_are_whole, lines_continue}
 use Rattle.life_base.specs.Lines.{rest_line, one_line}
+use Rattle.life_mc.specs.Reading.{Accepts, squares_of}
+use Rattle.life_mc.specs.declared.line.Line.{Line}
 use Rattle.life_rle.specs.File.{HasRuns}
 use Rattle.life_strip.specs.Given.{half_plane, state_by, by_columns}
 use Rattle.life_strip.specs.Needed.{SomeSquare}
@@ -24,7 +26,7 @@ use Rattle.life_canon.proofs.FrontFacts.{whole-at, end-says, end-lines}
 use Rattle.life_quad.proofs.LawLemmas.{trimming_stops}
 use Rattle.life_quad.specs.Moves.{grown, trimmed}
 use Rattle.life_quad.specs.Refused.{SomePart, TrimmedTo}
-use Rattle.life_canon.specs.Needs.{SomeOfRuns, SomeOfLines, of_node_line, of_runs, grown_times, SomeGrown, SomeRoot, trimmed_root, grown_root, SomeOfFile, of_lines, SomeAtEnd, of_plane, of_root}
+use Rattle.life_canon.specs.Needs.{SomeOfRuns, SomeOfLine, SomeOfLines, of_node_line, of_runs, grown_times, SomeGrown, SomeRoot, trimmed_root, grown_root, SomeOfFile, of_lines, SomeAtEnd, of_plane, of_root}
 use Rattle.life_canon.specs.Universe.{Universe, IsBlankOutside, centred, corner, least_level, whole}
 use Rattle.life_canon.proofs.Content.{least-one}
 use Rattle.life_canon.proofs.PatternFacts.{trimmed-whole}
@@ -125,6 +127,18 @@ more-lines P front more all e (of_node_line before line behind square whole pref
     (e ∙ ap (λ (ls : List (List ℕ)). ls ++ more) whole ∙ append_assoc before (line ∷ behind) more) prefix squares some
 more-lines P front more all e (of_runs begun behind runs whole are some) =
     of_runs begun (behind ++ more) runs (e ∙ ap (λ (ls : List (List ℕ)). ls ++ more) whole ∙ append_assoc begun behind more) are some
+
+-- more bytes behind them
+pub front-more : (P : Tree → Type 0) (bytes more : List ℕ) → SomeOfLines MAX_LEVEL P (whole_lines bytes) → SomeOfLines MAX_LEVEL P (whole_lines (bytes ++ more))
+front-more P bytes more s =
+    more-lines P (whole_lines bytes) (whole_lines (rest_line bytes ++ more)) (whole_lines (bytes ++ more)) (lines_continue bytes more).whole s
+
+-- a node line behind a front
+pub next-needs : (P : Tree → Type 0) (front all : List (List ℕ)) (line : List ℕ) (square : Line) → all ≡ front ++ line ∷ [] → Prefix (Accepts MAX_LEVEL) all
+    → squares_of all ≡ squares_of front ++ square ∷ [] → SomeOfLine P (squares_of front) square → SomeOfLines MAX_LEVEL P (front ++ line ∷ [])
+next-needs P front all line square e prefix squares some =
+    of_node_line front line [] square refl (subst (Prefix (Accepts MAX_LEVEL)) e prefix)
+    (subst (λ (ls : List (List ℕ)). squares_of ls ≡ squares_of front ++ square ∷ []) e squares) some
 
 -- the line that ends, and lines behind it
 pub ended-needs : (P : Tree → Type 0) (bytes kept end rest : List ℕ) (ended : ℕ) (lines : List (List ℕ)) → IsGoing bytes kept ended lines

@@ -1,17 +1,17 @@
 -- A store that lacks a square of a file has room left.
-use Rattle.std.proofs.Common.{◌≡◌, ℕ, List, ◌∷◌, ◌++◌, refl, subst, arith, inl, inr, length-append}
+use Rattle.std.proofs.Common.{◌≡◌, ◌≢◌, ℕ, ◌+◌, ◌≤◌, false, List, ◌∷◌, ◌++◌, length, refl, subst, arith, inl, inr, length-append, AllPairs}
 use Rattle.std.specs.Prelude.{Contains}
-use Rattle.life_base.specs.Tree.{Tree, point, quad}
+use Rattle.life_base.specs.Tree.{Tree, point, quad, is_blank_tree}
 use Rattle.life_base.specs.Text.{lines_of}
 use Rattle.life_base.specs.declared.cell.TheConstants.{MAX_LEVEL}
 use Rattle.life_mc.specs.declared.line.Line.{Line}
 use Rattle.life_mc.specs.declared.line.Line.TheVariants.{Leaf, Quad}
 use Rattle.life_mc.specs.Squares.{leaf_tree}
 use Rattle.life_quad.specs.Refused.{SomePart}
-use Rattle.life_quad.specs.Store.{held}
+use Rattle.life_quad.specs.Store.{Nodes, held}
 use Rattle.life_strip.specs.Needed.{SomeSquare}
 use Rattle.life_canon.specs.Needs.{SomeOfLine, SomeOfLines, of_node_line, of_runs, SomeRoot, trimmed_root, grown_root, of_plane, of_root, SomeOfFile, of_lines, at_end, IsNew}
-use Rattle.life_canon.specs.Room.{RoomSuffices}
+use Rattle.life_canon.specs.Room.{RoomSuffices, HoldsOnly, room_for}
 use Rattle.life_canon.specs.Universe.{Universe, centred, whole}
 use Rattle.life_canon.proofs.RoomLaw.{few_squares}
 use Rattle.life_canon.proofs.RoomLists.{Among, among-left, among-right, among-contains, contains-among, distinct-pairs, pigeons}
@@ -73,6 +73,23 @@ find-file P lines (at_end (of_plane u says rle s)) = found-as (λ Q k. at_end (o
 find-file P lines (at_end (of_root u says s)) = found-as (λ Q k. at_end (of_root u says k)) (find-root P u _ s)
 
 -- ---- the law
+
+-- a store holds no more than the list and the room for the file
+pub few-more : (bytes : List ℕ) (base : List Tree) (store : Nodes) → AllPairs ◌≢◌ (held store)
+    → ((t : Tree) → Contains (held store) t → is_blank_tree t ≡ false)
+    → HoldsOnly base bytes store → length (held store) ≤ length base + room_for (length bytes)
+few-more bytes base store distinct live only =
+    let few = few_squares bytes in
+    let have : (x : Tree) → Among (held store) x → Among (base ++ few.0) x = λ x h.
+    let c = contains-among (held store) x h in
+    elim (only x c) [
+      | inl b ↦ among-left base few.0 x (among-contains base x b)
+      | inr f ↦ among-right base few.0 x (among-contains few.0 x (few.2 x (live x c) f))
+    ] in
+    let all = pigeons (held store) (base ++ few.0) (distinct-pairs (held store) distinct) have in
+    let sum = length-append base few.0 in
+    let most = few.1 in
+    omega (arith, all, sum, most)
 
 pub room_suffices : RoomSuffices
 room_suffices bytes base store distinct live only lacks =

@@ -1,48 +1,58 @@
 -- How an input is read in pieces to its end.
 use Rattle.std.proofs.Common.{◌≡◌, ℕ, ◌+◌, ◌<◌, ◌≤◌, true, false, List, [], ◌++◌, length, take, refl, ap, sym, ◌∙◌, subst, arith, ◌⊎◌, inl, inr, Option, Some, None, length-append}
-use Rattle.std.specs.Prelude.{MatchOption, IfSome, Result, IfErr}
+use Rattle.std.specs.Prelude.{MatchOption, IfSome, Result, Ok, Err, IfErr}
 use Rattle.std.proofs.lemmas.Result.{IfErr-weaker}
 use Rattle.std.specs.Io.KnownBytes.{Consumes, IsAtEnd}
 use Rattle.std.proofs.KnownBytes.{Consumes-trans}
 use Rattle.std.proofs.lemmas.List.{append-nil}
 use Rattle.life_base.specs.Inputs.{ReadAll, CameBeyond}
+use Rattle.life_base.specs.Lines.{whole_lines}
 use Rattle.life_base.specs.Refusal.{fault_of}
 use Rattle.life_base.specs.Text.{lines_of}
+use Rattle.life_base.specs.Tree.{Tree}
 use Rattle.life_base.specs.declared.cell.TheConstants.{MAX_LEVEL}
 use Rattle.life_base.specs.declared.fault.Fault.{Fault}
 use Rattle.life_base.specs.declared.kind.Kind.{Kind}
 use Rattle.life_base.specs.declared.kind.Kind.TheVariants.{Full, Memory}
-use Rattle.life_quad.specs.Store.{Nodes}
+use Rattle.life_quad.specs.Store.{Nodes, held}
 use Rattle.life_canon.specs.Feeding.{Fed, RefusesFront, Stands}
 use Rattle.life_canon.specs.Files.{is_file_kind}
 use Rattle.life_canon.specs.Laws.{LengthsStay}
-use Rattle.life_canon.specs.Needs.{LacksFor, LacksForFront}
-use Rattle.life_canon.specs.Running.{ReadRefuses, by_file, by_want, LacksForRead, for_front, for_file}
+use Rattle.life_canon.specs.Needs.{LacksFor, LacksForFront, SomeOfFile}
+use Rattle.life_canon.specs.Room.{AddsLines, AddsFile, HoldsFront, HoldsOnly, room_for}
+use Rattle.life_canon.specs.Running.{ReadRefuses, by_file, by_want, LacksForRead, for_front, for_file, AddsForRead, IsTightForRead}
 use Rattle.life_canon.specs.Store.{IsWant, RefusesIn}
 use Rattle.life_canon.specs.declared.pattern.Pattern.{Pattern}
 use Rattle.life_mc.proofs.LineKinds.{broken_kind}
 use Rattle.life_rle.proofs.LineKinds.{Breaks-kind}
+use Rattle.life_quad.proofs.KeepingLemmas.{adds-as, adds-then}
+use Rattle.life_canon.proofs.Adding.{fronts_hold}
+use Rattle.life_canon.proofs.NeedFacts.{front-more, whole-needs}
 use Rattle.life_canon.proofs.RefusalKinds.{refusal-kinds}
 use Rattle.life_canon.proofs.RefusedFronts.{faults_stay}
 
--- What came so far, and what was made of it: a line of it was refused, or the reader has it.
-pub record IsReading (store : Nodes) (before after : Option (List ℕ)) (total : ℕ) (refused : Option Fault) (fed : Fed) : Type 0 where
+-- What came so far, and what was made of it: a line of it was refused, or the reader has it, and no squares were stored since the first byte but
+-- such as its lines need.
+pub record IsReading (first store : Nodes) (before after : Option (List ℕ)) (total : ℕ) (refused : Option Fault) (fed : Fed) : Type 0 where
   pub bytes : List ℕ
   pub came : Consumes before after bytes
   pub count : length bytes ≡ total
   pub state : MatchOption refused ((fed.spent ≡ false) × (fed.bytes ≡ bytes) × Stands store fed) (RefusesFront MAX_LEVEL bytes)
+  pub adds : AddsLines (whole_lines bytes) first store
 
 -- a piece more
-module _ (old new : Nodes) (before mid after : Option (List ℕ)) (total count : ℕ) (refused next : Option Fault) (fed more : Fed) (piece : List ℕ) where
-  pub reading-on : IsReading old before mid total refused fed → Consumes mid after piece → length piece ≡ count
+module _ (first old new : Nodes) (before mid after : Option (List ℕ)) (total count : ℕ) (refused next : Option Fault) (fed more : Fed) (piece : List ℕ) where
+  pub reading-on : IsReading first old before mid total refused fed → Consumes mid after piece → length piece ≡ count
       → (next ≡ None → (refused ≡ None) × (more.spent ≡ false) × (more.bytes ≡ fed.bytes ++ piece) × Stands new more)
       → IfSome next (λ fault. (refused ≡ Some fault) ⊎ ((refused ≡ None) × RefusesFront MAX_LEVEL (fed.bytes ++ piece) fault))
-      → IsReading new before after (total + count) next more
-  reading-on r came len going told = record {
+      → ((bytes : List ℕ) → (refused ≡ None → fed.bytes ≡ bytes) → AddsLines (whole_lines (bytes ++ piece)) old new)
+      → IsReading first new before after (total + count) next more
+  reading-on r came len going told adds = record {
     bytes = r.bytes ++ piece;
     came = Consumes-trans before mid after r.bytes piece r.came came;
     count = omega (arith, r.count, len, length-append r.bytes piece);
     state = by next refl going told;
+    adds = adds-then _ r.adds (adds r.bytes open-bytes) (λ P s. front-more P r.bytes piece s) (λ P a. a);
   }
     where
       open-bytes : refused ≡ None → fed.bytes ≡ r.bytes
@@ -97,9 +107,30 @@ refused-by store bytes fault (inr r) n m = r
 refused-by store bytes fault (inl (inl e)) n m = absurd (m (ap (λ (f : Fault). f.kind) e))
 refused-by store bytes fault (inl (inr e)) n m = absurd (n (ap (λ (f : Fault). f.kind) e.0))
 
+-- a store that is full holds its limit
+want-full : (store : Nodes) (fault : Fault) → IsWant store fault → fault ≡ fault_of Full → length (held store) ≡ store.limit
+want-full store fault (inl m) e = let k = ap (λ (f : Fault). f.kind) (sym e ∙ m) in cc
+want-full store fault (inr w) e = w.1
+
+pub front-full : (store : Nodes) (bytes : List ℕ) (fault : Fault) → IsWant store fault ⊎ RefusesFront MAX_LEVEL bytes fault → fault ≡ fault_of Full
+    → length (held store) ≡ store.limit
+front-full store bytes fault h e = want-full store fault (want-of store bytes fault h (inl (ap (λ (f : Fault). f.kind) e))) e
+
+pub file-full : {T : Type 0} (store : Nodes) (bytes : List ℕ) (r : Result T Fault) → IfErr r (RefusesIn MAX_LEVEL bytes store) → r ≡ Err (fault_of Full)
+    → length (held store) ≡ store.limit
+file-full store bytes (Ok x) h e = cc
+file-full store bytes (Err fault) h e = by h
+  where
+    is : fault ≡ fault_of Full
+    is = cc
+
+    by : RefusesIn MAX_LEVEL bytes store fault → length (held store) ≡ store.limit
+    by (inl r) = absurd (full-not fault.kind (refusal-kinds MAX_LEVEL (broken_kind MAX_LEVEL) Breaks-kind (lines_of bytes) fault r) (ap (λ (f : Fault). f.kind) is))
+    by (inr w) = want-full store fault w is
+
 -- a line was refused, and that is no want of room
-module _ (store : Nodes) (before after : Option (List ℕ)) (total : ℕ) (refused : Option Fault) (fed : Fed) where
-  pub refused-not-full : IsReading store before after total refused fed → (fault : Fault) → refused ≡ Some fault → fault ≡ fault_of Full → ⊥
+module _ (first store : Nodes) (before after : Option (List ℕ)) (total : ℕ) (refused : Option Fault) (fed : Fed) where
+  pub refused-not-full : IsReading first store before after total refused fed → (fault : Fault) → refused ≡ Some fault → fault ≡ fault_of Full → ⊥
   refused-not-full r fault is e =
       let told : RefusesFront MAX_LEVEL r.bytes fault =
       subst (λ (o : Option Fault). MatchOption o ((fed.spent ≡ false) × (fed.bytes ≡ r.bytes) × Stands store fed) (RefusesFront MAX_LEVEL r.bytes)) is
@@ -107,8 +138,8 @@ module _ (store : Nodes) (before after : Option (List ℕ)) (total : ℕ) (refus
       full-not fault.kind (front-kind r.bytes fault told) (ap (λ (f : Fault). f.kind) e)
 
 -- more came than allowed
-module _ (store : Nodes) (before mid after : Option (List ℕ)) (total count most : ℕ) (refused : Option Fault) (fed : Fed) (piece : List ℕ) where
-  pub beyond-most : IsReading store before mid total refused fed → Consumes mid after piece → length piece ≡ count → most < total + count
+module _ (first store : Nodes) (before mid after : Option (List ℕ)) (total count most : ℕ) (refused : Option Fault) (fed : Fed) (piece : List ℕ) where
+  pub beyond-most : IsReading first store before mid total refused fed → Consumes mid after piece → length piece ≡ count → most < total + count
       → CameBeyond most before after
   beyond-most r came len more = record {
     bytes = r.bytes ++ piece;
@@ -117,8 +148,8 @@ module _ (store : Nodes) (before mid after : Option (List ℕ)) (total count mos
   }
 
 -- a piece more was fed, and the store has no room for its lines
-module _ (store new : Nodes) (before mid after : Option (List ℕ)) (total count most failures : ℕ) (refused : Option Fault) (fed : Fed) (piece : List ℕ) where
-  pub lacks-front : IsReading store before mid total refused fed → Consumes mid after piece → length piece ≡ count → total + count ≤ most
+module _ (first store new : Nodes) (before mid after : Option (List ℕ)) (total count most failures : ℕ) (refused : Option Fault) (fed : Fed) (piece : List ℕ) where
+  pub lacks-front : IsReading first store before mid total refused fed → Consumes mid after piece → length piece ≡ count → total + count ≤ most
       → (refused ≡ None) × LacksForFront MAX_LEVEL (fed.bytes ++ piece) new
       → LacksForRead MAX_LEVEL most new (record { before = before; after = after; failures = failures })
   lacks-front r came len short lacks =
@@ -128,15 +159,67 @@ module _ (store new : Nodes) (before mid after : Option (List ℕ)) (total count
       for_front (r.bytes ++ piece) (Consumes-trans before mid after r.bytes piece r.came came) (omega (arith, r.count, len, short, length-append r.bytes piece))
       (subst (λ (b : List ℕ). LacksForFront MAX_LEVEL (b ++ piece) new) state.1 lacks.1)
 
+-- ---- what is stored
+
+-- what came so far
+module _ (first store : Nodes) (before after : Option (List ℕ)) (total : ℕ) (refused : Option Fault) (fed : Fed) where
+  pub reading-adds : IsReading first store before after total refused fed → AddsForRead before first store
+  reading-adds r = record { bytes = r.bytes; left = after; came = r.came; adds = adds-as _ r.adds (λ P s. whole-needs P r.bytes s) }
+
+  fed-bytes : (r : IsReading first store before after total refused fed) → refused ≡ None → fed.bytes ≡ r.bytes
+  fed-bytes r e =
+      let s : MatchOption None ((fed.spent ≡ false) × (fed.bytes ≡ r.bytes) × Stands store fed) (RefusesFront MAX_LEVEL r.bytes) =
+      subst (λ (o : Option Fault). MatchOption o ((fed.spent ≡ false) × (fed.bytes ≡ r.bytes) × Stands store fed) (RefusesFront MAX_LEVEL r.bytes)) e
+      r.state in
+      s.1
+
+  -- and what the reader stores of it at its end
+  pub ended-adds : {new : Nodes} → IsReading first store before after total refused fed → refused ≡ None → AddsFile fed.bytes store new
+      → AddsForRead before first new
+  ended-adds r e adds = record {
+    bytes = r.bytes;
+    left = after;
+    came = r.came;
+    adds = adds-then _ r.adds adds (λ P s. whole-needs P r.bytes s) (λ P s. subst (λ (b : List ℕ). SomeOfFile MAX_LEVEL P (lines_of b)) (fed-bytes r e) s);
+  }
+
+-- and a piece more, all lines of which were fed, or some up to a refusal
+module _ (first store new : Nodes) (before mid after : Option (List ℕ)) (total count most failures : ℕ) (refused : Option Fault) (fed : Fed) (piece : List ℕ) where
+  pub piece-adds : IsReading first store before mid total refused fed → Consumes mid after piece
+      → ((bytes : List ℕ) → (refused ≡ None → fed.bytes ≡ bytes) → AddsLines (whole_lines (bytes ++ piece)) store new) → AddsForRead before first new
+  piece-adds r came adds = record {
+    bytes = r.bytes ++ piece;
+    left = after;
+    came = Consumes-trans before mid after r.bytes piece r.came came;
+    adds = adds-then _ r.adds (adds r.bytes (fed-bytes first store before mid total refused fed r))
+        (λ P s. whole-needs P (r.bytes ++ piece) (front-more P r.bytes piece s)) (λ P s. whole-needs P (r.bytes ++ piece) s);
+  }
+
+  -- the store has no room for its lines
+  pub piece-tight : IsReading first store before mid total refused fed → Consumes mid after piece → length piece ≡ count → total + count ≤ most → refused ≡ None
+      → store.limit ≡ first.limit
+      → ((base : List Tree) → HoldsFront base fed.bytes store → store.limit < length base + room_for (length (fed.bytes ++ piece)))
+      → IsTightForRead most first (record { before = before; after = after; failures = failures })
+  piece-tight r came len short e limit room =
+      let same = fed-bytes first store before mid total refused fed r e in
+      let holds : HoldsFront (held first) fed.bytes store = subst (λ (b : List ℕ). HoldsFront (held first) b store) (sym same) r.adds.each in
+      let tight = subst (λ (b : List ℕ). store.limit < length (held first) + room_for (length (b ++ piece))) same (room (held first) holds) in
+      record {
+        bytes = r.bytes ++ piece;
+        came = Consumes-trans before mid after r.bytes piece r.came came;
+        within = omega (arith, r.count, len, short, length-append r.bytes piece);
+        tight = omega (arith, tight, limit);
+      }
+
 -- a read of no bytes is the end
 at-end : (mid after : Option (List ℕ)) (count : ℕ) (buf : List ℕ) → count ≡ 0 → 0 < length buf → Consumes mid after (take count buf)
     × (count ≡ 0 → 0 < length buf → IsAtEnd after)
     → Consumes mid after [] × IsAtEnd after
 at-end mid after count buf e l h = let none : take count buf ≡ [] = grind (arith, e) in (subst (Consumes mid after) none h.0, h.1 e l)
 
-module _ (store new : Nodes) (before mid after : Option (List ℕ)) (total most failures count : ℕ) (buf : List ℕ) (refused : Option Fault) (fed : Fed) where
+module _ (first store new : Nodes) (before mid after : Option (List ℕ)) (total most failures count : ℕ) (buf : List ℕ) (refused : Option Fault) (fed : Fed) where
   -- the end came, and a line was refused
-  pub ended-refused : IsReading store before mid total refused fed → count ≡ 0 → 0 < length buf → Consumes mid after (take count buf)
+  pub ended-refused : IsReading first store before mid total refused fed → count ≡ 0 → 0 < length buf → Consumes mid after (take count buf)
       × (count ≡ 0 → 0 < length buf → IsAtEnd after)
       → total ≤ most → (fault : Fault) → refused ≡ Some fault → ReadRefuses MAX_LEVEL most new (record { before = before; after = after; failures = failures })
       fault
@@ -148,7 +231,7 @@ module _ (store new : Nodes) (before mid after : Option (List ℕ)) (total most 
       by_file r.bytes (read-all most before mid after r.bytes r.came came.0 came.1 (omega (arith, r.count, short))) told.refuses
 
   -- the end came, and the reader has all
-  ended-read : IsReading store before mid total refused fed → count ≡ 0 → 0 < length buf → Consumes mid after (take count buf)
+  ended-read : IsReading first store before mid total refused fed → count ≡ 0 → 0 < length buf → Consumes mid after (take count buf)
       × (count ≡ 0 → 0 < length buf → IsAtEnd after)
       → total ≤ most → refused ≡ None → ReadAll most before after fed.bytes
   ended-read r e l h short is =
@@ -159,14 +242,27 @@ module _ (store new : Nodes) (before mid after : Option (List ℕ)) (total most 
       subst (ReadAll most before after) (sym state.1) (read-all most before mid after r.bytes r.came came.0 came.1 (omega (arith, r.count, short)))
 
   -- the end came, and the store has no room for what it has
-  pub ended-lacks : IsReading store before mid total refused fed → count ≡ 0 → 0 < length buf → Consumes mid after (take count buf)
+  pub ended-lacks : IsReading first store before mid total refused fed → count ≡ 0 → 0 < length buf → Consumes mid after (take count buf)
       × (count ≡ 0 → 0 < length buf → IsAtEnd after)
       → total ≤ most → refused ≡ None → LacksFor MAX_LEVEL fed.bytes new
       → LacksForRead MAX_LEVEL most new (record { before = before; after = after; failures = failures })
   ended-lacks r e l h short is = for_file fed.bytes (ended-read r e l h short is)
 
+  -- nor has its limit
+  pub ended-tight : IsReading first store before mid total refused fed → count ≡ 0 → 0 < length buf → Consumes mid after (take count buf)
+      × (count ≡ 0 → 0 < length buf → IsAtEnd after)
+      → total ≤ most → refused ≡ None → store.limit ≡ first.limit
+      → ((base : List Tree) → HoldsOnly base fed.bytes store → store.limit < length base + room_for (length fed.bytes))
+      → IsTightForRead most first (record { before = before; after = after; failures = failures })
+  ended-tight r e l h short is limit room =
+      let all = ended-read r e l h short is in
+      let same = fed-bytes first store before mid total refused fed r is in
+      let front : HoldsFront (held first) fed.bytes store = subst (λ (b : List ℕ). HoldsFront (held first) b store) (sym same) r.adds.each in
+      let tight = room (held first) (fronts_hold fed.bytes [] (held first) store store front).1 in
+      record { bytes = fed.bytes; came = all.taken; within = all.within; tight = omega (arith, tight, limit) }
+
   -- the end came, and the reader refuses what it has
-  pub ended-open : IsReading store before mid total refused fed → count ≡ 0 → 0 < length buf → Consumes mid after (take count buf)
+  pub ended-open : IsReading first store before mid total refused fed → count ≡ 0 → 0 < length buf → Consumes mid after (take count buf)
       × (count ≡ 0 → 0 < length buf → IsAtEnd after)
       → total ≤ most → refused ≡ None → (result : Result Pattern Fault) → (fed.spent ≡ false → IfErr result (λ fault. RefusesIn MAX_LEVEL fed.bytes new fault))
       → IfErr result (λ fault. ReadRefuses MAX_LEVEL most new (record { before = before; after = after; failures = failures }) fault)

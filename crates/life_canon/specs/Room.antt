@@ -1,10 +1,12 @@
 -- How many squares are stored while a file is read: at most 14 for each byte of it, and 264. The project's own.
-use Rattle.std.specs.Prelude.{◌≡◌, ◌≢◌, ◌⊎◌, ℕ, ◌+◌, ◌*◌, ◌<◌, ◌≤◌, false, List, length, Contains, AllPairs}
+use Rattle.std.specs.Prelude.{◌≡◌, ◌≢◌, ◌⊎◌, ℕ, ◌+◌, ◌*◌, ◌<◌, ◌≤◌, false, List, ◌++◌, length, Contains, AllPairs}
+use Rattle.life_base.specs.Lines.{whole_lines}
 use Rattle.life_base.specs.Text.{lines_of}
 use Rattle.life_base.specs.Tree.{Tree, is_blank_tree}
 use Rattle.life_base.specs.declared.cell.TheConstants.{MAX_LEVEL}
+use Rattle.life_quad.specs.Keeping.{AddsOnly}
 use Rattle.life_quad.specs.Store.{Nodes, held}
-use Rattle.life_canon.specs.Needs.{SomeOfFile, LacksFor}
+use Rattle.life_canon.specs.Needs.{SomeOfLines, SomeOfFile, LacksFor}
 
 -- How many squares a file of so many bytes needs at most: 14 for each byte and for the line feed that may be missing at the end, four for each of
 -- the levels 1 to 62, and a trimmed root for each of the two least levels.
@@ -25,6 +27,26 @@ FewSquares =
 -- the store holds no squares but those of the list and of the file
 abbrev pub HoldsOnly : List Tree → List ℕ → Nodes → Type 0
 HoldsOnly base bytes store = (t : Tree) → Contains (held store) t → Contains base t ⊎ IsOfFile bytes t
+
+-- the same of the lines of a front that have ended
+abbrev pub HoldsFront : List Tree → List ℕ → Nodes → Type 0
+HoldsFront base bytes store =
+    (t : Tree) → Contains (held store) t → Contains base t ⊎ SomeOfLines MAX_LEVEL (λ u. u ≡ t) (whole_lines bytes)
+
+-- a call stores no square but such as these lines need
+abbrev pub AddsLines : List (List ℕ) → Nodes → Nodes → Type 0
+AddsLines lines old new = AddsOnly held (λ P. SomeOfLines MAX_LEVEL P lines) old new
+
+-- a call stores no square but such as the file needs
+abbrev pub AddsFile : List ℕ → Nodes → Nodes → Type 0
+AddsFile bytes old new = AddsOnly held (λ P. SomeOfFile MAX_LEVEL P (lines_of bytes)) old new
+
+-- While a file comes in pieces, the store holds only squares of the list and of the lines that have ended, if it did so before the piece and gets no
+-- squares but such as they need. They are squares of the file, should it end there.
+abbrev pub FrontsHold : Type 0
+FrontsHold =
+    (bytes more : List ℕ) (base : List Tree) (old new : Nodes) → HoldsFront base bytes old
+    → (AddsLines (whole_lines (bytes ++ more)) old new → HoldsFront base (bytes ++ more) new) × HoldsOnly base bytes old
 
 -- A store that lacks a square of a file, and holds only squares of a list and squares of the file, each once and none blank, holds fewer than the
 -- list has and the room for the file.

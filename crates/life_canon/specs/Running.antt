@@ -1,6 +1,6 @@
 -- What a run over a source and a sink may leave, by its outcome. Of a device that doesn't tell its bytes these say nothing about bytes:
 -- `bytes` is then any list.
-use Rattle.std.specs.Prelude.{◌≡◌, ◌⊎◌, ◌≤◌, ℕ, true, List, length}
+use Rattle.std.specs.Prelude.{◌≡◌, ◌⊎◌, ◌+◌, ◌<◌, ◌≤◌, ℕ, true, List, Option, length}
 use Rattle.std.specs.Io.KnownBytes.{Appends, Consumes}
 use Rattle.life_base.specs.DeviceRuns.{SourceRun, SinkRun}
 use Rattle.life_base.specs.Inputs.{ReadAll, CameBeyond}
@@ -8,9 +8,10 @@ use Rattle.life_base.specs.Refusal.{fault_of}
 use Rattle.life_base.specs.Writing.{WritesPrefix}
 use Rattle.life_base.specs.declared.fault.Fault.{Fault}
 use Rattle.life_base.specs.declared.kind.Kind.TheVariants.{ReadFault, WriteFault, InputTooLong}
-use Rattle.life_quad.specs.Store.{Nodes}
+use Rattle.life_quad.specs.Store.{Nodes, held}
 use Rattle.life_canon.specs.Files.{Refuses}
 use Rattle.life_canon.specs.Needs.{LacksFor, LacksForFront}
+use Rattle.life_canon.specs.Room.{AddsFile, room_for}
 use Rattle.life_canon.specs.Store.{IsRead, IsWant}
 use Rattle.life_canon.specs.Texts.{IsCanonical}
 use Rattle.life_canon.specs.declared.pattern.Pattern.{Pattern}
@@ -46,6 +47,20 @@ pub data LacksForRead (top most : ℕ) (store : Nodes) (source : SourceRun) : Ty
   for_front : (bytes : List ℕ) → Consumes source.before source.after bytes → length bytes ≤ most → LacksForFront top bytes store
       → LacksForRead top most store source
   for_file : (bytes : List ℕ) → ReadAll most source.before source.after bytes → LacksFor top bytes store → LacksForRead top most store source
+
+-- No square was stored but such as a front of the input needs: of what was left to read before.
+pub record AddsForRead (input : Option (List ℕ)) (old new : Nodes) : Type 0 where
+  pub bytes : List ℕ
+  pub left : Option (List ℕ)
+  pub came : Consumes input left bytes
+  pub adds : AddsFile bytes old new
+
+-- The limit of the store leaves less than the room for the bytes that were read, beside the squares that it holds.
+pub record IsTightForRead (most : ℕ) (store : Nodes) (source : SourceRun) : Type 0 where
+  pub bytes : List ℕ
+  pub came : Consumes source.before source.after bytes
+  pub within : length bytes ≤ most
+  pub tight : store.limit < length (held store) + room_for (length bytes)
 
 -- why a run is refused: nothing came of the input, or its text could not be written
 pub data RunRefuses (top most : ℕ) (store : Nodes) (source : SourceRun) (sink : SinkRun) (fault : Fault) : Type 0 where

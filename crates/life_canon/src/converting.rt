@@ -1,11 +1,13 @@
 //! A file of either format as a text of one form.
 
-ghost use Rattle.std.specs.Prelude.{◌≡◌, ◌⊎◌, ◌^◌, List, ℕ, Err, IfOk, IfErr};
+ghost use Rattle.std.specs.Prelude.{◌≡◌, ◌⊎◌, ◌+◌, ◌^◌, ◌<◌, List, ℕ, length, Err, IfOk, IfErr};
 ghost use Rattle.life_base.specs.declared.kind.Kind.TheVariants.{Full, Memory, TooManyCells};
 ghost use Rattle.life_base.specs.Refusal.{fault_of};
 ghost use Rattle.life_canon.specs.Files.{Same};
 ghost use Rattle.life_canon.specs.Least.{IsLeastText};
+ghost use Rattle.life_quad.specs.Store.{held};
 ghost use Rattle.life_canon.specs.Needs.{LacksFor};
+ghost use Rattle.life_canon.specs.Room.{AddsFile, room_for};
 ghost use Rattle.life_canon.specs.Store.{Keeps, RefusesIn, IsOfFile, IsRead};
 ghost use Rattle.life_canon.specs.Texts.{IsCanonical, IsRleOf, HasMoreCells};
 
@@ -25,12 +27,16 @@ pub const MOST_CELLS: u64 = 1 << 20;
 /// # Errors
 ///
 /// The place and the kind of the file's fault, `Full` where the store holds its limit, or `Memory`. After a fault too each Id of the
-/// store names the square that it named, and nothing stored is gone.
+/// store names the square that it named, and nothing stored is gone. `Full` doesn't come where the limit is `14 * length + 264` squares
+/// above those that the store holds, or more.
 pub fn canon(alloc: Global, store: &mut Shared, bytes: &[u8]) -> Result<Vec<u8>, Fault>
     ensures text { IfOk result (λ text. IsCanonical MAX_LEVEL bytes.now text.items) }
     ensures least { IfOk result (λ text. IsLeastText MAX_LEVEL bytes.now text.items) }
     ensures fault { IfErr result (λ fault. RefusesIn MAX_LEVEL bytes.now store.new fault) }
     ensures needed { result ≡ Err (fault_of Full) → LacksFor MAX_LEVEL bytes.now store.new }
+    ensures adds { AddsFile bytes.now store.old store.new }
+    ensures room { result ≡ Err (fault_of Full)
+        → store.old.limit < length (held store.old) + room_for (length bytes.now) }
     ensures keeps { Keeps store.old store.new }
 {
     let pattern = read(alloc, store, bytes)?;
@@ -62,13 +68,17 @@ pub fn rle_of(alloc: Global, store: &Shared, pattern: &Pattern) -> Result<Vec<u8
 ///
 /// # Errors
 ///
-/// Those of `canon`, and `TooManyCells`, at no line, where more than 2^20 cells aren't 0. The store keeps what it has as there.
+/// Those of `canon`, and `TooManyCells`, at no line, where more than 2^20 cells aren't 0. The store keeps what it has as there, and a limit
+/// of `14 * length + 264` squares more suffices.
 pub fn to_rle(alloc: Global, store: &mut Shared, bytes: &[u8]) -> Result<Vec<u8>, Fault>
     ensures text { IfOk result (λ text. IsRleOf MAX_LEVEL (2 ^ 20) bytes.now text.items) }
     ensures same { IfOk result (λ text. Same MAX_LEVEL bytes.now text.items) }
     ensures fault { IfErr result (λ fault. RefusesIn MAX_LEVEL bytes.now store.new fault
         ⊎ ((fault ≡ fault_of TooManyCells) × HasMoreCells MAX_LEVEL bytes.now (2 ^ 20))) }
     ensures needed { result ≡ Err (fault_of Full) → LacksFor MAX_LEVEL bytes.now store.new }
+    ensures adds { AddsFile bytes.now store.old store.new }
+    ensures room { result ≡ Err (fault_of Full)
+        → store.old.limit < length (held store.old) + room_for (length bytes.now) }
     ensures keeps { Keeps store.old store.new }
 {
     let pattern = read(alloc, store, bytes)?;

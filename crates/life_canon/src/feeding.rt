@@ -8,7 +8,8 @@ ghost use Rattle.life_mc.specs.Cells.{cell, root_level};
 ghost use Rattle.life_mc.specs.Macrocell.{Macrocell, IsValid};
 ghost use Rattle.life_mc.specs.Reading.{Accepts, squares_of, broken};
 ghost use Rattle.life_quad.specs.Store.{Nodes, held};
-ghost use Rattle.life_quad.specs.Keeping.{KeepsSquares, IsWantKind};
+ghost use Rattle.life_quad.specs.Grows.{Grows};
+ghost use Rattle.life_quad.specs.Keeping.{KeepsSquares, AddsOnly, IsWantKind};
 ghost use Rattle.life_rle.specs.Decided.{LacksHeader};
 ghost use Rattle.life_rle.specs.File.{HasRuns};
 ghost use Rattle.life_rle.specs.Grammar.{Breaks as BreaksRle, IsSomeRle};
@@ -18,6 +19,7 @@ ghost use Rattle.life_canon.specs.Files.{Breaks, Says, is_macrocell};
 ghost use Rattle.life_canon.specs.Store.{IsKnown, content, Keeps, IsPatternOf};
 ghost use Rattle.life_canon.specs.Filling.{AreSquaresOf};
 ghost use Rattle.life_canon.specs.Needs.{IsNew, SomeAtEnd, SomeOfLines, SomeOfRuns, SomeRoot};
+ghost use Rattle.life_canon.specs.Room.{AddsLines};
 ghost use Rattle.life_canon.specs.Taking.{IsOpen, IsOver, IsReady, StandsFor, taken};
 ghost use Rattle.life_canon.specs.Universe.{Universe};
 
@@ -48,10 +50,8 @@ fn add_runs<S: Squares>(squares: &mut S, builder: &mut Builder, runs: &[Run]) ->
     ensures filling { OnOk result
         (IsFilling (S.knows squares.new) (S.content squares.new) builder.new) }
     ensures runs { OnOk result (builder.new.runs ≡ builder.old.runs ++ runs.now) }
-    ensures refusals { IfErr result (IsWantKind (S.stored squares.new) (S.most squares.new)) }
-    ensures keeps { KeepsSquares S.knows S.content S.stored S.most squares.old squares.new }
-    ensures needed { result ≡ Err Full
-        → SomeOfRuns (S.needs_node squares.new) (builder.old.runs ++ runs.now) }
+    ensures grows { Grows S.Squares squares.old squares.new result
+        (λ P. SomeOfRuns P (builder.old.runs ++ runs.now)) }
 {
     for run in runs {
         builder.add_run(squares, *run)?;
@@ -80,6 +80,8 @@ fn take_rle_line<S: Squares>(
     ensures keeps { KeepsSquares S.knows S.content S.stored S.most squares.old squares.new }
     ensures needed { result ≡ Err Full
         → SomeOfLines MAX_LEVEL (S.needs_node squares.new) (lines.old.lines ++ line.now ∷ []) }
+    ensures adds { AddsOnly S.stored
+        (λ P. SomeOfLines MAX_LEVEL P (lines.old.lines ++ line.now ∷ [])) squares.old squares.new }
 {
     runs.clear();
     lines.line_into(line, runs)?;
@@ -106,6 +108,8 @@ fn take_macrocell_line<S: Squares>(
     ensures keeps { KeepsSquares S.knows S.content S.stored S.most squares.old squares.new }
     ensures needed { result ≡ Err Full
         → SomeOfLines MAX_LEVEL (S.needs_node squares.new) (lines.old.lines ++ line.now ∷ []) }
+    ensures adds { AddsOnly S.stored
+        (λ P. SomeOfLines MAX_LEVEL P (lines.old.lines ++ line.now ∷ [])) squares.old squares.new }
 {
     let Some(square) = lines.line(line)? else {
         return Ok(());
@@ -129,12 +133,10 @@ fn trimmed_pattern<S: Squares>(
         → ((x y : ℤ) → tree_cell (S.content squares.old root) x y ≡ universe.cell x y)
         → IfOk result
         (IsPatternOf MAX_LEVEL (S.knows squares.new) (S.content squares.new) universe) }
-    ensures refusals { IfErr result (IsWantKind (S.stored squares.new) (S.most squares.new)) }
-    ensures keeps { KeepsSquares S.knows S.content S.stored S.most squares.old squares.new }
-    ensures needed { result ≡ Err Full → (universe : Universe) → universe.rule ≡ rule
+    ensures grows { Grows S.Squares squares.old squares.new result
+        (λ P. (universe : Universe) → universe.rule ≡ rule
         → ((x y : ℤ) → tree_cell (S.content squares.old root) x y ≡ universe.cell x y)
-        → SomeRoot MAX_LEVEL (S.needs_node squares.new) universe
-        (depth (S.content squares.old root)) }
+        → SomeRoot MAX_LEVEL P universe (depth (S.content squares.old root))) }
 {
     let least = least_level(&rule);
     let root = grow_to(squares, root, least)?;
@@ -219,6 +221,7 @@ impl Progress {
             ⊎ Breaks MAX_LEVEL (taken self.old) line.now kind) }
         ensures needed { result ≡ Err Full
             → SomeOfLines MAX_LEVEL (IsNew store.new) (taken self.old ++ line.now ∷ []) }
+        ensures adds { AddsLines (taken self.old ++ line.now ∷ []) store.old store.new }
         ensures keeps { Keeps store.old store.new }
     {
         self.begin(alloc, line);
@@ -242,6 +245,8 @@ impl Progress {
             ⊎ ((kind ≡ NoHeader) × LacksHeader MAX_LEVEL (taken self)
             × (is_macrocell (taken self) ≡ false))) }
         ensures needed { result ≡ Err Full → SomeAtEnd MAX_LEVEL (IsNew store.new) (taken self) }
+        ensures adds { AddsOnly held (λ P. SomeAtEnd MAX_LEVEL P (taken self))
+            store.old store.new }
         ensures keeps { Keeps store.old store.new }
     {
         match self {

@@ -1,6 +1,6 @@
 //! Squares of a store, made from node lines.
 
-ghost use Rattle.std.specs.Prelude.{◌≡◌, ◌+◌, ◌-◌, ◌/◌, ◌%◌, ◌^◌, ◌<◌, ◌≤◌, IfOk, IfErr, OnErr, max};
+ghost use Rattle.std.specs.Prelude.{◌≡◌, ◌+◌, ◌-◌, ◌/◌, ◌%◌, ◌^◌, ◌<◌, ◌≤◌, IfOk, max};
 ghost use Rattle.life_base.specs.declared.rule.Rule.{Rule as RuleValue};
 ghost use Rattle.life_base.specs.Tree.{depth, tree_cell};
 ghost use Rattle.life_mc.specs.Cells.{leaf_cell};
@@ -12,7 +12,7 @@ ghost use Rattle.life_quad.specs.Refused.{SomePart};
 ghost use Rattle.life_canon.specs.Filling.{AreSquaresOf};
 ghost use Rattle.life_canon.specs.Needs.{SomeGrown, SomeOfLine};
 ghost use Rattle.std.specs.Prelude.{List, map, true, ℤ};
-ghost use Rattle.life_quad.specs.Keeping.{KeepsSquares, IsWantKind};
+ghost use Rattle.life_quad.specs.Grows.{GrowsOnly};
 
 use life_base::{Kind, MAX_LEVEL};
 use life_mc::Line;
@@ -60,9 +60,8 @@ fn sixteen_bits(rows: &[u8; 8], column: u8, row: u8) -> u16
 fn leaf_square<S: Squares>(squares: &mut S, rows: &[u8; 8]) -> Result<Id, Kind>
     ensures known { IfOk result (S.knows squares.new) }
     ensures square { IfOk result (λ id. S.content squares.new id ≡ leaf_tree rows.now) }
-    ensures keeps { KeepsSquares S.knows S.content S.stored S.most squares.old squares.new }
-    ensures refusals { IfErr result (IsWantKind (S.stored squares.new) (S.most squares.new)) }
-    ensures needed { OnErr result (SomePart (S.needs_node squares.new) (leaf_tree rows.now)) }
+    ensures grows { GrowsOnly S.Squares squares.old squares.new result
+        (λ P. SomePart P (leaf_tree rows.now)) }
 {
     let nw = squares.small(sixteen_bits(rows, 0, 0))?;
     let ne = squares.small(sixteen_bits(rows, 4, 0))?;
@@ -105,12 +104,11 @@ pub(crate) fn line_square<S: Squares>(squares: &mut S, ids: &[Id], line: Line) -
         → AreSquaresOf (S.knows squares.old) (S.content squares.old) lines ids.now
         → IfOk result
         (λ id. S.content squares.new id ≡ line_tree (tree_of lines (level_of line - 1)) line) }
-    ensures keeps { KeepsSquares S.knows S.content S.stored S.most squares.old squares.new }
-    ensures refusals { IfErr result (IsWantKind (S.stored squares.new) (S.most squares.new)) }
-    ensures needed { (lines : List LineValue) (rule : RuleValue)
+    ensures grows { GrowsOnly S.Squares squares.old squares.new result
+        (λ P. (lines : List LineValue) (rule : RuleValue)
         → IsSquare MAX_LEVEL rule (map level_of lines) line
         → AreSquaresOf (S.knows squares.old) (S.content squares.old) lines ids.now
-        → OnErr result (SomeOfLine (S.needs_node squares.new) lines line) }
+        → SomeOfLine P lines line) }
 {
     match line {
         Line::Leaf(rows) => leaf_square(squares, &rows),
@@ -134,10 +132,8 @@ pub(crate) fn grow_to<S: Squares>(squares: &mut S, id: Id, level: u8) -> Result<
         (λ r. depth (S.content squares.new r) ≡ max level (depth (S.content squares.old id))) }
     ensures cells { IfOk result (λ r. (x y : ℤ)
         → tree_cell (S.content squares.new r) x y ≡ tree_cell (S.content squares.old id) x y) }
-    ensures keeps { KeepsSquares S.knows S.content S.stored S.most squares.old squares.new }
-    ensures refusals { IfErr result (IsWantKind (S.stored squares.new) (S.most squares.new)) }
-    ensures needed { OnErr result
-        (SomeGrown (S.needs_node squares.new) (S.content squares.old id) level) }
+    ensures grows { GrowsOnly S.Squares squares.old squares.new result
+        (λ P. SomeGrown P (S.content squares.old id) level) }
 {
     if level <= squares.level(id) {
         return Ok(id);

@@ -5,9 +5,12 @@ ghost use Rattle.std.specs.Str.{byte};
 ghost use Rattle.life_base.specs.declared.kind.Kind.TheVariants.{Full, Memory};
 ghost use Rattle.life_base.specs.Lines.{has_no_feed};
 ghost use Rattle.life_base.specs.Refusal.{fault_at, fault_of};
-ghost use Rattle.life_quad.specs.Store.{Nodes};
+ghost use Rattle.life_quad.specs.Keeping.{AddsOnly};
+ghost use Rattle.life_quad.specs.Store.{Nodes, held};
 ghost use Rattle.life_canon.specs.Feeding.{RefusesFront};
+ghost use Rattle.life_base.specs.Lines.{whole_lines};
 ghost use Rattle.life_canon.specs.Needs.{IsNew, LacksFor, LacksForFront, SomeOfLines};
+ghost use Rattle.life_canon.specs.Room.{AddsLines, AddsFile};
 ghost use Rattle.life_canon.specs.Store.{Keeps, IsKnown, IsRead, IsWant, RefusesIn, content};
 ghost use Rattle.life_canon.specs.Taking.{IsEnd, IsFrontOf, IsLineFault, IsOpen, IsOver, StandsFor, bytes_of, taken};
 
@@ -85,6 +88,7 @@ impl Front {
             ⊎ IsLineFault MAX_LEVEL (taken self.old.progress) line.now self.old.ended fault) }
         ensures needed { result ≡ Err (fault_of Full)
             → SomeOfLines MAX_LEVEL (IsNew store.new) (taken self.old.progress ++ line.now ∷ []) }
+        ensures adds { AddsLines (taken self.old.progress ++ line.now ∷ []) store.old store.new }
         ensures keeps { Keeps store.old store.new }
     {
         match self.progress.take_line(self.alloc, store, line) {
@@ -133,6 +137,8 @@ impl Front {
         ensures needed { result ≡ Err (fault_of Full)
             → SomeOfLines MAX_LEVEL (IsNew store.new)
             (taken self.old.progress ++ self.old.kept.items ∷ []) }
+        ensures adds { AddsLines (taken self.old.progress ++ self.old.kept.items ∷ []) store.old
+            store.new }
         ensures keeps { Keeps store.old store.new }
     {
         let line = mem::replace(&mut self.kept, Vec::new(self.alloc));
@@ -160,6 +166,9 @@ impl Front {
         ensures needed { result ≡ Err (fault_of Full)
             → SomeOfLines MAX_LEVEL (IsNew store.new)
             (taken self.old.progress ++ (self.old.kept.items ++ end.now) ∷ []) }
+        ensures adds { AddsLines
+            (taken self.old.progress ++ (self.old.kept.items ++ end.now) ∷ []) store.old
+            store.new }
         ensures keeps { Keeps store.old store.new }
     {
         if self.kept.is_empty() {
@@ -187,6 +196,9 @@ impl Front {
         ensures needed { result ≡ Err (fault_of Full) → (rest : List ℕ)
             → LacksForFront MAX_LEVEL
             (bytes_of self.old.pieces.lines ++ end.now ++ codes "\n" ++ rest) store.new }
+        ensures adds { AddsOnly held (λ P. (rest : List ℕ) → SomeOfLines MAX_LEVEL P
+            (whole_lines (bytes_of self.old.pieces.lines ++ end.now ++ codes "\n" ++ rest)))
+            store.old store.new }
         ensures keeps { Keeps store.old store.new }
     {
         self.take_ended(store, end)?;
@@ -227,6 +239,8 @@ impl Front {
             ⊎ RefusesFront MAX_LEVEL (bytes_of self.old.pieces.lines ++ piece.now) fault) }
         ensures needed { result ≡ Err (fault_of Full)
             → LacksForFront MAX_LEVEL (bytes_of self.old.pieces.lines ++ piece.now) store.new }
+        ensures adds { AddsLines (whole_lines (bytes_of self.old.pieces.lines ++ piece.now))
+            store.old store.new }
         ensures keeps { Keeps store.old store.new }
     {
         let mut rest = piece;
@@ -249,6 +263,7 @@ impl Front {
             (RefusesIn MAX_LEVEL (bytes_of self.old.pieces.lines) store.new) }
         ensures needed { result ≡ Err (fault_of Full)
             → LacksFor MAX_LEVEL (bytes_of self.old.pieces.lines) store.new }
+        ensures adds { AddsFile (bytes_of self.old.pieces.lines) store.old store.new }
         ensures keeps { Keeps store.old store.new }
     {
         if self.kept.is_empty() {
@@ -265,6 +280,7 @@ impl Front {
         ensures fault { IfErr result (RefusesIn MAX_LEVEL (bytes_of self.pieces.lines) store.new) }
         ensures needed { result ≡ Err (fault_of Full)
             → LacksFor MAX_LEVEL (bytes_of self.pieces.lines) store.new }
+        ensures adds { AddsFile (bytes_of self.pieces.lines) store.old store.new }
         ensures keeps { Keeps store.old store.new }
     {
         let mut front = self;

@@ -9,7 +9,7 @@ ghost use Rattle.life_canon.specs.Laws.{CanonicalIsLeast, SquaresHavePlaces, Wid
 ghost use Rattle.life_canon.specs.Laws.{SquaresAreCentred, CentredSquaresTellCells};
 ghost use Rattle.life_canon.specs.Laws.{PatternsFit, PatternsStay, PatternsTellFiles, ReadersStand};
 ghost use Rattle.life_canon.specs.Laws.{FaultsStay, LengthsStay, LengthHidesNoFault};
-ghost use Rattle.life_canon.specs.Room.{FewSquares, RoomSuffices};
+ghost use Rattle.life_canon.specs.Room.{FewSquares, RoomSuffices, FrontsHold};
 
 /// No lines are a file of both formats.
 pub fn formats_differ()
@@ -157,4 +157,9 @@ pub fn few_squares()
 /// 14 n + 264 more: so it is not full, if its limit leaves room for these.
 pub fn room_suffices()
     ensures { RoomSuffices }
+{}
+
+/// What a store holds beside a list, while a file comes in pieces, are squares of the lines that have ended, and so squares of the file.
+pub fn fronts_hold()
+    ensures { FrontsHold }
 {}

@@ -1,12 +1,15 @@
 //! A file of either format that comes in pieces.
 
-ghost use Rattle.std.specs.Prelude.{◌≡◌, ◌⊎◌, ◌++◌, [], true, false, Err, IfOk, IfErr, OnOk, OnErr};
+ghost use Rattle.std.specs.Prelude.{◌≡◌, ◌⊎◌, ◌++◌, ◌+◌, ◌<◌, [], List, length, true, false, Err, IfOk, IfErr, OnOk, OnErr};
 ghost use Rattle.life_base.specs.declared.kind.Kind.TheVariants.{Full, Spent};
 ghost use Rattle.life_base.specs.declared.fault.Fault.{Fault as FaultValue};
+ghost use Rattle.life_base.specs.Lines.{whole_lines};
 ghost use Rattle.life_base.specs.Refusal.{fault_of};
+ghost use Rattle.life_base.specs.Tree.{Tree};
 ghost use Rattle.life_quad.specs.Store.{Nodes};
 ghost use Rattle.life_canon.specs.Feeding.{RefusesFront, IsOverAt, Stands};
 ghost use Rattle.life_canon.specs.Needs.{LacksFor, LacksForFront};
+ghost use Rattle.life_canon.specs.Room.{AddsLines, AddsFile, HoldsFront, HoldsOnly, room_for};
 ghost use Rattle.life_canon.specs.Store.{Keeps, IsRead, IsWant, RefusesIn};
 
 use crate::front::Front;
@@ -58,6 +61,9 @@ impl Reader {
     /// The fault of a line that ends in this piece, or `LineTooLong` where the line's byte 2^20 + 1 comes in it: either is the fault of
     /// the whole file, whatever bytes follow (`laws::faults_stay`); `Full` or `Memory`. After an error each later call answers `Spent`, and
     /// each Id of the store names the square that it named.
+    ///
+    /// The calls of one reader aren't `Full` where the limit of the store is `14 * length + 264` squares above those that it held before the
+    /// first byte and those that other calls have stored since, or more, with the length of all bytes that are fed (`laws::fronts_hold`).
     pub fn feed(&mut self, store: &mut Shared, piece: &[u8]) -> Result<(), Fault>
         requires { self.old.spent ≡ false → Stands store.old self.old }
         ensures bytes { OnOk result (self.new.bytes ≡ self.old.bytes ++ piece.now) }
@@ -72,6 +78,12 @@ impl Reader {
             ⊎ RefusesFront MAX_LEVEL (self.old.bytes ++ piece.now) fault) }
         ensures needed { result ≡ Err (fault_of Full)
             → LacksForFront MAX_LEVEL (self.old.bytes ++ piece.now) store.new }
+        ensures adds { AddsLines (whole_lines (self.old.bytes ++ piece.now)) store.old store.new }
+
+        // Whatever the store held before, it is full only where its limit is below that and the room for the bytes.
+        ensures room { result ≡ Err (fault_of Full) → (base : List Tree)
+            → HoldsFront base self.old.bytes store.old
+            → store.old.limit < length base + room_for (length (self.old.bytes ++ piece.now)) }
         ensures refused { OnErr result (self.new.spent ≡ true) }
         ensures spent { self.old.spent ≡ true → IfErr result (λ fault. fault ≡ fault_of Spent) }
 
@@ -83,9 +95,17 @@ impl Reader {
             return Err(Fault::of(Kind::Spent));
         }
         self.spent = true;
-        self.front.take_piece(store, piece)?;
-        self.spent = false;
-        Ok(())
+        match self.front.take_piece(store, piece) {
+            Ok(()) => {
+                self.spent = false;
+                Ok(())
+            }
+            Err(fault) => {
+                // Its contract says that a store holds each square once, and none that is blank. The proof counts them.
+                let _ = store.len();
+                Err(fault)
+            }
+        }
     }
 
     /// The pattern of the file whose pieces came.
@@ -93,7 +113,8 @@ impl Reader {
     /// # Errors
     ///
     /// The fault of the last line where no line feed ends it, or `NoHeader` where the file lacks a header; `Full` or `Memory`;
-    /// `Spent` after an error of `feed`. After an error too each Id of the store names the square that it named.
+    /// `Spent` after an error of `feed`. After an error too each Id of the store names the square that it named. A limit of
+    /// `14 * length + 264` squares more suffices, as in `feed`.
     pub fn finish(self, store: &mut Shared) -> Result<Pattern, Fault>
         requires { self.spent ≡ false → Stands store.old self }
         ensures pattern { IfOk result
@@ -101,6 +122,10 @@ impl Reader {
         ensures fault { self.spent ≡ false
             → IfErr result (λ fault. RefusesIn MAX_LEVEL self.bytes store.new fault) }
         ensures needed { result ≡ Err (fault_of Full) → LacksFor MAX_LEVEL self.bytes store.new }
+        ensures adds { AddsFile self.bytes store.old store.new }
+        ensures room { result ≡ Err (fault_of Full) → (base : List Tree)
+            → HoldsOnly base self.bytes store.old
+            → store.old.limit < length base + room_for (length self.bytes) }
         ensures spent { self.spent ≡ true → IfErr result (λ fault. fault ≡ fault_of Spent) }
         ensures keeps { Keeps store.old store.new }
     {
@@ -108,6 +133,9 @@ impl Reader {
         if spent {
             return Err(Fault::of(Kind::Spent));
         }
-        front.finish(store)
+        let answer = front.finish(store);
+        // As in `feed`.
+        let _ = store.len();
+        answer
     }
 }

@@ -1,11 +1,14 @@
 //! From a source to a sink.
 
-ghost use Rattle.std.specs.Prelude.{◌≡◌, ◌≢◌, ◌⊎◌, ◌≤◌, ◌^◌, true, false, IsTrue, ◌↔◌, IfOk, IfErr, OnOk, IfSome, IsErrAnd, Some, None, Err, ◌++◌};
+ghost use Rattle.std.specs.Prelude.{◌≡◌, ◌≢◌, ◌⊎◌, ◌+◌, ◌<◌, ◌≤◌, ◌^◌, ℕ, List, length, true, false, IsTrue, ◌↔◌, IfOk, IfErr, OnOk, IfSome, IsErrAnd, Some, None, Err, ◌++◌};
 ghost use Rattle.life_base.specs.DeviceRuns.{source_run, sink_run};
 ghost use Rattle.life_base.specs.Refusal.{fault_of};
-ghost use Rattle.life_canon.specs.Running.{Ran, RunRefuses, ReadRefuses, HasRead, LacksForRead};
+ghost use Rattle.life_canon.specs.Running.{Ran, RunRefuses, ReadRefuses, HasRead, LacksForRead, AddsForRead, IsTightForRead};
 ghost use Rattle.life_canon.specs.Feeding.{RefusesFront, Stands};
+ghost use Rattle.life_base.specs.Lines.{whole_lines};
+ghost use Rattle.life_base.specs.Tree.{Tree};
 ghost use Rattle.life_canon.specs.Needs.{LacksForFront};
+ghost use Rattle.life_canon.specs.Room.{AddsLines, HoldsFront, room_for};
 ghost use Rattle.life_canon.specs.Store.{Keeps, IsWant};
 
 use crate::pattern::Pattern;
@@ -42,6 +45,11 @@ fn feed_piece(
     ensures want { IfErr result (IsWant store.new) }
     ensures needed { result ≡ Err (fault_of Kind.Full)
         → (refused ≡ None) × LacksForFront MAX_LEVEL (reader.old.bytes ++ piece.now) store.new }
+    ensures adds { (bytes : List ℕ) → (refused ≡ None → reader.old.bytes ≡ bytes)
+        → AddsLines (whole_lines (bytes ++ piece.now)) store.old store.new }
+    ensures room { result ≡ Err (fault_of Kind.Full) → (base : List Tree)
+        → HoldsFront base reader.old.bytes store.old
+        → store.old.limit < length base + room_for (length (reader.old.bytes ++ piece.now)) }
     ensures keeps { Keeps store.old store.new }
 {
     match refused {
@@ -71,6 +79,9 @@ fn read_source<R: Source>(
     ensures needed { result ≡ Err (fault_of Kind.Full)
         → LacksForRead MAX_LEVEL most store.new
         (source_run R.remaining R.failures source.old source.new) }
+    ensures adds { AddsForRead (R.remaining source.old) store.old store.new }
+    ensures room { result ≡ Err (fault_of Kind.Full)
+        → IsTightForRead most store.old (source_run R.remaining R.failures source.old source.new) }
     ensures told { R.failures source.new ≡ 1
         → IsErrAnd result (λ fault. fault.kind ≡ Kind.ReadFault) }
     ensures keeps { Keeps store.old store.new }
@@ -106,7 +117,8 @@ fn read_source<R: Source>(
 ///
 /// `ReadFault` where a read fails and `InputTooLong` where more than 2^30 bytes come, also behind a refused line; the fault of the file,
 /// once all of it was read; `Full` where the store holds its limit, and `Memory`, at once. After a fault too each Id of the store names the
-/// square that it named, and nothing stored is gone.
+/// square that it named, and nothing stored is gone. `Full` doesn't come where the limit is `14 * length + 264` squares above those that the
+/// store holds, or more, with the length of the input.
 ///
 /// What is too long stays so with more bytes behind it (`laws::lengths_stay`), and hides no fault of a line that ended in its first 2^30
 /// bytes: they alone have that fault (`laws::length_hides_no_fault`), and `Reader`, which sets no limit, tells it.
@@ -124,6 +136,10 @@ pub fn read_from<R: Source>(
     ensures needed { result ≡ Err (fault_of Kind.Full)
         → LacksForRead MAX_LEVEL (2 ^ 30) store.new
         (source_run R.remaining R.failures source.old source.new) }
+    ensures adds { AddsForRead (R.remaining source.old) store.old store.new }
+    ensures room { result ≡ Err (fault_of Kind.Full)
+        → IsTightForRead (2 ^ 30) store.old
+        (source_run R.remaining R.failures source.old source.new) }
     ensures told { R.failures source.new ≡ 1
         → IsErrAnd result (λ fault. fault.kind ≡ Kind.ReadFault) }
     ensures keeps { Keeps store.old store.new }
@@ -138,7 +154,8 @@ pub fn read_from<R: Source>(
 ///
 /// `ReadFault` where a read fails and `InputTooLong` where more than `most` bytes come, also behind a refused line; the fault of the
 /// file; `Full` where the store holds its limit, and `Memory`; `WriteFault` where a write or the flush fails, or a write takes no bytes.
-/// After a `WriteFault` the sink has a front of the text, after every other fault it is as it was. The store keeps what it has in each case.
+/// After a `WriteFault` the sink has a front of the text, after every other fault it is as it was. The store keeps what it has in each case,
+/// and a limit of `14 * length + 264` squares more suffices for an input of this length.
 pub fn run_canon_within<R: Source, W: Sink>(
     alloc: Global,
     store: &mut Shared,
@@ -160,6 +177,9 @@ pub fn run_canon_within<R: Source, W: Sink>(
     ensures needed { result ≡ Err (fault_of Kind.Full)
         → LacksForRead MAX_LEVEL most store.new
         (source_run R.remaining R.failures reader.old reader.new) }
+    ensures adds { AddsForRead (R.remaining reader.old) store.old store.new }
+    ensures room { result ≡ Err (fault_of Kind.Full)
+        → IsTightForRead most store.old (source_run R.remaining R.failures reader.old reader.new) }
     ensures unwritten { IfErr result
         (λ fault. fault.kind ≢ Kind.WriteFault → writer.new ≡ writer.old) }
     ensures read_told { R.failures reader.new ≡ 1
@@ -179,7 +199,7 @@ pub fn run_canon_within<R: Source, W: Sink>(
 ///
 /// # Errors
 ///
-/// Those of `run_canon_within`, which leave the sink and the store as there.
+/// Those of `run_canon_within`, which leave the sink and the store as there; a limit of `14 * length + 264` squares more suffices.
 pub fn run_canon<R: Source, W: Sink>(
     alloc: Global,
     store: &mut Shared,
@@ -198,6 +218,10 @@ pub fn run_canon<R: Source, W: Sink>(
         (sink_run W.contents W.failures W.stalled writer.old writer.new)) }
     ensures needed { result ≡ Err (fault_of Kind.Full)
         → LacksForRead MAX_LEVEL (2 ^ 30) store.new
+        (source_run R.remaining R.failures reader.old reader.new) }
+    ensures adds { AddsForRead (R.remaining reader.old) store.old store.new }
+    ensures room { result ≡ Err (fault_of Kind.Full)
+        → IsTightForRead (2 ^ 30) store.old
         (source_run R.remaining R.failures reader.old reader.new) }
     ensures unwritten { IfErr result
         (λ fault. fault.kind ≢ Kind.WriteFault → writer.new ≡ writer.old) }

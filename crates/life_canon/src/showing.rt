@@ -8,11 +8,13 @@ ghost use Rattle.life_base.specs.declared.kind.Kind.TheVariants.{Full, Memory};
 ghost use Rattle.life_base.specs.Tree.{depth, is_blank_tree};
 ghost use Rattle.life_quad.specs.Cells.{population, IsLeastBox};
 ghost use Rattle.life_base.specs.declared.bounds.Bounds.{Bounds as BoundsValue};
-ghost use Rattle.std.specs.Prelude.{Option, List, ℕ, true};
+ghost use Rattle.std.specs.Prelude.{Option, List, ℕ, length, true};
 ghost use Rattle.life_rle.specs.Written.{span};
 ghost use Rattle.life_mc.specs.Cells.{node_lines};
 ghost use Rattle.life_canon.specs.Listing.{canonical_file};
+ghost use Rattle.life_quad.specs.Store.{held};
 ghost use Rattle.life_canon.specs.Needs.{LacksFor};
+ghost use Rattle.life_canon.specs.Room.{AddsFile, room_for};
 ghost use Rattle.life_canon.specs.Store.{Keeps, RefusesIn, IsOfFile, IsRead, IsTrimmed, universe_in, content};
 ghost use Rattle.life_canon.specs.Texts.{IsShown, IsOrdered, AreOrdered, box_text, show_text};
 
@@ -148,11 +150,14 @@ pub fn five_lines_of(alloc: Global, store: &Shared, pattern: &Pattern) -> Result
 ///
 /// # Errors
 ///
-/// Those of `canon`. The store keeps what it has as there.
+/// Those of `canon`. The store keeps what it has as there, and a limit of `14 * length + 264` squares more suffices.
 pub fn show(alloc: Global, store: &mut Shared, bytes: &[u8]) -> Result<Vec<u8>, Fault>
     ensures text { IfOk result (λ text. IsShown MAX_LEVEL bytes.now text.items) }
     ensures fault { IfErr result (λ fault. RefusesIn MAX_LEVEL bytes.now store.new fault) }
     ensures needed { result ≡ Err (fault_of Full) → LacksFor MAX_LEVEL bytes.now store.new }
+    ensures adds { AddsFile bytes.now store.old store.new }
+    ensures room { result ≡ Err (fault_of Full)
+        → store.old.limit < length (held store.old) + room_for (length bytes.now) }
     ensures keeps { Keeps store.old store.new }
 {
     let pattern = read(alloc, store, bytes)?;

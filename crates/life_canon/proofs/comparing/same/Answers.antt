@@ -1,7 +1,8 @@
-use Rattle.std.proofs.Common.{inl, inr}
+use Rattle.std.proofs.Common.{arith, inl, inr}
 use Rattle.std.proofs.lemmas.Result.{err_from_is_err_and}
 use Rattle.life_base.specs.declared.cell.TheConstants.{MAX_LEVEL}
-use Rattle.life_quad.proofs.KeepingLemmas.{keeps-then}
+use Rattle.life_quad.proofs.KeepingLemmas.{keeps-then, adds-as, adds-then}
+use Rattle.life_canon.proofs.Adding.{file-few}
 use Rattle.life_canon.proofs.CallFacts.{read-stays, same-read, read-equal}
 use Rattle.life_canon.proofs.comparing.same.Goals as goal
 
@@ -47,3 +48,25 @@ returns-in_err-b-clause-fault c =
     let p = err_from_is_err_and c.from_residual-in_err-b.result c.from_residual-in_err-b.ensures.1 in
     let read = c.in_ok-a.ensures.pattern in
     rw (p.1, p.2) (elim c.in_err-b.ensures.fault [ inl refuses ↦ inr (inl ((read.universe, read.reads), refuses)) | inr want ↦ inr (inr want) ])
+
+pub returns-in_err-a-clause-adds : goal.returns-in_err-a-clause-adds
+returns-in_err-a-clause-adds c = adds-as _ c.in_err-a.ensures.adds (λ P s. inl s)
+
+pub returns-in_err-b-clause-adds : goal.returns-in_err-b-clause-adds
+returns-in_err-b-clause-adds c = adds-then _ c.in_ok-a.ensures.adds c.in_err-b.ensures.adds (λ P s. inl s) (λ P s. inr s)
+
+pub returns-clause-adds : goal.returns-clause-adds
+returns-clause-adds c = adds-then _ c.in_ok-a.ensures.adds c.in_ok-b.ensures.adds (λ P s. inl s) (λ P s. inr s)
+
+pub returns-in_err-a-clause-room : goal.returns-in_err-a-clause-room
+returns-in_err-a-clause-room c =
+    let p = err_from_is_err_and c.from_residual.result c.from_residual.ensures.1 in
+    rw (p.1, p.2) (λ e. let tight = c.in_err-a.ensures.room (cc) in omega (arith, tight))
+
+pub returns-in_err-b-clause-room : goal.returns-in_err-b-clause-room
+returns-in_err-b-clause-room c =
+    let p = err_from_is_err_and c.from_residual-in_err-b.result c.from_residual-in_err-b.ensures.1 in
+    let few = file-few c.args.first.now c.args.store.now c.read.new.store c.len.ensures.distinct (λ t there. (c.len.ensures.only t there).0)
+    c.in_ok-a.ensures.adds in
+    let limit = c.in_ok-a.ensures.keeps.limit in
+    rw (p.1, p.2) (λ e. let tight = c.in_err-b.ensures.room (cc) in omega (arith, few, limit, tight))

@@ -1,7 +1,9 @@
-use Rattle.std.proofs.Common.{◌<◌, length, arith, pos}
-use Rattle.std.proofs.lemmas.Result.{err_from_is_err_and}
+use Rattle.std.proofs.Common.{◌<◌, ◌++◌, length, arith, pos}
+use Rattle.life_base.specs.Tree.{Tree}
 use Rattle.life_base.specs.declared.cell.Run.{Run}
-use Rattle.life_quad.proofs.KeepingLemmas.{keeps-then}
+use Rattle.life_quad.proofs.GrowsLemmas.{grows-behind, grows-err}
+use Rattle.life_quad.proofs.KeepingLemmas.{keeps-then, adds-then}
+use Rattle.life_canon.specs.Needs.{SomeOfRuns}
 use Rattle.life_canon.proofs.BuildFacts.{given-more, next-first, next-more}
 use Rattle.life_canon.proofs.NeedFacts.{runs-above}
 use Rattle.life_canon.proofs.feeding.add_runs.Goals as goal
@@ -32,17 +34,20 @@ loop-run-preserved g c =
       given_so_far = given-more c.args.builder.now.runs c.loop-run.builder.runs c.add_run.new.self.runs c.args.runs.now c.loop-run.run-index none h
           i.given_so_far e.runs;
       next = next-more c.loop-run.builder.runs c.add_run.new.self.runs c.args.runs.now c.loop-run.run-index none h i.next e.runs;
-      keeps = keeps-then i.keeps e.keeps;
+      keeps = keeps-then i.keeps e.grows.keeps;
+      adds = adds-then _ i.adds e.grows.adds (λ P a. a)
+          (λ P s. runs-above P c.args.builder.now.runs c.loop-run.builder.runs c.args.runs.now c.loop-run.run-index none h i.given_so_far s);
     }
 
-pub returns-in_err-add_run-clause-needed : goal.returns-in_err-add_run-clause-needed
-returns-in_err-add_run-clause-needed g c =
+pub returns-in_err-add_run-clause-grows : goal.returns-in_err-add_run-clause-grows
+returns-in_err-add_run-clause-grows g c =
     let h : c.loop-run.run-index < length c.args.runs.now = omega arith in
     let i = c.loop-run.invariant in
-    let p = err_from_is_err_and c.from_residual.result c.from_residual.ensures.1 in
-    rw (p.1, p.2)
-    (λ e. runs-above (g.S.Squares.needs_node c.add_run.new.squares) c.args.builder.now.runs c.loop-run.builder.runs c.args.runs.now c.loop-run.run-index none h
-    i.given_so_far (c.in_err-add_run.ensures.needed e))
+    let Needs : (Tree → Type 0) → Type 0 = λ P. SomeOfRuns P (c.args.builder.now.runs ++ c.args.runs.now) in
+    let all = grows-behind Needs i.keeps i.adds c.in_err-add_run.ensures.grows
+    (λ P s. runs-above P c.args.builder.now.runs c.loop-run.builder.runs c.args.runs.now c.loop-run.run-index none h i.given_so_far s) in
+    grows-err Needs all c.from_residual.ensures.1 (λ P a. a)
 
-pub returns-in_err-add_run-clause-keeps : goal.returns-in_err-add_run-clause-keeps
-returns-in_err-add_run-clause-keeps g c = keeps-then c.loop-run.invariant.keeps c.in_err-add_run.ensures.keeps
+pub returns-clause-grows : goal.returns-clause-grows
+returns-clause-grows g c =
+    record { keeps = c.loop-run.invariant.keeps; refusals = tt; needed = λ e. absurd (cc); adds = c.loop-run.invariant.adds }

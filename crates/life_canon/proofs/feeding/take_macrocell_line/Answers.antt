@@ -1,19 +1,18 @@
-use Rattle.std.proofs.Common.{◌≡◌, ℕ, List, [], ◌∷◌, ◌++◌, refl, sym, ap, ◌∙◌, subst}
+use Rattle.std.proofs.Common.{◌≡◌, ℕ, List, [], ◌∷◌, ◌++◌, sym, ap, ◌∙◌, subst}
 use Rattle.std.specs.Prelude.{Option}
 use Rattle.std.specs.List.{cons_option}
 use Rattle.std.proofs.lemmas.Result.{err_from_is_err_and}
 use Rattle.life_base.specs.declared.kind.Kind.{Kind}
-use Rattle.life_base.specs.Refusal.{Prefix}
-use Rattle.life_base.specs.declared.cell.TheConstants.{MAX_LEVEL}
-use Rattle.life_mc.specs.Reading.{Accepts, squares_of}
+use Rattle.life_mc.specs.Reading.{squares_of}
 use Rattle.life_base.specs.Lines.{LinesRead}
 use Rattle.life_mc.specs.declared.line.Line.{Line}
 use Rattle.life_quad.specs.declared.id.Id.{Id}
+use Rattle.life_quad.proofs.KeepingLemmas.{adds-as}
 use Rattle.life_canon.specs.Filling.{AreSquaresOf}
 use Rattle.life_canon.proofs.GrowFacts.{last-square, squares-grow}
 use Rattle.life_canon.proofs.PatternFacts.{NextSquare, next-square, not-full}
 use Rattle.life_canon.proofs.Standing.{squares-stay}
-use Rattle.life_canon.specs.Needs.{of_node_line}
+use Rattle.life_canon.proofs.NeedFacts.{next-needs}
 use Rattle.life_canon.proofs.feeding.take_macrocell_line.Goals as goal
 
 pub line_square-requires : goal.line_square-requires
@@ -51,7 +50,7 @@ returns-clause-squares g c =
     (ids ++ c.in_ok-id.id ∷ []) =
     squares-grow (g.S.Squares.knows c.line_square.new.squares) (g.S.Squares.content c.line_square.new.squares) next.rule next.generation (squares_of old) square
     ids c.in_ok-id.id next.valid
-    (squares-stay (squares_of old) ids c.in_ok-id.ensures.keeps.contents c.requires.squares) c.in_ok-id.ensures.known is in
+    (squares-stay (squares_of old) ids c.in_ok-id.ensures.grows.keeps.contents c.requires.squares) c.in_ok-id.ensures.known is in
     subst (λ (ls : List Line). AreSquaresOf (g.S.Squares.knows c.line_square.new.squares) (g.S.Squares.content c.line_square.new.squares) ls
     c.push.new.self.items) (sym squares)
     (subst (λ (is : List Id). AreSquaresOf (g.S.Squares.knows c.line_square.new.squares) (g.S.Squares.content c.line_square.new.squares)
@@ -75,6 +74,53 @@ returns-in_err-id-clause-needed g c =
     let were : AreSquaresOf (g.S.Squares.knows c.args.squares.now) (g.S.Squares.content c.args.squares.now) (squares_of old) c.deref.result.now =
     subst (λ (is : List Id). AreSquaresOf (g.S.Squares.knows c.args.squares.now) (g.S.Squares.content c.args.squares.now) (squares_of old) is)
     (sym c.deref.ensures.value) c.requires.squares in
-    λ e. of_node_line old c.args.line.now [] square refl (subst (Prefix (Accepts MAX_LEVEL)) more c.in_ok-square.ensures.front)
-    (subst (λ (ls : List (List ℕ)). squares_of ls ≡ squares_of old ++ square ∷ []) more squares)
-    (c.in_err-id.ensures.needed (squares_of old) next.rule one were)
+    λ e. next-needs _ old c.line.new.self.lines c.args.line.now square more c.in_ok-square.ensures.front squares
+    (c.in_err-id.ensures.grows.needed (squares_of old) next.rule one were)
+
+pub returns-in_err-id-clause-adds : goal.returns-in_err-id-clause-adds
+returns-in_err-id-clause-adds g c =
+    let old : List (List ℕ) = c.args.lines.now.lines in
+    let square : Line = c.in-Some.square in
+    let more : c.line.new.self.lines ≡ old ++ c.args.line.now ∷ [] = ap (λ (v : LinesRead). v.lines) c.in_ok-square.ensures.lines in
+    let squares : squares_of c.line.new.self.lines ≡ squares_of old ++ square ∷ [] =
+    c.in_ok-square.ensures.squares ∙ ap (λ (o : Option Line). squares_of old ++ cons_option o []) c.in-Some.is in
+    let next : NextSquare old square = next-square old c.line.new.self.lines c.args.line.now square more c.in_ok-square.ensures.front squares in
+    let one = last-square next.rule next.generation (squares_of old) square next.valid in
+    let were : AreSquaresOf (g.S.Squares.knows c.args.squares.now) (g.S.Squares.content c.args.squares.now) (squares_of old) c.deref.result.now =
+    subst (λ (is : List Id). AreSquaresOf (g.S.Squares.knows c.args.squares.now) (g.S.Squares.content c.args.squares.now) (squares_of old) is)
+    (sym c.deref.ensures.value) c.requires.squares in
+    adds-as _ c.line_square.ensures.grows.adds
+    (λ P some. next-needs P old c.line.new.self.lines c.args.line.now square more c.in_ok-square.ensures.front squares
+    (some (squares_of old) next.rule one were))
+
+pub returns-in_err-push-clause-adds : goal.returns-in_err-push-clause-adds
+returns-in_err-push-clause-adds g c =
+    let old : List (List ℕ) = c.args.lines.now.lines in
+    let square : Line = c.in-Some.square in
+    let more : c.line.new.self.lines ≡ old ++ c.args.line.now ∷ [] = ap (λ (v : LinesRead). v.lines) c.in_ok-square.ensures.lines in
+    let squares : squares_of c.line.new.self.lines ≡ squares_of old ++ square ∷ [] =
+    c.in_ok-square.ensures.squares ∙ ap (λ (o : Option Line). squares_of old ++ cons_option o []) c.in-Some.is in
+    let next : NextSquare old square = next-square old c.line.new.self.lines c.args.line.now square more c.in_ok-square.ensures.front squares in
+    let one = last-square next.rule next.generation (squares_of old) square next.valid in
+    let were : AreSquaresOf (g.S.Squares.knows c.args.squares.now) (g.S.Squares.content c.args.squares.now) (squares_of old) c.deref.result.now =
+    subst (λ (is : List Id). AreSquaresOf (g.S.Squares.knows c.args.squares.now) (g.S.Squares.content c.args.squares.now) (squares_of old) is)
+    (sym c.deref.ensures.value) c.requires.squares in
+    adds-as _ c.line_square.ensures.grows.adds
+    (λ P some. next-needs P old c.line.new.self.lines c.args.line.now square more c.in_ok-square.ensures.front squares
+    (some (squares_of old) next.rule one were))
+
+pub returns-clause-adds : goal.returns-clause-adds
+returns-clause-adds g c =
+    let old : List (List ℕ) = c.args.lines.now.lines in
+    let square : Line = c.in-Some.square in
+    let more : c.line.new.self.lines ≡ old ++ c.args.line.now ∷ [] = ap (λ (v : LinesRead). v.lines) c.in_ok-square.ensures.lines in
+    let squares : squares_of c.line.new.self.lines ≡ squares_of old ++ square ∷ [] =
+    c.in_ok-square.ensures.squares ∙ ap (λ (o : Option Line). squares_of old ++ cons_option o []) c.in-Some.is in
+    let next : NextSquare old square = next-square old c.line.new.self.lines c.args.line.now square more c.in_ok-square.ensures.front squares in
+    let one = last-square next.rule next.generation (squares_of old) square next.valid in
+    let were : AreSquaresOf (g.S.Squares.knows c.args.squares.now) (g.S.Squares.content c.args.squares.now) (squares_of old) c.deref.result.now =
+    subst (λ (is : List Id). AreSquaresOf (g.S.Squares.knows c.args.squares.now) (g.S.Squares.content c.args.squares.now) (squares_of old) is)
+    (sym c.deref.ensures.value) c.requires.squares in
+    adds-as _ c.line_square.ensures.grows.adds
+    (λ P some. next-needs P old c.line.new.self.lines c.args.line.now square more c.in_ok-square.ensures.front squares
+    (some (squares_of old) next.rule one were))

@@ -6,6 +6,7 @@ use Rattle.life_base.specs.declared.kind.Kind.{Kind}
 use Rattle.life_rle.specs.File.{HasRuns}
 use Rattle.life_rle.specs.Grammar.{Breaks as BreaksRle}
 use Rattle.life_base.specs.declared.cell.Run.{Run}
+use Rattle.life_quad.proofs.KeepingLemmas.{adds-as}
 use Rattle.life_canon.specs.Building.{AreNext}
 use Rattle.life_canon.proofs.BuildFacts.{lines-next}
 use Rattle.life_canon.proofs.PatternFacts.{both-ok, not-full-rle, told-fault}
@@ -55,4 +56,14 @@ returns-clause-needed g c =
     let more : c.line_into.new.self.lines ≡ c.args.lines.now.lines ++ c.args.line.now ∷ [] = ap (λ (v : LinesRead). v.lines) c.in_ok-line_into.ensures.lines in
     λ e. subst (SomeOfLines MAX_LEVEL P) more
     (line-runs P c.line_into.new.self.lines (c.args.builder.now.runs ++ added.runs) (added.found c.args.builder.now.runs built.are)
-    (subst (λ (l : List Run). SomeOfRuns P (c.args.builder.now.runs ++ l)) all (c.add_runs.ensures.needed e)))
+    (subst (λ (l : List Run). SomeOfRuns P (c.args.builder.now.runs ++ l)) all (c.add_runs.ensures.grows.needed e)))
+
+pub returns-clause-adds : goal.returns-clause-adds
+returns-clause-adds g c =
+    let built = c.requires.built in
+    let added = c.in_ok-line_into.ensures.runs in
+    let all : c.deref.result.now ≡ added.runs = c.deref.ensures.value ∙ added.added ∙ ap (λ (l : List Run). l ++ added.runs) c.clear.ensures.items in
+    let more : c.line_into.new.self.lines ≡ c.args.lines.now.lines ++ c.args.line.now ∷ [] = ap (λ (v : LinesRead). v.lines) c.in_ok-line_into.ensures.lines in
+    adds-as _ c.add_runs.ensures.grows.adds (λ P s. subst (SomeOfLines MAX_LEVEL P) more
+    (line-runs P c.line_into.new.self.lines (c.args.builder.now.runs ++ added.runs) (added.found c.args.builder.now.runs built.are)
+    (subst (λ (l : List Run). SomeOfRuns P (c.args.builder.now.runs ++ l)) all s)))

@@ -1,11 +1,15 @@
 use Rattle.std.specs.Prelude.{IfErr}
 use Rattle.std.proofs.lemmas.Result.{IfOk-weaker, err_from_is_err_and}
-use Rattle.life_quad.proofs.KeepingLemmas.{keeps-then}
+use Rattle.life_base.specs.Lines.{whole_lines}
+use Rattle.life_quad.specs.Store.{held}
+use Rattle.life_quad.proofs.KeepingLemmas.{keeps-then, adds-as, adds-then}
 use Rattle.life_canon.proofs.CallFacts.{feed-fault}
-use Rattle.std.proofs.Common.{ℕ, List, ◌++◌, ap, ◌∙◌, subst}
+use Rattle.std.proofs.Common.{ℕ, ◌+◌, ◌<◌, List, [], ◌++◌, length, ap, sym, ◌∙◌, subst, arith, inl}
 use Rattle.life_base.specs.declared.cell.TheConstants.{MAX_LEVEL}
 use Rattle.life_canon.specs.Needs.{IsNew, LacksFor, LacksForFront}
+use Rattle.life_canon.specs.Room.{AddsLines, AddsFile, HoldsFront, HoldsOnly, room_for}
 use Rattle.life_canon.specs.Store.{IsRead, RefusesIn}
+use Rattle.life_canon.proofs.Adding.{fronts_hold}
 use Rattle.life_canon.proofs.NeedFacts.{whole-needs}
 use Rattle.life_canon.proofs.reading.read.Goals as goal
 
@@ -38,3 +42,38 @@ pub returns-clause-fault : goal.returns-clause-fault
 returns-clause-fault c =
     let all = c.in_ok-feed.ensures.bytes ∙ ap (λ (b : List ℕ). b ++ c.args.bytes.now) c.new-reader.ensures.bytes in
     subst (λ (b : List ℕ). IfErr c.finish.result (RefusesIn MAX_LEVEL b c.finish.new.store)) all (c.finish.ensures.fault c.in_ok-feed.ensures.open.1)
+
+pub returns-in_err-feed-clause-adds : goal.returns-in_err-feed-clause-adds
+returns-in_err-feed-clause-adds c =
+    let none = ap (λ (b : List ℕ). b ++ c.args.bytes.now) c.new-reader.ensures.bytes in
+    let lines = subst (λ (b : List ℕ). AddsLines (whole_lines b) c.args.store.now c.feed.new.store) none c.in_err-feed.ensures.adds in
+    adds-as _ lines (λ P s. whole-needs P c.args.bytes.now s)
+
+pub returns-clause-adds : goal.returns-clause-adds
+returns-clause-adds c =
+    let none = ap (λ (b : List ℕ). b ++ c.args.bytes.now) c.new-reader.ensures.bytes in
+    let lines = subst (λ (b : List ℕ). AddsLines (whole_lines b) c.args.store.now c.feed.new.store) none c.in_ok-feed.ensures.adds in
+    let all = c.in_ok-feed.ensures.bytes ∙ none in
+    let file = subst (λ (b : List ℕ). AddsFile b c.feed.new.store c.finish.new.store) all c.finish.ensures.adds in
+    adds-then _ lines file (λ P s. whole-needs P c.args.bytes.now s) (λ P a. a)
+
+pub returns-in_err-feed-clause-room : goal.returns-in_err-feed-clause-room
+returns-in_err-feed-clause-room c =
+    let p = err_from_is_err_and c.from_residual.result c.from_residual.ensures.1 in
+    let none = ap (λ (b : List ℕ). b ++ c.args.bytes.now) c.new-reader.ensures.bytes in
+    let base = held c.args.store.now in
+    rw (p.1, p.2) (λ e. subst (λ (b : List ℕ). c.args.store.now.limit < length base + room_for (length b)) none
+    (c.in_err-feed.ensures.room (cc) base (λ t there. inl there)))
+
+pub returns-clause-room : goal.returns-clause-room
+returns-clause-room c = λ e.
+    let none = ap (λ (b : List ℕ). b ++ c.args.bytes.now) c.new-reader.ensures.bytes in
+    let all = c.in_ok-feed.ensures.bytes ∙ none in
+    let base = held c.args.store.now in
+    let front : HoldsFront base c.new-reader.result.bytes c.args.store.now = λ t there. inl there in
+    let held_front = (fronts_hold c.new-reader.result.bytes c.args.bytes.now base c.args.store.now c.feed.new.store front).0 c.in_ok-feed.ensures.adds in
+    let only = (fronts_hold (c.new-reader.result.bytes ++ c.args.bytes.now) [] base c.feed.new.store c.feed.new.store held_front).1 in
+    let tight = c.finish.ensures.room e base (subst (λ (b : List ℕ). HoldsOnly base b c.feed.new.store) (sym c.in_ok-feed.ensures.bytes) only) in
+    let limit = c.in_ok-feed.ensures.keeps.limit in
+    let tight_here = subst (λ (b : List ℕ). c.feed.new.store.limit < length base + room_for (length b)) all tight in
+    omega (arith, limit, tight_here)

@@ -1,4 +1,7 @@
-use Rattle.std.proofs.Common.{◌++◌}
+use Rattle.std.proofs.Common.{ℕ, List, ◌++◌, subst}
+use Rattle.life_base.specs.Lines.{whole_lines}
+use Rattle.life_quad.proofs.KeepingLemmas.{adds-none}
+use Rattle.life_canon.specs.Room.{AddsLines}
 use Rattle.life_canon.proofs.RunFacts.{want-of}
 use Rattle.life_canon.proofs.running.feed_piece.Goals as goal
 
@@ -9,3 +12,21 @@ returns-in-Err-clause-want c =
 
 pub returns-in-Err-clause-needed : goal.returns-in-Err-clause-needed
 returns-in-Err-clause-needed c = λ e. (c.in-None.is, c.in-Err.ensures.needed (cc))
+
+pub returns-in-Some-clause-adds : goal.returns-in-Some-clause-adds
+returns-in-Some-clause-adds c = λ bytes is. adds-none _ c.args.store.now
+
+pub returns-in-Ok-clause-adds : goal.returns-in-Ok-clause-adds
+returns-in-Ok-clause-adds c = λ bytes is. subst (λ (b : List ℕ). AddsLines (whole_lines (b ++ c.args.piece.now)) c.args.store.now c.feed.new.store) (is c.in-None.is)
+    c.feed.ensures.adds
+
+pub returns-in-Err-clause-adds : goal.returns-in-Err-clause-adds
+returns-in-Err-clause-adds c = λ bytes is. subst (λ (b : List ℕ). AddsLines (whole_lines (b ++ c.args.piece.now)) c.args.store.now c.feed.new.store) (is c.in-None.is)
+    c.feed.ensures.adds
+
+pub returns-in-Err-2-clause-adds : goal.returns-in-Err-2-clause-adds
+returns-in-Err-2-clause-adds c = λ bytes is. subst (λ (b : List ℕ). AddsLines (whole_lines (b ++ c.args.piece.now)) c.args.store.now c.feed.new.store) (is c.in-None.is)
+    c.feed.ensures.adds
+
+pub returns-in-Err-clause-room : goal.returns-in-Err-clause-room
+returns-in-Err-clause-room c = λ e. c.in-Err.ensures.room (cc)

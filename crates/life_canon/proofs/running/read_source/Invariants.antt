@@ -5,7 +5,7 @@ use Rattle.life_canon.proofs.running.read_source.Given as goal
 
 abbrev pub invariant-loop-reader : goal.invariant-loop-reader
 invariant-loop-reader g l =
-    IsReading l.store (g.R.Source.remaining l.initial.source) (g.R.Source.remaining l.source) l.total l.refused l.reader
+    IsReading l.initial.store l.store (g.R.Source.remaining l.initial.source) (g.R.Source.remaining l.source) l.total l.refused l.reader
     × (g.R.Source.failures l.source ≡ 0) × (l.total ≤ l.most) × Keeps l.initial.store l.store
 
 abbrev pub decreases-loop-reader : goal.decreases-loop-reader

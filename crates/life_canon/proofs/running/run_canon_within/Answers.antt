@@ -106,3 +106,8 @@ pub returns-in_err-pattern-clause-needed : goal.returns-in_err-pattern-clause-ne
 returns-in_err-pattern-clause-needed g c =
     let p = err_from_is_err_and c.from_residual.result c.from_residual.ensures.1 in
     rw (p.1, p.2) (λ e. c.in_err-pattern.ensures.needed (cc))
+
+pub returns-in_err-pattern-clause-room : goal.returns-in_err-pattern-clause-room
+returns-in_err-pattern-clause-room g c =
+    let p = err_from_is_err_and c.from_residual.result c.from_residual.ensures.1 in
+    rw (p.1, p.2) (λ e. c.in_err-pattern.ensures.room (cc))

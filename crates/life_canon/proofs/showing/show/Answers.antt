@@ -15,3 +15,8 @@ returns-in_err-pattern-clause-needed c =
 
 pub returns-clause-fault : goal.returns-clause-fault
 returns-clause-fault c = IfErr-weaker c.five_lines_of.result _ _ (λ fault e. inr (inl e)) c.five_lines_of.ensures.memory
+
+pub returns-in_err-pattern-clause-room : goal.returns-in_err-pattern-clause-room
+returns-in_err-pattern-clause-room c =
+    let p = err_from_is_err_and c.from_residual.result c.from_residual.ensures.1 in
+    rw (p.1, p.2) (λ e. c.in_err-pattern.ensures.room (cc))

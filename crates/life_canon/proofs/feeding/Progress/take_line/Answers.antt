@@ -8,6 +8,7 @@ use Rattle.life_quad.specs.Store.{held}
 use Rattle.life_canon.specs.Taking.{StandsFor, IsReady, taken}
 use Rattle.life_canon.proofs.PatternFacts.{rle-fault}
 use Rattle.life_canon.specs.Needs.{IsNew, SomeOfLines}
+use Rattle.life_canon.specs.Room.{AddsLines}
 use Rattle.life_canon.proofs.feeding.Progress.take_line.Goals as goal
 
 pub take_rle_line-requires-clause-built : goal.take_rle_line-requires-clause-built
@@ -37,3 +38,15 @@ returns-in-Macrocell-clause-needed c = λ e.
     let lines : taken c.args.self.now ≡ c.in-Macrocell.lines.lines = sym c.begin.ensures.lines ∙ ap taken c.in-Macrocell.is in
     subst (λ (ls : List (List ℕ)). SomeOfLines MAX_LEVEL (IsNew c.take_macrocell_line.new.squares) (ls ++ c.args.line.now ∷ [])) (sym lines)
     (c.take_macrocell_line.ensures.needed e)
+
+pub returns-in-Rle-clause-adds : goal.returns-in-Rle-clause-adds
+returns-in-Rle-clause-adds c =
+    let lines : taken c.args.self.now ≡ c.in-Rle.lines.lines = sym c.begin.ensures.lines ∙ ap taken c.in-Rle.is in
+    subst (λ (ls : List (List ℕ)). AddsLines (ls ++ c.args.line.now ∷ []) c.args.store.now c.take_rle_line.new.squares) (sym lines)
+    c.take_rle_line.ensures.adds
+
+pub returns-in-Macrocell-clause-adds : goal.returns-in-Macrocell-clause-adds
+returns-in-Macrocell-clause-adds c =
+    let lines : taken c.args.self.now ≡ c.in-Macrocell.lines.lines = sym c.begin.ensures.lines ∙ ap taken c.in-Macrocell.is in
+    subst (λ (ls : List (List ℕ)). AddsLines (ls ++ c.args.line.now ∷ []) c.args.store.now c.take_macrocell_line.new.squares) (sym lines)
+    c.take_macrocell_line.ensures.adds

@@ -1,6 +1,7 @@
 use Rattle.std.proofs.Common.{◌≡◌, ℕ, List, ◌++◌, [], ◌∷◌, sym, ap, ◌∙◌, refl}
 use Rattle.std.proofs.lemmas.Result.{err_from_is_err_and}
 use Rattle.life_base.specs.declared.line_log.LineLog.{LineLog}
+use Rattle.life_quad.proofs.KeepingLemmas.{adds-as}
 use Rattle.life_canon.specs.Needs.{IsNew}
 use Rattle.life_canon.specs.Taking.{bytes_of, taken}
 use Rattle.life_canon.proofs.FrontFacts.{line-told, front-ended, front-along, bytes-more}
@@ -35,3 +36,15 @@ returns-in_err-take_ended-clause-needed c =
     rw (p.1, p.2) (λ e rest. ended-needs (IsNew c.take_ended.new.store) (bytes_of old.pieces.lines) old.kept.items c.args.end.now rest old.ended
     (taken old.progress)
     (c.requires.front.going c.requires.going) c.requires.no_feed (c.in_err-take_ended.ensures.needed e))
+
+pub returns-in_err-take_ended-clause-adds : goal.returns-in_err-take_ended-clause-adds
+returns-in_err-take_ended-clause-adds c =
+    let old = c.args.self.now in
+    adds-as _ c.take_ended.ensures.adds (λ P s rest. ended-needs P (bytes_of old.pieces.lines) old.kept.items c.args.end.now rest old.ended (taken old.progress)
+    (c.requires.front.going c.requires.going) c.requires.no_feed s)
+
+pub returns-clause-adds : goal.returns-clause-adds
+returns-clause-adds c =
+    let old = c.args.self.now in
+    adds-as _ c.take_ended.ensures.adds (λ P s rest. ended-needs P (bytes_of old.pieces.lines) old.kept.items c.args.end.now rest old.ended (taken old.progress)
+    (c.requires.front.going c.requires.going) c.requires.no_feed s)

@@ -4,7 +4,7 @@ use Rattle.life_base.specs.Refusal.{fault_at, fault_of}
 use Rattle.life_base.specs.declared.kind.Kind.{Kind}
 use Rattle.life_base.specs.declared.kind.Kind.TheVariants.{Full}
 use Rattle.life_base.specs.declared.cell.TheConstants.{MAX_LEVEL}
-use Rattle.life_quad.proofs.KeepingLemmas.{keeps-then}
+use Rattle.life_quad.proofs.KeepingLemmas.{keeps-then, adds-then}
 use Rattle.life_canon.specs.Store.{RefusesIn}
 use Rattle.life_canon.specs.Taking.{bytes_of}
 use Rattle.life_canon.proofs.FrontFacts.{end-says, end-fault}
@@ -47,3 +47,15 @@ returns-clause-needed c = λ e.
     let kind : c.in-Err.kind ≡ Full = kind-full (min (front.ended + 1) (2 ^ 64 - 1)) c.in-Err.kind (sym told ∙ fault) in
     at_end (end-needs (IsNew c.end.new.store) (bytes_of c.args.self.pieces.lines) front.ended front.progress c.in_ok-take_rest.ensures.end
     (c.in-Err.ensures.needed (ap (λ (k : Kind). Err k) kind)))
+
+pub returns-in-Ok-clause-adds : goal.returns-in-Ok-clause-adds
+returns-in-Ok-clause-adds c =
+    let front = c.take_rest.new.self in
+    adds-then _ c.take_rest.ensures.adds c.end.ensures.adds (λ P a. a)
+    (λ P s. at_end (end-needs P (bytes_of c.args.self.pieces.lines) front.ended front.progress c.in_ok-take_rest.ensures.end s))
+
+pub returns-clause-adds : goal.returns-clause-adds
+returns-clause-adds c =
+    let front = c.take_rest.new.self in
+    adds-then _ c.take_rest.ensures.adds c.end.ensures.adds (λ P a. a)
+    (λ P s. at_end (end-needs P (bytes_of c.args.self.pieces.lines) front.ended front.progress c.in_ok-take_rest.ensures.end s))

@@ -2,12 +2,13 @@ use Rattle.std.proofs.Common.{◌≡◌, ℕ, ◌+◌, ◌-◌, ◌<◌, ◌≤�
 use Rattle.std.proofs.lemmas.Grind.{common_steps}
 use Rattle.std.proofs.lemmas.Result.{err_from_is_err_and}
 use Rattle.life_base.proofs.LineEnds.{all_behind}
-use Rattle.life_quad.proofs.KeepingLemmas.{keeps-then}
+use Rattle.life_base.specs.Lines.{whole_lines}
+use Rattle.life_quad.proofs.KeepingLemmas.{keeps-then, adds-then}
 use Rattle.life_canon.specs.Taking.{bytes_of, IsOver}
 use Rattle.life_canon.proofs.FeedFacts.{feed-before, feed-within, piece-split, is-none}
 use Rattle.life_canon.proofs.FrontFacts.{told-along, over-or-clean}
 use Rattle.life_base.specs.declared.cell.TheConstants.{MAX_LEVEL}
-use Rattle.life_canon.specs.Needs.{LacksForFront}
+use Rattle.life_canon.specs.Needs.{LacksForFront, SomeOfLines}
 use Rattle.life_canon.proofs.front.Front.take_piece.Goals as goal
 
 pub end_line-requires-clause-no_feed : goal.end_line-requires-clause-no_feed
@@ -44,6 +45,10 @@ loop-end-preserved c =
       shorter = subst (λ (r : List ℕ). length r ≤ length c.args.piece.now) (sym behind)
           (omega (arith, length-drop (c.in-Some.end + 1) rest, c.loop-end.invariant.shorter));
       keeps = keeps-then c.loop-end.invariant.keeps c.end_line.ensures.keeps;
+      adds = adds-then _ c.loop-end.invariant.adds c.end_line.ensures.adds (λ P a. a)
+          (λ P s. subst (λ (b : List ℕ). SomeOfLines MAX_LEVEL P (whole_lines b))
+          (piece-split (bytes_of c.loop-end.self.pieces.lines) rest c.in-Some.end c.in-Some.ensures.end c.loop-end.invariant.bytes)
+          (s (drop (c.in-Some.end + 1) rest)));
     }
 
 pub end_piece-requires-clause-last : goal.end_piece-requires-clause-last
@@ -57,3 +62,10 @@ returns-in_err-end_line-clause-needed c =
     let all = piece-split (bytes_of c.loop-end.self.pieces.lines) rest c.in-Some.end c.in-Some.ensures.end c.loop-end.invariant.bytes in
     rw (p.1, p.2) (λ e. subst (λ (b : List ℕ). LacksForFront MAX_LEVEL b c.end_line.new.store) all
     (c.in_err-end_line.ensures.needed e (drop (c.in-Some.end + 1) rest)))
+
+pub returns-in_err-end_line-clause-adds : goal.returns-in_err-end_line-clause-adds
+returns-in_err-end_line-clause-adds c =
+    let rest : List ℕ = c.loop-end.rest.now in
+    let all = piece-split (bytes_of c.loop-end.self.pieces.lines) rest c.in-Some.end c.in-Some.ensures.end c.loop-end.invariant.bytes in
+    adds-then _ c.loop-end.invariant.adds c.end_line.ensures.adds (λ P a. a)
+    (λ P s. subst (λ (b : List ℕ). SomeOfLines MAX_LEVEL P (whole_lines b)) all (s (drop (c.in-Some.end + 1) rest)))

@@ -1,4 +1,6 @@
 use Rattle.std.proofs.Common.{◌≡◌, ◌≤◌, ◌++◌, length}
+use Rattle.life_base.specs.Lines.{whole_lines}
+use Rattle.life_canon.specs.Room.{AddsLines}
 use Rattle.life_canon.specs.Store.{IsKnown, content, Keeps}
 use Rattle.life_canon.specs.Taking.{IsFrontOf, StandsFor, bytes_of}
 use Rattle.life_canon.proofs.front.Front.take_piece.Given as goal
@@ -10,6 +12,7 @@ invariant-loop-end l = record {
   bytes : bytes_of l.self.pieces.lines ++ l.rest ≡ bytes_of l.initial.self.pieces.lines ++ l.initial.rest;
   shorter : length l.rest ≤ length l.initial.rest;
   keeps : Keeps l.initial.store l.store;
+  adds : AddsLines (whole_lines (bytes_of l.initial.self.pieces.lines ++ l.initial.rest)) l.initial.store l.store;
 }
 
 abbrev pub decreases-loop-end : goal.decreases-loop-end

@@ -5,6 +5,7 @@ use Rattle.life_canon.specs.Taking.{bytes_of, taken}
 use Rattle.life_canon.proofs.FrontFacts.{whole-end, kept-end, kept-going, rest-lines, rest-fault, no-length}
 use Rattle.life_canon.proofs.PatternFacts.{both-ok}
 use Rattle.life_base.specs.declared.cell.TheConstants.{MAX_LEVEL}
+use Rattle.life_quad.proofs.KeepingLemmas.{adds-as}
 use Rattle.life_canon.specs.Needs.{IsNew, SomeOfFile, of_lines}
 use Rattle.life_canon.proofs.front.Front.take_rest.Goals as goal
 
@@ -43,3 +44,13 @@ returns-clause-needed c =
     let going = c.requires.front.going (kept-going bytes kept old.ended old.progress c.requires.front some) in
     λ e. subst (SomeOfFile MAX_LEVEL (IsNew c.take_kept.new.store)) (sym (rest-lines bytes kept old.ended (taken old.progress) going some))
     (of_lines (c.take_kept.ensures.needed e))
+
+pub returns-clause-adds : goal.returns-clause-adds
+returns-clause-adds c =
+    let old = c.args.self.now in
+    let bytes : List ℕ = bytes_of old.pieces.lines in
+    let kept : List ℕ = old.kept.items in
+    let some : 0 < length kept = grind (arith, nat_tests, c.if-is_empty.ensures) in
+    let going = c.requires.front.going (kept-going bytes kept old.ended old.progress c.requires.front some) in
+    adds-as _ c.take_kept.ensures.adds
+    (λ P s. subst (SomeOfFile MAX_LEVEL P) (sym (rest-lines bytes kept old.ended (taken old.progress) going some)) (of_lines s))

@@ -1,27 +1,47 @@
-use Rattle.std.proofs.Common.{◌++◌, subst, rules}
-use Rattle.std.proofs.lemmas.Result.{err_from_is_err_and}
+use Rattle.std.proofs.Common.{◌≡◌, ◌++◌, ◌+◌, ◌<◌, length, subst, rules}
 use Rattle.life_base.specs.declared.cell.TheConstants.{MAX_LEVEL}
 use Rattle.life_canon.specs.Feeding.{Fed}
+use Rattle.life_base.specs.Lines.{whole_lines}
+use Rattle.life_base.specs.Refusal.{fault_of}
+use Rattle.life_base.specs.declared.kind.Kind.TheVariants.{Full}
 use Rattle.life_canon.specs.Needs.{LacksForFront}
+use Rattle.life_canon.specs.Room.{AddsLines, HoldsFront, room_for}
+use Rattle.life_canon.proofs.Adding.{front-tight}
+use Rattle.life_canon.proofs.RunFacts.{front-full}
 use Rattle.life_canon.specs.Taking.{bytes_of}
 use Rattle.life_canon.proofs.FrontFacts.{front-unrefused, over-keeps-none}
 use Rattle.life_canon.proofs.reader.Reader.feed.Goals as goal
 
-pub returns-clause-bytes : goal.returns-clause-bytes
-returns-clause-bytes c = search rules
+pub returns-in-Ok-clause-bytes : goal.returns-in-Ok-clause-bytes
+returns-in-Ok-clause-bytes c = search rules
 
-pub returns-clause-front : goal.returns-clause-front
-returns-clause-front c =
+pub returns-in-Ok-clause-front : goal.returns-in-Ok-clause-front
+returns-in-Ok-clause-front c =
     let now = c.take_piece.new.self in
-    front-unrefused (bytes_of now.pieces.lines) now.kept.items now.ended now.progress c.in_ok-take_piece.ensures.front
+    front-unrefused (bytes_of now.pieces.lines) now.kept.items now.ended now.progress c.in-Ok.ensures.front
 
-pub returns-clause-over : goal.returns-clause-over
-returns-clause-over c =
+pub returns-in-Ok-clause-over : goal.returns-in-Ok-clause-over
+returns-in-Ok-clause-over c =
     let now = c.take_piece.new.self in
-    over-keeps-none (bytes_of now.pieces.lines) now.kept.items now.ended now.progress c.in_ok-take_piece.ensures.front
+    over-keeps-none (bytes_of now.pieces.lines) now.kept.items now.ended now.progress c.in-Ok.ensures.front
 
-pub returns-in_err-take_piece-clause-needed : goal.returns-in_err-take_piece-clause-needed
-returns-in_err-take_piece-clause-needed c =
-    let p = err_from_is_err_and c.from_residual.result c.from_residual.ensures.1 in
-    rw (p.1, p.2) (λ e. subst (λ (v : Fed). LacksForFront MAX_LEVEL (v.bytes ++ c.args.piece.now) c.take_piece.new.store) c.self.view_is
-    (c.in_err-take_piece.ensures.needed e))
+pub returns-in-Err-clause-needed : goal.returns-in-Err-clause-needed
+returns-in-Err-clause-needed c =
+    λ e. subst (λ (v : Fed). LacksForFront MAX_LEVEL (v.bytes ++ c.args.piece.now) c.take_piece.new.store) c.self.view_is (c.in-Err.ensures.needed (cc))
+
+pub returns-in-Err-clause-adds : goal.returns-in-Err-clause-adds
+returns-in-Err-clause-adds c =
+    subst (λ (v : Fed). AddsLines (whole_lines (v.bytes ++ c.args.piece.now)) c.args.store.now c.take_piece.new.store) c.self.view_is c.take_piece.ensures.adds
+
+pub returns-in-Ok-clause-adds : goal.returns-in-Ok-clause-adds
+returns-in-Ok-clause-adds c =
+    subst (λ (v : Fed). AddsLines (whole_lines (v.bytes ++ c.args.piece.now)) c.args.store.now c.take_piece.new.store) c.self.view_is c.take_piece.ensures.adds
+
+pub returns-in-Err-clause-room : goal.returns-in-Err-clause-room
+returns-in-Err-clause-room c = λ e base.
+    let fault : c.in-Err.fault ≡ fault_of Full = cc in
+    subst (λ (v : Fed). HoldsFront base v.bytes c.args.store.now → c.args.store.now.limit < length base + room_for (length (v.bytes ++ c.args.piece.now)))
+    c.self.view_is
+    (front-tight base c.args.store.now c.take_piece.new.store c.len.ensures.distinct (λ t there. (c.len.ensures.only t there).0)
+    (front-full c.take_piece.new.store _ c.in-Err.fault c.in-Err.ensures.fault fault) c.take_piece.ensures.keeps.limit _ c.args.piece.now
+    c.take_piece.ensures.adds (c.in-Err.ensures.needed (cc)))

@@ -1,0 +1,53 @@
+-- What calls store while a file is read, and that there is room for it.
+use Rattle.std.proofs.Common.{◌≡◌, ◌≢◌, ℕ, ◌+◌, ◌<◌, ◌≤◌, false, List, [], ◌++◌, length, arith, inl, inr, AllPairs}
+use Rattle.std.specs.Prelude.{Contains}
+use Rattle.life_base.specs.Lines.{whole_lines}
+use Rattle.life_base.specs.Tree.{Tree, is_blank_tree}
+use Rattle.life_base.specs.declared.cell.TheConstants.{MAX_LEVEL}
+use Rattle.life_quad.specs.Store.{Nodes, held}
+use Rattle.life_canon.specs.Needs.{LacksFor, LacksForFront}
+use Rattle.life_canon.specs.Room.{room_for, HoldsOnly, HoldsFront, AddsLines, AddsFile, FrontsHold}
+use Rattle.life_canon.proofs.NeedFacts.{front-more, whole-needs}
+use Rattle.life_canon.proofs.RoomCount.{room_suffices, few-more}
+
+-- ---- what a store holds beside a list
+
+pub fronts_hold : FrontsHold
+fronts_hold bytes more base old new h = (
+  λ adds t there. elim (adds.each t there) [
+    | inl k ↦ elim (h t k) [ inl b ↦ inl b | inr s ↦ inr (front-more (λ u. u ≡ t) bytes more s) ]
+    | inr s ↦ inr s
+  ],
+  λ t there. elim (h t there) [ inl b ↦ inl b | inr s ↦ inr (whole-needs (λ u. u ≡ t) bytes s) ],
+)
+
+pub file-holds : (bytes : List ℕ) (base : List Tree) (old new : Nodes) → HoldsOnly base bytes old → AddsFile bytes old new → HoldsOnly base bytes new
+file-holds bytes base old new h adds = λ t there. elim (adds.each t there) [ inl k ↦ h t k | inr s ↦ inr s ]
+
+-- ---- the limit of a full store
+
+-- which lacks a square of the file, and holds only squares of a list and of the file, each once and none blank
+module _ (base : List Tree) (old new : Nodes) (distinct : AllPairs ◌≢◌ (held new)) (live : (t : Tree) → Contains (held new) t → is_blank_tree t ≡ false)
+    (full : length (held new) ≡ new.limit) (same : new.limit ≡ old.limit) where
+  tight : (bytes : List ℕ) → HoldsOnly base bytes new → LacksFor MAX_LEVEL bytes new → old.limit < length base + room_for (length bytes)
+  tight bytes only lacks = let less = room_suffices bytes base new distinct live only lacks in omega (arith, less, full, same)
+
+  -- behind a piece
+  pub front-tight : (bytes more : List ℕ) → AddsLines (whole_lines (bytes ++ more)) old new → LacksForFront MAX_LEVEL (bytes ++ more) new
+      → HoldsFront base bytes old → old.limit < length base + room_for (length (bytes ++ more))
+  front-tight bytes more adds lacks h =
+      let front = (fronts_hold bytes more base old new h).0 adds in
+      tight (bytes ++ more) (fronts_hold (bytes ++ more) [] base new new front).1 (whole-needs _ (bytes ++ more) lacks)
+
+  -- behind the last line
+  pub file-tight : (bytes : List ℕ) → AddsFile bytes old new → LacksFor MAX_LEVEL bytes new → HoldsOnly base bytes old
+      → old.limit < length base + room_for (length bytes)
+  file-tight bytes adds lacks h = tight bytes (file-holds bytes base old new h adds) lacks
+
+-- ---- one file behind another
+
+-- a file stores no more squares than there is room for
+pub file-few : (bytes : List ℕ) (old new : Nodes) → AllPairs ◌≢◌ (held new) → ((t : Tree) → Contains (held new) t → is_blank_tree t ≡ false)
+    → AddsFile bytes old new
+    → length (held new) ≤ length (held old) + room_for (length bytes)
+file-few bytes old new distinct live adds = few-more bytes (held old) new distinct live adds.each
