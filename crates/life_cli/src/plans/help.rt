@@ -101,7 +101,8 @@ output. With status 5 a text on standard error says what is wrong, or the line
   InputTooLong     a file has more than 2^30 bytes
   ReadFault        a file can't be opened or read
   WriteFault       the output can't be written
-  Full             a command comes to more than 2^31 different squares
+  Full             a command comes to more than 2^31 different squares: reading does
+                   so only of more than 153 MB
   Memory           there isn't enough memory",
 };
 
