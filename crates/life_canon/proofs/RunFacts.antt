@@ -125,7 +125,8 @@ file-full store bytes (Err fault) h e = by h
     is = cc
 
     by : RefusesIn MAX_LEVEL bytes store fault → length (held store) ≡ store.limit
-    by (inl r) = absurd (full-not fault.kind (refusal-kinds MAX_LEVEL (broken_kind MAX_LEVEL) Breaks-kind (lines_of bytes) fault r) (ap (λ (f : Fault). f.kind) is))
+    by (inl r) = absurd (full-not fault.kind (refusal-kinds MAX_LEVEL (broken_kind MAX_LEVEL) Breaks-kind (lines_of bytes) fault r)
+        (ap (λ (f : Fault). f.kind) is))
     by (inr w) = want-full store fault w is
 
 -- a line was refused, and that is no want of room
@@ -148,7 +149,8 @@ module _ (first store : Nodes) (before mid after : Option (List ℕ)) (total cou
   }
 
 -- a piece more was fed, and the store has no room for its lines
-module _ (first store new : Nodes) (before mid after : Option (List ℕ)) (total count most failures : ℕ) (refused : Option Fault) (fed : Fed) (piece : List ℕ) where
+module _ (first store new : Nodes) (before mid after : Option (List ℕ)) (total count most failures : ℕ) (refused : Option Fault) (fed : Fed)
+    (piece : List ℕ) where
   pub lacks-front : IsReading first store before mid total refused fed → Consumes mid after piece → length piece ≡ count → total + count ≤ most
       → (refused ≡ None) × LacksForFront MAX_LEVEL (fed.bytes ++ piece) new
       → LacksForRead MAX_LEVEL most new (record { before = before; after = after; failures = failures })
@@ -184,7 +186,8 @@ module _ (first store : Nodes) (before after : Option (List ℕ)) (total : ℕ) 
   }
 
 -- and a piece more, all lines of which were fed, or some up to a refusal
-module _ (first store new : Nodes) (before mid after : Option (List ℕ)) (total count most failures : ℕ) (refused : Option Fault) (fed : Fed) (piece : List ℕ) where
+module _ (first store new : Nodes) (before mid after : Option (List ℕ)) (total count most failures : ℕ) (refused : Option Fault) (fed : Fed)
+    (piece : List ℕ) where
   pub piece-adds : IsReading first store before mid total refused fed → Consumes mid after piece
       → ((bytes : List ℕ) → (refused ≡ None → fed.bytes ≡ bytes) → AddsLines (whole_lines (bytes ++ piece)) store new) → AddsForRead before first new
   piece-adds r came adds = record {
@@ -217,7 +220,8 @@ at-end : (mid after : Option (List ℕ)) (count : ℕ) (buf : List ℕ) → coun
     → Consumes mid after [] × IsAtEnd after
 at-end mid after count buf e l h = let none : take count buf ≡ [] = grind (arith, e) in (subst (Consumes mid after) none h.0, h.1 e l)
 
-module _ (first store new : Nodes) (before mid after : Option (List ℕ)) (total most failures count : ℕ) (buf : List ℕ) (refused : Option Fault) (fed : Fed) where
+module _ (first store new : Nodes) (before mid after : Option (List ℕ)) (total most failures count : ℕ) (buf : List ℕ) (refused : Option Fault)
+    (fed : Fed) where
   -- the end came, and a line was refused
   pub ended-refused : IsReading first store before mid total refused fed → count ≡ 0 → 0 < length buf → Consumes mid after (take count buf)
       × (count ≡ 0 → 0 < length buf → IsAtEnd after)

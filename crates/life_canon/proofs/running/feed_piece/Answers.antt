@@ -17,15 +17,18 @@ pub returns-in-Some-clause-adds : goal.returns-in-Some-clause-adds
 returns-in-Some-clause-adds c = λ bytes is. adds-none _ c.args.store.now
 
 pub returns-in-Ok-clause-adds : goal.returns-in-Ok-clause-adds
-returns-in-Ok-clause-adds c = λ bytes is. subst (λ (b : List ℕ). AddsLines (whole_lines (b ++ c.args.piece.now)) c.args.store.now c.feed.new.store) (is c.in-None.is)
+returns-in-Ok-clause-adds c = λ bytes is. subst (λ (b : List ℕ). AddsLines (whole_lines (b ++ c.args.piece.now)) c.args.store.now c.feed.new.store)
+    (is c.in-None.is)
     c.feed.ensures.adds
 
 pub returns-in-Err-clause-adds : goal.returns-in-Err-clause-adds
-returns-in-Err-clause-adds c = λ bytes is. subst (λ (b : List ℕ). AddsLines (whole_lines (b ++ c.args.piece.now)) c.args.store.now c.feed.new.store) (is c.in-None.is)
+returns-in-Err-clause-adds c = λ bytes is. subst (λ (b : List ℕ). AddsLines (whole_lines (b ++ c.args.piece.now)) c.args.store.now c.feed.new.store)
+    (is c.in-None.is)
     c.feed.ensures.adds
 
 pub returns-in-Err-2-clause-adds : goal.returns-in-Err-2-clause-adds
-returns-in-Err-2-clause-adds c = λ bytes is. subst (λ (b : List ℕ). AddsLines (whole_lines (b ++ c.args.piece.now)) c.args.store.now c.feed.new.store) (is c.in-None.is)
+returns-in-Err-2-clause-adds c = λ bytes is. subst (λ (b : List ℕ). AddsLines (whole_lines (b ++ c.args.piece.now)) c.args.store.now c.feed.new.store)
+    (is c.in-None.is)
     c.feed.ensures.adds
 
 pub returns-in-Err-clause-room : goal.returns-in-Err-clause-room

@@ -8,7 +8,8 @@ use Rattle.life_canon.proofs.running.read_source.Goals as goal
 pub returns-then-total-most-clause-fault : goal.returns-then-total-most-clause-fault
 returns-then-total-most-clause-fault g c =
     by_length c.of.ensures
-    (beyond-most _ c.loop-reader.store (g.R.Source.remaining c.args.source.now) (g.R.Source.remaining c.loop-reader.source) (g.R.Source.remaining c.read.new.self)
+    (beyond-most _ c.loop-reader.store (g.R.Source.remaining c.args.source.now) (g.R.Source.remaining c.loop-reader.source)
+    (g.R.Source.remaining c.read.new.self)
     c.loop-reader.total c.in_ok-count.count
     c.args.most c.loop-reader.refused c.loop-reader.reader (take c.in_ok-count.count c.read.new.buf) c.loop-reader.invariant.0 c.in_ok-count.ensures.bytes.0
     (search rules) (search rules))
@@ -72,7 +73,8 @@ returns-in_err-refused-clause-adds g c =
 pub returns-in_err-refused-clause-room : goal.returns-in_err-refused-clause-room
 returns-in_err-refused-clause-room g c =
     let p = err_from_is_err_and c.from_residual-in_err-refused.result c.from_residual-in_err-refused.ensures.1 in
-    rw (p.1, p.2) (λ e. piece-tight _ _ c.loop-reader.store _ _ _ c.loop-reader.total c.in_ok-count.count c.args.most _ c.loop-reader.refused c.loop-reader.reader
+    rw (p.1, p.2) (λ e. piece-tight _ _ c.loop-reader.store _ _ _ c.loop-reader.total c.in_ok-count.count c.args.most _ c.loop-reader.refused
+    c.loop-reader.reader
     (take c.in_ok-count.count c.read.new.buf)
     c.loop-reader.invariant.0 c.in_ok-count.ensures.bytes.0 (search rules) (search rules) (c.in_err-refused.ensures.needed (cc)).0
     c.loop-reader.invariant.3.limit (c.in_err-refused.ensures.room (cc)))
@@ -82,7 +84,8 @@ returns-in-None-clause-adds g c = ended-adds _ _ _ _ _ _ _ c.loop-reader.invaria
 
 pub returns-in-None-clause-room : goal.returns-in-None-clause-room
 returns-in-None-clause-room g c =
-    λ e. ended-tight _ _ c.loop-reader.store _ _ _ _ _ _ _ _ _ _ c.loop-reader.invariant.0 (search rules) (search rules) c.in_ok-count.ensures.bytes c.loop-reader.invariant.2
+    λ e. ended-tight _ _ c.loop-reader.store _ _ _ _ _ _ _ _ _ _ c.loop-reader.invariant.0 (search rules) (search rules) c.in_ok-count.ensures.bytes
+    c.loop-reader.invariant.2
     c.in-None.is c.loop-reader.invariant.3.limit (c.finish.ensures.room e)
 
 pub returns-in-Some-clause-room : goal.returns-in-Some-clause-room

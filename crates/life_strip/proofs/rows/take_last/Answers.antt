@@ -27,7 +27,8 @@ returns-in_default c =
 
 pub returns-then-last-level : goal.returns-then-last-level
 returns-then-last-level c =
-    let at = subst (λ z. slice_get z (length z - 1) ≡ Some c.in-Some.last.now) c.deref.ensures.value (sym c.last.ensures.value ∙ ap option_copied c.in-Some.is) in
+    let at = subst (λ z. slice_get z (length z - 1) ≡ Some c.in-Some.last.now) c.deref.ensures.value
+    (sym c.last.ensures.value ∙ ap option_copied c.in-Some.is) in
     (refl, λ last there same. c.if-last-level.true (ap (λ s. s.level) (Some-is (sym at ∙ there)) ∙ same))
 
 pub returns : goal.returns

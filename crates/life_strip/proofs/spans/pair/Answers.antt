@@ -246,7 +246,8 @@ returns-in_err-joined-clause-grows g c =
     let f = front level upper lower r.low r.upper_within r.lower_within c.loop-first.column c.loop-first.north c.loop-first.south inv.north inv.south
     c.loop-first.first inv.upper inv.lower inv.one inv.other c.loop-first-test.true in
     let M = λ (P : Tree → Type 0). SomeColumn P (level + 1) (quad_at (C old) level upper lower) in
-    grows-err M (grows-behind M inv.keeps inv.adds (only-grows c.in_err-joined.ensures.grows) (one-column level (C old) (C now) upper lower start same f.within))
+    grows-err M (grows-behind M inv.keeps inv.adds (only-grows c.in_err-joined.ensures.grows)
+    (one-column level (C old) (C now) upper lower start same f.within))
     c.from_residual-in_err-joined.ensures.1 (λ P n. n)
 
 pub returns-in_err-push-clause-grows : goal.returns-in_err-push-clause-grows

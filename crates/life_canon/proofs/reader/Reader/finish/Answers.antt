@@ -30,5 +30,6 @@ pub returns-clause-room : goal.returns-clause-room
 returns-clause-room c = λ e base.
     subst (λ (v : Fed). HoldsOnly base v.bytes c.args.store.now → c.args.store.now.limit < length base + room_for (length v.bytes)) c.self.view_is
     (file-tight base c.args.store.now c.finish-answer.new.store c.len.ensures.distinct (λ t there. (c.len.ensures.only t there).0)
-    (file-full c.finish-answer.new.store (bytes_of c.self.inside.front.pieces.lines) c.finish-answer.result c.finish-answer.ensures.fault e) c.finish-answer.ensures.keeps.limit _
+    (file-full c.finish-answer.new.store (bytes_of c.self.inside.front.pieces.lines) c.finish-answer.result c.finish-answer.ensures.fault e)
+    c.finish-answer.ensures.keeps.limit _
     c.finish-answer.ensures.adds (c.finish-answer.ensures.needed e))

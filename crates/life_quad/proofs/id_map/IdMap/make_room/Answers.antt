@@ -37,4 +37,5 @@ invariant_of-self-2 g c =
     let others : (p : ℕ) → p ≢ place → start_in new p ≡ start_in starts p = λ p o. get_or-set_other c.make_place.new.starts.items place p c.len-start.result
     4294967295 o ∙ c.make_place.ensures.same p in
     let sum = ap length c.in_ok-add_page.ensures.page ∙ length-append values (replicate 256 c.self.inside.absent) in
-    one_page starts new (length values) (length c.add_page.new.values.items) place c.self.invariant sum (omega (arith, sum, start, c.if-start.false)) here others
+    one_page starts new (length values) (length c.add_page.new.values.items) place c.self.invariant sum (omega (arith, sum, start, c.if-start.false))
+    here others
