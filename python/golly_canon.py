@@ -35,7 +35,8 @@ __version__ = "0.2.0"
 Bytes = Union[bytes, bytearray, memoryview]
 Form = Literal["placed", "moved", "turned"]
 
-#: The limit of a call, if none is given: so many different squares, as the program has it. Beyond it a file is refused as `Full`.
+#: The limit of a call, if none is given: so many different squares, as the program has it. Beyond it a file is refused as `Full`. To read a file
+#: `14 * length + 264` suffices, and for two files the sum of both; the squares of a next generation, and of a moved pattern, come on top.
 SQUARES = 1 << 31
 
 _NAME = "libgolly_canon.so.1"
@@ -165,7 +166,7 @@ class Stream:
             text = file.finish()
 
     `gives` says what comes of it: `canon`, `to_rle`, `show` or `step`; `form` is that of the text of `canon`. `limit` is the most different squares
-    that it may store.
+    that it may store: `14 * length + 264` suffices to read, with the length of all that is fed.
     """
 
     def __init__(self, gives: str = "canon", *, form: Form = "placed", limit: int = SQUARES) -> None:

@@ -1,21 +1,23 @@
 -- From what a call of the library answers to what its export tells.
-use Rattle.std.proofs.Common.{◌≡◌, ℕ, ◌^◌, ◌⊎◌, inl, inr, List, Option, Some, None, MatchOption, refl, sym, ap, ◌∙◌, subst, Result, Ok, Err, IfOk, IfErr}
+use Rattle.std.proofs.Common.{◌≡◌, ℕ, ◌+◌, ◌<◌, ◌^◌, ◌⊎◌, inl, inr, List, [], length, Option, Some, None, MatchOption, refl, sym, ap, ◌∙◌, subst, arith, Result, Ok, Err, IfOk, IfErr}
 use Rattle.std.specs.Prelude.{◌↔◌, Bool, true, false, IsTrue, if◌then◌else◌}
 use Rattle.life_base.specs.Refusal.{fault_of}
 use Rattle.life_base.specs.declared.cell.TheConstants.{MAX_LEVEL}
 use Rattle.life_base.specs.declared.fault.Fault.{Fault}
 use Rattle.life_base.specs.declared.kind.Kind.TheVariants.{Full, Memory, TooManyCells}
-use Rattle.life_quad.specs.Store.{Nodes}
+use Rattle.life_base.specs.Tree.{Tree}
+use Rattle.life_quad.specs.Store.{Nodes, held}
 use Rattle.life_canon.specs.Files.{Accepted, Reads, Refuses}
 use Rattle.life_canon.specs.Needs.{LacksFor}
+use Rattle.life_canon.specs.Room.{room_for}
 use Rattle.life_canon.specs.Store.{IsWant, RefusesIn}
 use Rattle.life_canon.specs.Texts.{HasMoreCells}
 use Rattle.life_canon.specs.Universe.{Universe}
 use Rattle.life_step.specs.Refusals.{LacksForStep, LacksForStepBy, LifeRefusal, TableRefusal}
 use Rattle.life_table.specs.declared.table.Table.{Table}
 use Rattle.library_calls.specs.Told.{Told, Gives, Tells, Answers, by_text, by_fault}
-use Rattle.library_calls.specs.Answers.{room_of, RefusesWithin, RefusesRleWithin}
-use Rattle.library_calls.specs.Comparing.{LacksForEither, RefusesEither}
+use Rattle.library_calls.specs.Answers.{room_of, IsTooSmallFor, RefusesWithin, RefusesRleWithin}
+use Rattle.library_calls.specs.Comparing.{IsTooSmallForBoth, RefusesEither}
 use Rattle.library_calls.specs.Stepping.{RefusesStepWithin, RefusesStepByWithin}
 
 -- a text or a fault, told
@@ -45,21 +47,35 @@ and-lacks P (Err fault) p lacks = (p, λ full. lacks (ap (λ (f : Fault). Err f)
 pub not-full : {P : Type 0} (fault : Fault) → fault ≡ fault_of Memory → fault ≡ fault_of Full → P
 not-full fault memory full = let e : Memory ≡ Full = ap (λ (f : Fault). f.kind) (sym memory ∙ full) in absurd cc
 
+-- a store that was empty, and had no room beside what it held, is tight
+pub tight : (room : ℕ) (old new : Nodes) → held old ≡ [] → new.limit ≡ old.limit → old.limit < length (held old) + room → new.limit < room
+tight room old new empty same low = let none : length (held old) ≡ 0 = ap (λ (squares : List Tree). length squares) empty in omega (arith, none, same, low)
+
+-- so is one that has no room for squares that it held
+pub tight-alone : (room : ℕ) (old new : Nodes) → new.limit ≡ old.limit → old.limit < 0 + room → new.limit < room
+tight-alone room old new same low = omega (arith, same, low)
+
+-- and too small for the file of which it lacks a square
+pub too-small : {X : Type 0} (bytes : List ℕ) (old new : Nodes) (r : Result X Fault) → held old ≡ [] → new.limit ≡ old.limit
+    → (r ≡ Err (fault_of Full) → LacksFor MAX_LEVEL bytes new)
+    → (r ≡ Err (fault_of Full) → old.limit < length (held old) + room_for (length bytes)) → r ≡ Err (fault_of Full) → IsTooSmallFor bytes new
+too-small bytes old new r empty same lacks low full = (lacks full, tight (room_for (length bytes)) old new empty same (low full))
+
 -- why a call is refused, by the limit of its store
 within : (limit : ℕ) (bytes : List ℕ) (store : Nodes) (fault : Fault) → store.limit ≡ room_of limit → RefusesIn MAX_LEVEL bytes store fault
-    → (fault ≡ fault_of Full → LacksFor MAX_LEVEL bytes store) → RefusesWithin limit bytes fault
+    → (fault ≡ fault_of Full → IsTooSmallFor bytes store) → RefusesWithin limit bytes fault
 within limit bytes store fault is (inl refuses) lacks = inl refuses
 within limit bytes store fault is (inr want) lacks = inr (store, is, want, lacks)
 
 pub refused : {X : Type 0} (limit : ℕ) (bytes : List ℕ) (store : Nodes) (r : Result X Fault) → store.limit ≡ room_of limit
-    → IfErr r (RefusesIn MAX_LEVEL bytes store) → (r ≡ Err (fault_of Full) → LacksFor MAX_LEVEL bytes store) → IfErr r (RefusesWithin limit bytes)
+    → IfErr r (RefusesIn MAX_LEVEL bytes store) → (r ≡ Err (fault_of Full) → IsTooSmallFor bytes store) → IfErr r (RefusesWithin limit bytes)
 refused limit bytes store (Ok x) is h lacks = tt
 refused limit bytes store (Err fault) is h lacks = within limit bytes store fault is h (λ full. lacks (ap (λ (f : Fault). Err f) full))
 
 -- why two files aren't compared, by the limit of their store
 pub either : (limit : ℕ) (first second : List ℕ) (store : Nodes) (fault : Fault) → store.limit ≡ room_of limit
     → Refuses MAX_LEVEL first fault ⊎ (Accepted MAX_LEVEL first × Refuses MAX_LEVEL second fault) ⊎ IsWant store fault
-    → (fault ≡ fault_of Full → LacksForEither first second store) → RefusesEither limit first second fault
+    → (fault ≡ fault_of Full → IsTooSmallForBoth first second store) → RefusesEither limit first second fault
 either limit first second store fault is (inl refuses) lacks = inl refuses
 either limit first second store fault is (inr (inl refuses)) lacks = inr (inl refuses)
 either limit first second store fault is (inr (inr want)) lacks = inr (inr (store, is, want, lacks))
@@ -75,13 +91,13 @@ is-answer false agree = inr (refl, λ p. let e : false ≡ true = agree.1 p in a
 -- why a text in extended RLE is refused, by the limit of the store
 of_rle : (limit : ℕ) (bytes : List ℕ) (store : Nodes) (fault : Fault) → store.limit ≡ room_of limit
     → RefusesIn MAX_LEVEL bytes store fault ⊎ ((fault ≡ fault_of TooManyCells) × HasMoreCells MAX_LEVEL bytes (2 ^ 20))
-    → (fault ≡ fault_of Full → LacksFor MAX_LEVEL bytes store) → RefusesRleWithin limit bytes fault
+    → (fault ≡ fault_of Full → IsTooSmallFor bytes store) → RefusesRleWithin limit bytes fault
 of_rle limit bytes store fault is (inl why) lacks = inl (within limit bytes store fault is why lacks)
 of_rle limit bytes store fault is (inr many) lacks = inr many
 
 pub refused_rle : {X : Type 0} (limit : ℕ) (bytes : List ℕ) (store : Nodes) (r : Result X Fault) → store.limit ≡ room_of limit
     → IfErr r (λ fault. RefusesIn MAX_LEVEL bytes store fault ⊎ ((fault ≡ fault_of TooManyCells) × HasMoreCells MAX_LEVEL bytes (2 ^ 20)))
-    → (r ≡ Err (fault_of Full) → LacksFor MAX_LEVEL bytes store) → IfErr r (RefusesRleWithin limit bytes)
+    → (r ≡ Err (fault_of Full) → IsTooSmallFor bytes store) → IfErr r (RefusesRleWithin limit bytes)
 refused_rle limit bytes store (Ok x) is h lacks = tt
 refused_rle limit bytes store (Err fault) is h lacks = of_rle limit bytes store fault is h (λ full. lacks (ap (λ (f : Fault). Err f) full))
 

@@ -1,20 +1,21 @@
 -- Patterns that were read into a store, and their forms.
-use Rattle.std.proofs.Common.{◌≡◌, ◌⊎◌, inl, inr, ℕ, ◌^◌, ◌<◌, ◌≤◌, List, length, Result, Ok, Err, OnOk, sym, ap, ◌∙◌, subst, arith}
-use Rattle.std.specs.Prelude.{◌↔◌, IsTrue, Bool}
+use Rattle.std.proofs.Common.{◌≡◌, ◌≢◌, ◌⊎◌, inl, inr, ℕ, ◌+◌, ◌^◌, ◌<◌, ◌≤◌, false, List, [], length, AllPairs, Result, Ok, Err, OnOk, sym, ap, ◌∙◌, subst, arith}
+use Rattle.std.specs.Prelude.{◌↔◌, IsTrue, Bool, Contains}
 use Rattle.life_base.specs.Refusal.{fault_of}
 use Rattle.life_base.specs.Text.{lines_of}
-use Rattle.life_base.specs.Tree.{tree_cell}
+use Rattle.life_base.specs.Tree.{Tree, tree_cell, is_blank_tree}
 use Rattle.life_base.specs.declared.cell.Cell.{Cell}
 use Rattle.life_base.specs.declared.cell.TheConstants.{MAX_LEVEL}
 use Rattle.life_base.specs.declared.fault.Fault.{Fault}
 use Rattle.life_base.specs.declared.kind.Kind.TheVariants.{Full, Memory, TooManyCells}
 use Rattle.life_quad.proofs.LawLemmas.{known_squares_are_full, cells_are_listed, list_is_population}
 use Rattle.life_quad.specs.Cells.{IsCellList, population}
-use Rattle.life_quad.specs.Store.{Nodes}
+use Rattle.life_quad.specs.Store.{Nodes, held}
 use Rattle.life_canon.specs.Files.{Accepted, Reads, Refuses}
-use Rattle.life_canon.specs.Laws.{FilesAreUnique, PatternsFit}
+use Rattle.life_canon.specs.Laws.{FilesAreUnique, PatternsFit, RefusalsHaveKinds}
 use Rattle.life_canon.specs.Listing.{canon_text}
 use Rattle.life_canon.specs.Needs.{LacksFor}
+use Rattle.life_canon.specs.Room.{AddsFile, FewSquares, HoldsOnly, IsOfFile, RoomSuffices, room_for}
 use Rattle.life_canon.specs.Store.{IsRead, IsTrimmed, IsWant, RefusesIn, content, universe_in}
 use Rattle.life_canon.specs.Texts.{AreCellsOf, HasMoreCells}
 use Rattle.life_canon.specs.Universe.{Universe, IsSame}
@@ -24,13 +25,13 @@ use Rattle.life_forms.specs.Images.{IsTurnedText}
 use Rattle.life_forms.specs.Needed.{HasFewCells, LacksForMoved}
 use Rattle.life_forms.proofs.PatternFacts.{root-high}
 use Rattle.life_forms.proofs.PlaneFacts.{are-cells}
-use Rattle.library_calls.specs.Answers.{room_of}
-use Rattle.library_calls.specs.Comparing.{LacksForEither}
+use Rattle.library_calls.specs.Answers.{room_of, IsTooSmallFor}
+use Rattle.library_calls.specs.Comparing.{IsTightForBoth, IsTooSmallForBoth}
 use Rattle.library_calls.specs.ComparingInForm.{AreOfOneGeneration, EitherHasMany, HasTooMany, SayRelated, RefusesEitherInForm, LacksForEitherMoved}
 use Rattle.library_calls.specs.InForm.{IsTextMoved, IsTextTurned, RefusesInForm}
 use Rattle.library_calls.specs.declared.pattern_form.PatternForm.{PatternForm}
 use Rattle.library_calls.specs.declared.pattern_form.PatternForm.TheVariants.{Placed, Moved, Turned}
-use Rattle.library_calls.proofs.Answering.{not-full}
+use Rattle.library_calls.proofs.Answering.{not-full, tight}
 
 -- patterns that are the same are one
 one : (u v : Universe) → IsSame u v → u ≡ v
@@ -114,7 +115,7 @@ turned-text fit bytes store pattern text read few turned = record {
 
 -- a file that isn't read
 pub unread : (form : PatternForm) (limit : ℕ) (bytes : List ℕ) (store : Nodes) (fault : Fault) → store.limit ≡ room_of limit
-    → RefusesIn MAX_LEVEL bytes store fault → (fault ≡ fault_of Full → LacksFor MAX_LEVEL bytes store) → RefusesInForm form limit bytes fault
+    → RefusesIn MAX_LEVEL bytes store fault → (fault ≡ fault_of Full → IsTooSmallFor bytes store) → RefusesInForm form limit bytes fault
 unread Placed limit bytes store fault room (inl refuses) lacks = inl refuses
 unread Placed limit bytes store fault room (inr want) lacks = inr (store, room, want, lacks)
 unread Moved limit bytes store fault room (inl refuses) lacks = inl (inl refuses)
@@ -156,40 +157,56 @@ files-told unique IsRelated first second u v answer one_reads other_reads told =
       (subst (λ (w : Universe). IsRelated are.first w) (unique _ are.second v are.reads_second other_reads) are.related)),
 )
 
--- what two files lack to be read, they lack to be moved
-also-moved : (first second : List ℕ) (store : Nodes) → LacksForEither first second store → LacksForEitherMoved first second store
-also-moved first second store (inl lack) = inl (inl lack)
-also-moved first second store (inr lack) = inr (lack.0, inl lack.1)
+-- the first of two files didn't fit a store that was empty
+pub tight-first : (first second : List ℕ) (old new : Nodes) → held old ≡ [] → new.limit ≡ old.limit
+    → old.limit < length (held old) + room_for (length first) → IsTightForBoth first second new
+tight-first first second old new empty same low =
+    let alone = tight (room_for (length first)) old new empty same low in
+    omega (arith, alone)
+
+-- a store that is full has as many squares as its limit
+full-has : RefusalsHaveKinds MAX_LEVEL → (bytes : List ℕ) (store : Nodes) (fault : Fault) → RefusesIn MAX_LEVEL bytes store fault → fault ≡ fault_of Full
+    → length (held store) ≡ store.limit
+full-has kinds bytes store fault (inl refuses) full =
+    let line : fault.place.line ≡ 0 = ap (λ (f : Fault). f.place.line) full in
+    let least = (kinds (lines_of bytes) fault refuses).1 in
+    absurd (omega (arith, line, least))
+full-has kinds bytes store fault (inr (inl memory)) full = not-full fault memory full
+full-has kinds bytes store fault (inr (inr stored)) full = stored.1
+
+-- the second didn't fit behind the first
+pub tight-second : RefusalsHaveKinds MAX_LEVEL → FewSquares → RoomSuffices → (first second : List ℕ) (old mid new : Nodes) (fault : Fault) → held old ≡ []
+    → AllPairs ◌≢◌ (held new) → ((t : Tree) → Contains (held new) t → is_blank_tree t ≡ false) → AddsFile first old mid → AddsFile second mid new
+    → LacksFor MAX_LEVEL second new → RefusesIn MAX_LEVEL second new fault → fault ≡ fault_of Full → IsTightForBoth first second new
+tight-second kinds few suffices first second old mid new fault empty distinct live one other lacks why full =
+    let base = few first in
+    let only : HoldsOnly base.0 second new = λ t there. elim (other.each t there) [
+      | inl before ↦ inl (base.2 t (live t there) (of-first t (one.each t before)))
+      | inr own ↦ inr own
+    ] in
+    let less = suffices second base.0 new distinct live only lacks in
+    let most = base.1 in
+    let has = full-has kinds second new fault why full in
+    omega (arith, less, most, has)
+  where
+    of-first : (t : Tree) → Contains (held old) t ⊎ IsOfFile first t → IsOfFile first t
+    of-first t (inl there) = let none : Contains {X = Tree} [] t = subst (λ (squares : List Tree). Contains squares t) empty there in absurd (omega (arith, none.1))
+    of-first t (inr it) = it
 
 -- one of two files isn't read, or room or memory is wanted for it
-either-unread : (form : PatternForm) (limit : ℕ) (first second : List ℕ) (store : Nodes) (fault : Fault) → store.limit ≡ room_of limit
+pub either-unread : (form : PatternForm) (limit : ℕ) (first second : List ℕ) (store : Nodes) (fault : Fault) → store.limit ≡ room_of limit
     → Refuses MAX_LEVEL first fault ⊎ (Accepted MAX_LEVEL first × Refuses MAX_LEVEL second fault) ⊎ IsWant store fault
-    → (fault ≡ fault_of Full → LacksForEither first second store) → RefusesEitherInForm form limit first second fault
+    → (fault ≡ fault_of Full → IsTooSmallForBoth first second store) → RefusesEitherInForm form limit first second fault
 either-unread Placed limit first second store fault room (inl refuses) lacks = inl refuses
 either-unread Placed limit first second store fault room (inr (inl refuses)) lacks = inr (inl refuses)
 either-unread Placed limit first second store fault room (inr (inr want)) lacks = inr (inr (store, room, want, lacks))
 either-unread Moved limit first second store fault room (inl refuses) lacks = inl refuses
 either-unread Moved limit first second store fault room (inr (inl refuses)) lacks = inr (inl refuses)
 either-unread Moved limit first second store fault room (inr (inr want)) lacks =
-    inr (inr (inl (store, room, want, λ full. also-moved first second store (lacks full))))
+    inr (inr (inl (store, room, want, λ full. inl (lacks full))))
 either-unread Turned limit first second store fault room (inl refuses) lacks = inl (inl refuses)
 either-unread Turned limit first second store fault room (inr (inl refuses)) lacks = inl (inr (inl refuses))
 either-unread Turned limit first second store fault room (inr (inr want)) lacks = inl (inr (inr (store, room, want, lacks)))
-
-pub first-unread : (form : PatternForm) (limit : ℕ) (first second : List ℕ) (store : Nodes) (fault : Fault) → store.limit ≡ room_of limit
-    → RefusesIn MAX_LEVEL first store fault → (fault ≡ fault_of Full → LacksFor MAX_LEVEL first store) → RefusesEitherInForm form limit first second fault
-first-unread form limit first second store fault room (inl refuses) lacks = either-unread form limit first second store fault room (inl refuses)
-    (λ full. inl (lacks full))
-first-unread form limit first second store fault room (inr want) lacks = either-unread form limit first second store fault room (inr (inr want))
-    (λ full. inl (lacks full))
-
-pub second-unread : (form : PatternForm) (limit : ℕ) (first second : List ℕ) (store : Nodes) (fault : Fault) → store.limit ≡ room_of limit
-    → Accepted MAX_LEVEL first → RefusesIn MAX_LEVEL second store fault → (fault ≡ fault_of Full → LacksFor MAX_LEVEL second store)
-    → RefusesEitherInForm form limit first second fault
-second-unread form limit first second store fault room accepted (inl refuses) lacks = either-unread form limit first second store fault room
-    (inr (inl (accepted, refuses))) (λ full. inr (accepted, lacks full))
-second-unread form limit first second store fault room accepted (inr want) lacks = either-unread form limit first second store fault room (inr (inr want))
-    (λ full. inr (accepted, lacks full))
 
 -- one of two patterns has too many cells
 either-many : PatternsFit MAX_LEVEL → (first second : List ℕ) (store : Nodes) (a b : Pattern) → IsRead MAX_LEVEL first store a → IsRead MAX_LEVEL second store b
@@ -241,9 +258,9 @@ few-turned unique fit first second store a b read other (Err fault) few = tt
 -- what two patterns lack to be moved, their files lack
 moved-lacks : PatternsFit MAX_LEVEL → (first second : List ℕ) (old new : Nodes) (a b : Pattern) → IsRead MAX_LEVEL first old a → IsRead MAX_LEVEL second old b
     → LacksForMoved (universe_in old a) new ⊎ LacksForMoved (universe_in old b) new → LacksForEitherMoved first second new
-moved-lacks fit first second old new a b read other (inl lack) = inl (inr (universe_in old a, reads-it fit first old a read, lack))
+moved-lacks fit first second old new a b read other (inl lack) = inr (inl (universe_in old a, reads-it fit first old a read, lack))
 moved-lacks fit first second old new a b read other (inr lack) =
-    inr (accepted-it first old a read, inr (universe_in old b, reads-it fit second old b other, lack))
+    inr (inr (accepted-it first old a read, (universe_in old b, reads-it fit second old b other, lack)))
 
 -- two patterns that aren't moved
 pub either-unmoved : PatternsFit MAX_LEVEL → (limit : ℕ) (first second : List ℕ) (old new : Nodes) (a b : Pattern) (fault : Fault)

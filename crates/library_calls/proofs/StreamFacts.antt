@@ -12,16 +12,15 @@ use Rattle.life_canon.specs.Feeding.{RefusesFront}
 use Rattle.life_canon.specs.Files.{Reads}
 use Rattle.life_canon.specs.Laws.{PatternsFit, FilesAreOnPlane, TextsTellUniverses, TextsAreFiles, CanonicalIsLeast}
 use Rattle.life_canon.specs.Listing.{canonical_file, canon_text}
-use Rattle.life_canon.specs.Needs.{LacksFor, LacksForFront}
 use Rattle.life_canon.specs.Store.{IsRead, IsWant, RefusesIn, content, universe_in}
 use Rattle.life_canon.specs.Texts.{HasMoreCells}
 use Rattle.life_canon.specs.Universe.{Universe, IsSame, IsOnPlane}
 use Rattle.life_canon.specs.declared.pattern.Pattern.{Pattern}
 use Rattle.life_step.specs.Refusals.{LacksForLife, LacksForNext, LifeRefusal}
-use Rattle.library_calls.specs.Answers.{IsCanonicalText, room_of}
+use Rattle.library_calls.specs.Answers.{IsCanonicalText, IsTooSmallFor, room_of}
 use Rattle.library_calls.proofs.Answering.{not-full}
 use Rattle.library_calls.proofs.FormFacts.{unread}
-use Rattle.library_calls.specs.Forms.{Piecewise, IsTextOf, RefusesTextOf, RefusesPiece}
+use Rattle.library_calls.specs.Forms.{Piecewise, IsTextOf, IsTooSmallForFront, RefusesTextOf, RefusesPiece}
 use Rattle.library_calls.specs.Streams.{IsOpen, IsFed, HasText, HasFault, Takes, by_piece, Ends, by_text}
 use Rattle.library_calls.specs.Streams as streams
 use Rattle.library_calls.specs.declared.session.Form.{Form}
@@ -64,7 +63,7 @@ canonical fit plane tell files least bytes store pattern text is read =
 
 -- why a file is refused at its end, or room or memory wanted
 pub text-fault : (form : Form) (limit : ℕ) (bytes : List ℕ) (store : Nodes) (fault : Fault) → store.limit ≡ room_of limit
-    → RefusesIn MAX_LEVEL bytes store fault → (fault ≡ fault_of Full → LacksFor MAX_LEVEL bytes store) → RefusesTextOf form limit bytes fault
+    → RefusesIn MAX_LEVEL bytes store fault → (fault ≡ fault_of Full → IsTooSmallFor bytes store) → RefusesTextOf form limit bytes fault
 text-fault Canonical limit bytes store fault is (inl refuses) lacks = inl refuses
 text-fault Canonical limit bytes store fault is (inr want) lacks = inr (store, is, want, lacks)
 text-fault Rle limit bytes store fault is (inl refuses) lacks = inl (inl refuses)
@@ -72,7 +71,7 @@ text-fault Rle limit bytes store fault is (inr want) lacks = inl (inr (store, is
 text-fault Lines limit bytes store fault is (inl refuses) lacks = inl refuses
 text-fault Lines limit bytes store fault is (inr want) lacks = inr (store, is, want, lacks)
 text-fault Next limit bytes store fault is (inl refuses) lacks = inl refuses
-text-fault Next limit bytes store fault is (inr want) lacks = inr (inl (store, is, want, λ full. inl (lacks full)))
+text-fault Next limit bytes store fault is (inr want) lacks = inr (inl (store, is, want, λ full. inl (lacks full).0))
 text-fault Moved limit bytes store fault is why lacks = unread forms.Moved limit bytes store fault is why lacks
 text-fault Turned limit bytes store fault is why lacks = unread forms.Turned limit bytes store fault is why lacks
 
@@ -124,7 +123,7 @@ wants {inside = inside} store (Err fault) is room memory = λ limit most.
 
 -- why a piece is refused
 pub piece-fault : (limit : ℕ) (bytes : List ℕ) (store : Nodes) (fault : Fault) → store.limit ≡ room_of limit
-    → IsWant store fault ⊎ RefusesFront MAX_LEVEL bytes fault → (fault ≡ fault_of Full → LacksForFront MAX_LEVEL bytes store)
+    → IsWant store fault ⊎ RefusesFront MAX_LEVEL bytes fault → (fault ≡ fault_of Full → IsTooSmallForFront bytes store)
     → RefusesPiece limit bytes fault
 piece-fault limit bytes store fault is (inl want) lacks = inr (store, is, want, lacks)
 piece-fault limit bytes store fault is (inr front) lacks = inl front

@@ -1,13 +1,14 @@
 -- Which texts the calls give, and why they refuse.
-use Rattle.std.specs.Prelude.{◌≡◌, ◌⊎◌, ◌^◌, ℕ, List, min}
+use Rattle.std.specs.Prelude.{◌≡◌, ◌⊎◌, ◌<◌, ◌^◌, ℕ, List, [], length, min}
 use Rattle.life_base.specs.Refusal.{fault_of}
 use Rattle.life_base.specs.declared.cell.TheConstants.{MAX_LEVEL}
 use Rattle.life_base.specs.declared.fault.Fault.{Fault}
 use Rattle.life_base.specs.declared.kind.Kind.TheVariants.{Full, TooManyCells}
-use Rattle.life_quad.specs.Store.{Nodes}
+use Rattle.life_quad.specs.Store.{Nodes, held}
 use Rattle.life_canon.specs.Files.{Same, Refuses}
 use Rattle.life_canon.specs.Least.{IsLeastText}
 use Rattle.life_canon.specs.Needs.{LacksFor}
+use Rattle.life_canon.specs.Room.{room_for}
 use Rattle.life_canon.specs.Store.{IsWant}
 use Rattle.life_canon.specs.Texts.{IsCanonical, IsRleOf, HasMoreCells}
 
@@ -15,13 +16,26 @@ use Rattle.life_canon.specs.Texts.{IsCanonical, IsRleOf, HasMoreCells}
 abbrev pub room_of : ℕ → ℕ
 room_of limit = min limit (2 ^ 62)
 
+-- the store of a call when it begins: it holds no square, and has the room of this limit
+pub record IsFresh (limit : ℕ) (store : Nodes) : Type 0 where
+  pub empty : held store ≡ []
+  pub most : store.limit ≡ room_of limit
+
 -- memory was refused, or a store of this limit holds it and lacks what the call needs
 abbrev pub Wants : (Nodes → Type 0) → ℕ → Fault → Type 0
 Wants Lacks limit fault = (store : Nodes) × (store.limit ≡ room_of limit) × IsWant store fault × (fault ≡ fault_of Full → Lacks store)
 
+-- the limit of the store is below the room for a file of these bytes
+abbrev pub IsTightFor : List ℕ → Nodes → Type 0
+IsTightFor bytes store = store.limit < room_for (length bytes)
+
+-- the store lacks a square that the file needs, and its limit is below the room for the file
+abbrev pub IsTooSmallFor : List ℕ → Nodes → Type 0
+IsTooSmallFor bytes store = LacksFor MAX_LEVEL bytes store × IsTightFor bytes store
+
 -- why a call on these bytes is refused
 abbrev pub RefusesWithin : ℕ → List ℕ → Fault → Type 0
-RefusesWithin limit bytes fault = Refuses MAX_LEVEL bytes fault ⊎ Wants (LacksFor MAX_LEVEL bytes) limit fault
+RefusesWithin limit bytes fault = Refuses MAX_LEVEL bytes fault ⊎ Wants (IsTooSmallFor bytes) limit fault
 
 -- the same where the text is extended RLE, which may have too many cells
 abbrev pub RefusesRleWithin : ℕ → List ℕ → Fault → Type 0

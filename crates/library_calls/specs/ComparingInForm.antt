@@ -11,8 +11,8 @@ use Rattle.life_canon.specs.Texts.{HasMoreCells}
 use Rattle.life_canon.specs.Universe.{Universe}
 use Rattle.life_forms.specs.Forms.{IsShift, IsTurnedShift}
 use Rattle.library_calls.specs.Answers.{Wants}
-use Rattle.library_calls.specs.Comparing.{Compared, RefusesEither}
-use Rattle.library_calls.specs.InForm.{LacksForMovedFile}
+use Rattle.library_calls.specs.Comparing.{Compared, IsTooSmallForBoth, RefusesEither}
+use Rattle.library_calls.specs.InForm.{LacksForMoving}
 use Rattle.library_calls.specs.declared.pattern_form.PatternForm.{PatternForm}
 use Rattle.library_calls.specs.declared.pattern_form.PatternForm.TheVariants.{Placed, Moved, Turned}
 
@@ -44,9 +44,10 @@ HasTooMany Placed first second = ⊥
 HasTooMany Moved first second = Accepted MAX_LEVEL first × Accepted MAX_LEVEL second × EitherHasMany first second
 HasTooMany Turned first second = SayRelated AreOfOneGeneration first second × EitherHasMany first second
 
--- the store lacks a square that the first file needs or its pattern where it is moved, or one of the second, where the first is a file
+-- the store is too small for the two files, or lacks a square for the pattern of the first, moved, or, where that is a file, of the second
 abbrev pub LacksForEitherMoved : List ℕ → List ℕ → Nodes → Type 0
-LacksForEitherMoved first second store = LacksForMovedFile first store ⊎ (Accepted MAX_LEVEL first × LacksForMovedFile second store)
+LacksForEitherMoved first second store =
+    IsTooSmallForBoth first second store ⊎ LacksForMoving first store ⊎ (Accepted MAX_LEVEL first × LacksForMoving second store)
 
 -- why two files aren't compared in this form
 abbrev pub RefusesEitherInForm : PatternForm → ℕ → List ℕ → List ℕ → Fault → Type 0

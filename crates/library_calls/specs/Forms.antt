@@ -5,7 +5,8 @@ use Rattle.life_base.specs.declared.fault.Fault.{Fault}
 use Rattle.life_canon.specs.Feeding.{RefusesFront}
 use Rattle.life_canon.specs.Needs.{LacksForFront}
 use Rattle.life_canon.specs.Texts.{IsShown}
-use Rattle.library_calls.specs.Answers.{IsCanonicalText, IsRleText, RefusesWithin, RefusesRleWithin, Wants}
+use Rattle.life_quad.specs.Store.{Nodes}
+use Rattle.library_calls.specs.Answers.{IsCanonicalText, IsRleText, IsTightFor, RefusesWithin, RefusesRleWithin, Wants}
 use Rattle.life_step.specs.Stepped.{IsStepped}
 use Rattle.library_calls.specs.Stepping.{RefusesStepWithin}
 use Rattle.library_calls.specs.declared.session.Form.{Form}
@@ -38,9 +39,13 @@ text_in forms.Placed = Canonical
 text_in forms.Moved = Moved
 text_in forms.Turned = Turned
 
+-- the store lacks a square that the lines of these bytes need that have ended, and its limit is below the room for the bytes
+abbrev pub IsTooSmallForFront : List ℕ → Nodes → Type 0
+IsTooSmallForFront bytes store = LacksForFront MAX_LEVEL bytes store × IsTightFor bytes store
+
 -- no file goes on from these bytes, or room or memory is wanted for their lines that have ended
 abbrev pub RefusesPiece : ℕ → List ℕ → Fault → Type 0
-RefusesPiece limit bytes fault = RefusesFront MAX_LEVEL bytes fault ⊎ Wants (LacksForFront MAX_LEVEL bytes) limit fault
+RefusesPiece limit bytes fault = RefusesFront MAX_LEVEL bytes fault ⊎ Wants (IsTooSmallForFront bytes) limit fault
 
 -- What contracts see of a file that comes in pieces: which text its end gives, how many squares its store may hold, and the bytes that came.
 pub record Piecewise : Type 0 where

@@ -8,14 +8,13 @@ use Rattle.life_base.specs.declared.kind.Kind.TheVariants.{TooManyCells}
 use Rattle.life_quad.specs.Store.{Nodes}
 use Rattle.life_canon.specs.Files.{Reads, Refuses}
 use Rattle.life_canon.specs.Listing.{canon_text}
-use Rattle.life_canon.specs.Needs.{LacksFor}
 use Rattle.life_canon.specs.Texts.{HasMoreCells}
 use Rattle.life_canon.specs.Universe.{Universe}
 use Rattle.life_forms.specs.Forms.{IsMoved}
 use Rattle.life_forms.specs.Images.{IsTurnedText}
 use Rattle.life_forms.specs.Needed.{HasFewCells, LacksForMoved}
 use Rattle.library_calls.specs.Told.{Told}
-use Rattle.library_calls.specs.Answers.{IsCanonicalText, RefusesWithin, RefusesRleWithin, Wants}
+use Rattle.library_calls.specs.Answers.{IsCanonicalText, IsTooSmallFor, RefusesWithin, RefusesRleWithin, Wants}
 use Rattle.library_calls.specs.declared.pattern_form.PatternForm.{PatternForm}
 use Rattle.library_calls.specs.declared.pattern_form.PatternForm.TheVariants.{Placed, Moved, Turned}
 
@@ -49,9 +48,13 @@ IsTextInForm Turned = IsTextTurned
 abbrev pub IsKeyInForm : PatternForm → List ℕ → List ℕ → Type 0
 IsKeyInForm form bytes key = (text : List ℕ) × IsTextInForm form bytes text × (key ≡ sha256 text)
 
--- the store lacks a square that the file needs, or one that its pattern needs where it is moved
+-- the bytes are a file, and the store lacks a square that its pattern needs where it is moved: those are bounded by no length of a file
+abbrev pub LacksForMoving : List ℕ → Nodes → Type 0
+LacksForMoving bytes store = (u : Universe) × Reads MAX_LEVEL bytes u × LacksForMoved u store
+
+-- the store is too small for the file, or lacks a square for its pattern, moved
 abbrev pub LacksForMovedFile : List ℕ → Nodes → Type 0
-LacksForMovedFile bytes store = LacksFor MAX_LEVEL bytes store ⊎ ((u : Universe) × Reads MAX_LEVEL bytes u × LacksForMoved u store)
+LacksForMovedFile bytes store = IsTooSmallFor bytes store ⊎ LacksForMoving bytes store
 
 -- why the bytes have no text in this form, within a limit of the store
 abbrev pub RefusesInForm : PatternForm → ℕ → List ℕ → Fault → Type 0

@@ -14,7 +14,8 @@ use Rattle.life_step.specs.Stepped.{IsSteppedBy}
 use Rattle.library_calls.specs.Told.{Told, Tells, Answers}
 use Rattle.library_calls.specs.Answers.{Wants}
 
--- why bytes aren't stepped under their own rule: they are no file, or room or memory is wanted, or their pattern has no next generation
+-- Why bytes aren't stepped under their own rule: they are no file, or room or memory is wanted, or their pattern has no next generation. The squares
+-- of that generation are bounded by no length of a file, and so the limit isn't either.
 abbrev pub RefusesStepWithin : ℕ → List ℕ → Fault → Type 0
 RefusesStepWithin limit bytes fault =
     Refuses MAX_LEVEL bytes fault

@@ -1,9 +1,14 @@
 //! The call that compares two files in a form.
 
-ghost use Rattle.std.specs.Prelude.{◌≡◌, ◌↔◌, ℕ, IfOk, IfErr, OnOk, IsTrue, MatchOption};
+ghost use Rattle.std.specs.Prelude.{◌≡◌, ◌↔◌, ◌⊎◌, ℕ, [], Err, IfOk, IfErr, OnOk, IsTrue, MatchOption};
+ghost use Rattle.life_base.specs.Refusal.{fault_of};
 ghost use Rattle.life_base.specs.declared.cell.TheConstants.{MAX_LEVEL};
-ghost use Rattle.life_canon.specs.Files.{Accepted};
-ghost use Rattle.library_calls.specs.Answers.{room_of};
+ghost use Rattle.life_base.specs.declared.kind.Kind.TheVariants.{Full};
+ghost use Rattle.life_quad.specs.Store.{held};
+ghost use Rattle.life_canon.specs.Files.{Accepted, Refuses};
+ghost use Rattle.life_canon.specs.Store.{IsRead, IsWant};
+ghost use Rattle.library_calls.specs.Answers.{IsFresh};
+ghost use Rattle.library_calls.specs.Comparing.{IsTooSmallForBoth};
 ghost use Rattle.library_calls.specs.InForm.{form_numbered};
 ghost use Rattle.library_calls.specs.ComparingInForm.{AreOneInForm, HasTooMany, RefusesEitherInForm, ComparesInForm, ComparesInNone};
 ghost use Rattle.library_calls.specs.declared.pattern_form.PatternForm.{PatternForm as FormValue};
@@ -13,11 +18,45 @@ use crate::in_form::{NO_FORM, form_of};
 use crate::pattern_form::PatternForm;
 use crate::session::store_of;
 use life_base::Fault;
-use life_canon::laws::{files_are_on_plane, files_are_unique, patterns_fit, patterns_stay};
-use life_canon::read;
+use life_canon::laws::{
+    few_squares, files_are_on_plane, files_are_unique, patterns_fit, patterns_stay,
+    refusals_have_kinds, room_suffices,
+};
+use life_canon::{Pattern, read};
 use life_forms::{are_shifts, are_turns};
 use life_quad::Shared;
 use std::alloc::Global;
+
+/// The patterns of two files, read into one store.
+fn read_both(
+    alloc: Global,
+    store: &mut Shared,
+    first: &[u8],
+    second: &[u8],
+) -> Result<(Pattern, Pattern), Fault>
+    ensures one { IfOk result (λ both. IsRead MAX_LEVEL first.now store.new both.0) }
+    ensures other { IfOk result (λ both. IsRead MAX_LEVEL second.now store.new both.1) }
+    ensures fault { IfErr result (λ fault. Refuses MAX_LEVEL first.now fault
+        ⊎ (Accepted MAX_LEVEL first.now × Refuses MAX_LEVEL second.now fault)
+        ⊎ IsWant store.new fault) }
+    ensures needed { result ≡ Err (fault_of Full) → held store.old ≡ []
+        → IsTooSmallForBoth first.now second.now store.new }
+    ensures limit { store.new.limit ≡ store.old.limit }
+{
+    patterns_stay();
+    refusals_have_kinds();
+    few_squares();
+    room_suffices();
+    let a = read(alloc, store, first)?;
+    match read(alloc, store, second) {
+        Ok(b) => Ok((a, b)),
+        Err(fault) => {
+            // Its contract says that a store holds each square once, and none that is blank. The proof counts them.
+            let _ = store.len();
+            Err(fault)
+        }
+    }
+}
 
 /// Whether a shift takes the pattern of one file to that of another.
 fn are_shifted(
@@ -30,15 +69,13 @@ fn are_shifted(
     ensures answer { IfOk result
         (λ answer. IsTrue answer ↔ AreOneInForm FormValue.Moved first.now second.now) }
     ensures few { OnOk result (¬ HasTooMany FormValue.Moved first.now second.now) }
-    ensures fault { IfErr result (λ fault. (limit : ℕ) → store.old.limit ≡ room_of limit
+    ensures fault { IfErr result (λ fault. (limit : ℕ) → IsFresh limit store.old
         → RefusesEitherInForm FormValue.Moved limit first.now second.now fault) }
 {
     patterns_fit();
-    patterns_stay();
     files_are_unique();
-    let a = read(alloc, store, first)?;
-    let b = read(alloc, store, second)?;
-    are_shifts(alloc, store, &a, &b)
+    let both = read_both(alloc, store, first, second)?;
+    are_shifts(alloc, store, &both.0, &both.1)
 }
 
 /// Whether a shift behind one of the eight turns and reflections does.
@@ -47,16 +84,14 @@ fn are_turned(alloc: Global, store: &mut Shared, first: &[u8], second: &[u8]) ->
     ensures answer { IfOk result
         (λ answer. IsTrue answer ↔ AreOneInForm FormValue.Turned first.now second.now) }
     ensures few { OnOk result (¬ HasTooMany FormValue.Turned first.now second.now) }
-    ensures fault { IfErr result (λ fault. (limit : ℕ) → store.old.limit ≡ room_of limit
+    ensures fault { IfErr result (λ fault. (limit : ℕ) → IsFresh limit store.old
         → RefusesEitherInForm FormValue.Turned limit first.now second.now fault) }
 {
     patterns_fit();
-    patterns_stay();
     files_are_unique();
     files_are_on_plane();
-    let a = read(alloc, store, first)?;
-    let b = read(alloc, store, second)?;
-    are_turns(alloc, store, &a, &b)
+    let both = read_both(alloc, store, first, second)?;
+    are_turns(alloc, store, &both.0, &both.1)
 }
 
 /// Whether two files are one pattern in a form.
@@ -71,7 +106,7 @@ fn are_one(
     ensures answer { IfOk result
         (λ answer. IsTrue answer ↔ AreOneInForm form first.now second.now) }
     ensures few { OnOk result (¬ HasTooMany form first.now second.now) }
-    ensures fault { IfErr result (λ fault. (limit : ℕ) → store.old.limit ≡ room_of limit
+    ensures fault { IfErr result (λ fault. (limit : ℕ) → IsFresh limit store.old
         → RefusesEitherInForm form limit first.now second.now fault) }
 {
     match form {

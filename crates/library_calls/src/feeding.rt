@@ -13,7 +13,8 @@ use crate::in_form::{moved_text, turned_text_of};
 use crate::session::{Form, store_of};
 use life_base::{Fault, MAX_LEVEL};
 use life_canon::laws::{
-    canonical_is_least, files_are_on_plane, patterns_fit, texts_are_files, texts_tell_universes,
+    canonical_is_least, files_are_on_plane, fronts_hold, patterns_fit, texts_are_files,
+    texts_tell_universes,
 };
 use life_canon::{Pattern, Reader, five_lines_of, rle_of, text_of};
 use life_quad::Shared;
@@ -30,15 +31,18 @@ pub struct Feeding {
 }
 
 impl Model for Feeding {
-    ghost use Rattle.std.specs.Prelude.{◌≡◌, false};
+    ghost use Rattle.std.specs.Prelude.{◌≡◌, [], false};
     ghost use Rattle.life_canon.specs.Feeding.{Stands};
+    ghost use Rattle.life_canon.specs.Room.{HoldsFront};
     ghost use Rattle.library_calls.specs.Forms.{Piecewise};
 
     ghost Value = { Piecewise };
 
     ghost view = { λ f. record { form = f.form; room = f.store.limit; bytes = f.reader.bytes } };
 
-    ghost invariant = { λ f. (f.reader.spent ≡ false) × Stands f.store f.reader };
+    // The store holds no squares but those of the lines that have ended.
+    ghost invariant = { λ f. (f.reader.spent ≡ false) × Stands f.store f.reader
+        × HoldsFront [] f.reader.bytes f.store };
 }
 
 /// The canonical text of a pattern that was read into the store.
@@ -81,6 +85,7 @@ impl Feeding {
         ensures fault { IfErr result (λ fault. (limit : ℕ) → self.room ≡ room_of limit
             → RefusesPiece limit (self.bytes ++ piece.now) fault) }
     {
+        fronts_hold();
         let Feeding {
             mut reader,
             mut store,
@@ -100,6 +105,7 @@ impl Feeding {
         ensures fault { IfErr result (λ fault. (limit : ℕ) → self.room ≡ room_of limit
             → RefusesTextOf self.form limit self.bytes fault) }
     {
+        fronts_hold();
         let Feeding {
             reader,
             mut store,

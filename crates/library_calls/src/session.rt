@@ -2,7 +2,7 @@
 
 ghost use Rattle.std.specs.Prelude.{◌≡◌, ◌++◌, ℕ, List};
 ghost use Rattle.life_base.specs.declared.fault.Fault.{Fault as FaultValue};
-ghost use Rattle.library_calls.specs.Answers.{room_of};
+ghost use Rattle.library_calls.specs.Answers.{IsFresh};
 ghost use Rattle.library_calls.specs.Streams.{IsFed, HasText, HasFault, Takes, Ends};
 ghost use Rattle.library_calls.specs.declared.session.Form.{Form as FormValue};
 
@@ -17,7 +17,7 @@ const GREATEST_LIMIT: u64 = 1 << 62;
 
 /// An empty store for so many different squares, and for 2^62 where more are asked for. The seed decides time alone.
 pub(crate) fn store_of(alloc: Global, limit: u64, seed: u64) -> Shared
-    ensures { result.limit ≡ room_of limit }
+    ensures { IsFresh limit result }
 {
     let most = if limit < GREATEST_LIMIT {
         limit

@@ -1,6 +1,6 @@
 use Rattle.std.proofs.Common.{◌≡◌, ℕ, IfOk, IfErr, OnOk, sym, subst}
 use Rattle.std.specs.Prelude.{◌↔◌, IsTrue}
-use Rattle.library_calls.specs.Answers.{room_of}
+use Rattle.library_calls.specs.Answers.{IsFresh}
 use Rattle.library_calls.specs.ComparingInForm.{AreOneInForm, HasTooMany, RefusesEitherInForm}
 use Rattle.library_calls.specs.declared.pattern_form.PatternForm.{PatternForm}
 use Rattle.library_calls.proofs.Answering.{of-any}
@@ -28,7 +28,7 @@ returns-in-Moved-clause-few c =
 
 pub returns-in-Moved-clause-fault : goal.returns-in-Moved-clause-fault
 returns-in-Moved-clause-fault c =
-    subst (λ (f : PatternForm). IfErr c.are_shifted.result (λ fault. (limit : ℕ) → c.args.store.now.limit ≡ room_of limit
+    subst (λ (f : PatternForm). IfErr c.are_shifted.result (λ fault. (limit : ℕ) → IsFresh limit c.args.store.now
     → RefusesEitherInForm f limit c.args.first.now c.args.second.now fault)) (sym c.in-Moved.is) c.are_shifted.ensures.fault
 
 pub returns-in-Turned-clause-answer : goal.returns-in-Turned-clause-answer
@@ -43,5 +43,5 @@ returns-in-Turned-clause-few c =
 
 pub returns-in-Turned-clause-fault : goal.returns-in-Turned-clause-fault
 returns-in-Turned-clause-fault c =
-    subst (λ (f : PatternForm). IfErr c.are_turned.result (λ fault. (limit : ℕ) → c.args.store.now.limit ≡ room_of limit
+    subst (λ (f : PatternForm). IfErr c.are_turned.result (λ fault. (limit : ℕ) → IsFresh limit c.args.store.now
     → RefusesEitherInForm f limit c.args.first.now c.args.second.now fault)) (sym c.in-Turned.is) c.are_turned.ensures.fault

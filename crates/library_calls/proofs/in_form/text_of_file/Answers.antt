@@ -1,5 +1,7 @@
-use Rattle.std.proofs.Common.{◌∙◌}
+use Rattle.std.proofs.Common.{◌∙◌, length}
 use Rattle.std.proofs.lemmas.Result.{IfOk-weaker, IfErr-weaker, err_from_is_err_and}
+use Rattle.life_canon.specs.Room.{room_for}
+use Rattle.library_calls.proofs.Answering.{tight}
 use Rattle.library_calls.proofs.FormFacts.{unread}
 use Rattle.library_calls.proofs.in_form.text_of_file.Goals as goal
 
@@ -10,7 +12,12 @@ pub returns-in_err-pattern-clause-fault : goal.returns-in_err-pattern-clause-fau
 returns-in_err-pattern-clause-fault c =
     let p = err_from_is_err_and c.from_residual.result c.from_residual.ensures.1 in
     rw (p.1, p.2) (unread c.args.form c.args.limit c.args.bytes.now c.read.new.store c.in_err-pattern.field-0.0
-    (c.read.ensures.keeps.limit ∙ c.store_of-store.ensures) c.in_err-pattern.ensures.fault (λ e. c.in_err-pattern.ensures.needed (cc)))
+    (c.read.ensures.keeps.limit ∙ c.store_of-store.ensures.most) c.in_err-pattern.ensures.fault
+    (λ e. (
+      c.in_err-pattern.ensures.needed (cc),
+      tight (room_for (length c.args.bytes.now)) c.store_of-store.result c.read.new.store
+          c.store_of-store.ensures.empty c.read.ensures.keeps.limit (c.in_err-pattern.ensures.room (cc)),
+    )))
 
 pub returns-clause-text : goal.returns-clause-text
 returns-clause-text c =
@@ -18,5 +25,5 @@ returns-clause-text c =
 
 pub returns-clause-fault : goal.returns-clause-fault
 returns-clause-fault c =
-    IfErr-weaker c.text_in_form.result _ _ (λ fault why. why c.args.limit c.args.bytes.now (c.read.ensures.keeps.limit ∙ c.store_of-store.ensures)
+    IfErr-weaker c.text_in_form.result _ _ (λ fault why. why c.args.limit c.args.bytes.now (c.read.ensures.keeps.limit ∙ c.store_of-store.ensures.most)
     c.in_ok-pattern.ensures.pattern) c.text_in_form.ensures.fault

@@ -1,8 +1,9 @@
-use Rattle.std.proofs.Common.{◌∙◌, sym, ap, subst}
+use Rattle.std.proofs.Common.{◌∙◌, [], length, sym, ap, subst}
 use Rattle.std.proofs.lemmas.Result.{IfOk-weaker, IfErr-weaker, err_from_is_err_and}
+use Rattle.life_canon.specs.Room.{room_for}
 use Rattle.library_calls.specs.Forms.{Piecewise, IsTextOf, RefusesTextOf}
 use Rattle.library_calls.specs.declared.session.Form.{Form}
-use Rattle.library_calls.proofs.Answering.{and-lacks, both}
+use Rattle.library_calls.proofs.Answering.{and-lacks, both, tight-alone}
 use Rattle.library_calls.proofs.StreamFacts.{form-text, text-fault, wants, rle-fault, next-fault}
 use Rattle.library_calls.proofs.feeding.Feeding.text.Goals as goal
 
@@ -11,7 +12,12 @@ returns-in_err-pattern-clause-fault c =
     let p = err_from_is_err_and c.from_residual.result c.from_residual.ensures.1 in
     rw (p.1, p.2) (λ limit is. subst (λ (v : Piecewise). RefusesTextOf v.form limit v.bytes c.in_err-pattern.field-0.0) c.self.view_is
     (text-fault _ limit _ c.finish.new.store c.in_err-pattern.field-0.0 (c.finish.ensures.keeps.limit ∙ ap (λ (v : Piecewise). v.room) c.self.view_is ∙ is)
-    (c.in_err-pattern.ensures.fault c.self.invariant.0) (λ e. c.in_err-pattern.ensures.needed (cc))))
+    (c.in_err-pattern.ensures.fault c.self.invariant.0) (λ e. (
+      c.in_err-pattern.ensures.needed (cc),
+      tight-alone (room_for (length c.self.inside.reader.bytes)) c.self.inside.store c.finish.new.store c.finish.ensures.keeps.limit
+          (c.in_err-pattern.ensures.room (cc) []
+          (c.fronts_hold.ensures c.self.inside.reader.bytes [] [] c.self.inside.store c.self.inside.store c.self.invariant.2).1),
+    ))))
 
 pub returns-in-Canonical-clause-text : goal.returns-in-Canonical-clause-text
 returns-in-Canonical-clause-text c =
