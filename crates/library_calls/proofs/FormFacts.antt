@@ -190,7 +190,8 @@ tight-second kinds few suffices first second old mid new fault empty distinct li
     omega (arith, less, most, has)
   where
     of-first : (t : Tree) → Contains (held old) t ⊎ IsOfFile first t → IsOfFile first t
-    of-first t (inl there) = let none : Contains {X = Tree} [] t = subst (λ (squares : List Tree). Contains squares t) empty there in absurd (omega (arith, none.1))
+    of-first t (inl there) = let none : Contains {X = Tree} [] t = subst (λ (squares : List Tree). Contains squares t) empty there in
+        absurd (omega (arith, none.1))
     of-first t (inr it) = it
 
 -- one of two files isn't read, or room or memory is wanted for it

@@ -13,6 +13,7 @@ returns c =
     c.canon-found.ensures.text c.canon-found.ensures.least)
     (refused c.args.limit c.args.bytes.now c.canon-found.new.store c.canon-found.result
     (c.canon-found.ensures.keeps.limit ∙ c.store_of-store.ensures.most) c.canon-found.ensures.fault
-    (too-small c.args.bytes.now c.store_of-store.result c.canon-found.new.store c.canon-found.result c.store_of-store.ensures.empty c.canon-found.ensures.keeps.limit
+    (too-small c.args.bytes.now c.store_of-store.result c.canon-found.new.store c.canon-found.result c.store_of-store.ensures.empty
+    c.canon-found.ensures.keeps.limit
     c.canon-found.ensures.needed c.canon-found.ensures.room))
     c.tell.ensures.gives c.tell.ensures.no_line c.tell.ensures.tells

@@ -11,6 +11,7 @@ returns c =
     c.show-found.ensures.text
     (refused c.args.limit c.args.bytes.now c.show-found.new.store c.show-found.result
     (c.show-found.ensures.keeps.limit ∙ c.store_of-store.ensures.most) c.show-found.ensures.fault
-    (too-small c.args.bytes.now c.store_of-store.result c.show-found.new.store c.show-found.result c.store_of-store.ensures.empty c.show-found.ensures.keeps.limit
+    (too-small c.args.bytes.now c.store_of-store.result c.show-found.new.store c.show-found.result c.store_of-store.ensures.empty
+    c.show-found.ensures.keeps.limit
     c.show-found.ensures.needed c.show-found.ensures.room))
     c.tell.ensures.gives c.tell.ensures.no_line c.tell.ensures.tells

@@ -13,6 +13,7 @@ returns c =
     c.to_rle-found.ensures.text c.to_rle-found.ensures.same)
     (refused_rle c.args.limit c.args.bytes.now c.to_rle-found.new.store c.to_rle-found.result
     (c.to_rle-found.ensures.keeps.limit ∙ c.store_of-store.ensures.most) c.to_rle-found.ensures.fault
-    (too-small c.args.bytes.now c.store_of-store.result c.to_rle-found.new.store c.to_rle-found.result c.store_of-store.ensures.empty c.to_rle-found.ensures.keeps.limit
+    (too-small c.args.bytes.now c.store_of-store.result c.to_rle-found.new.store c.to_rle-found.result c.store_of-store.ensures.empty
+    c.to_rle-found.ensures.keeps.limit
     c.to_rle-found.ensures.needed c.to_rle-found.ensures.room))
     c.tell.ensures.gives c.tell.ensures.no_line c.tell.ensures.tells
