@@ -252,13 +252,13 @@ def room_for(*files):
 
 
 def pairs_of_rows(level):
-    """An RLE file of pairs of rows, the one above and the other below each multiple of 2^level, of two cells left and two right of column 0. No files are
-    known that need more squares for their bytes: for some 26 of them four on each level up to this one."""
-    states, row = random.Random(56), -(2**61)
-    body = b""
-    for multiple in range(-(2**61) + 2**level, 2**61, 2**level):
-        four = bytes(states.choice(b"ABCDEFGHIJKLMNOPQRSTUVWX") for _ in range(4))
-        body += b"%d$%b$%b" % (multiple - 1 - row, four[:2], four[2:])
+    """An RLE file of pairs of rows, the one above and the other below each multiple of 2^level, of two cells about column 0 each, of one state that no
+    other pair has. No files are known that need more squares for their bytes: for some 26 of them four on each level up to this one."""
+    row, body = -(2**61), b""
+    for state, multiple in enumerate(range(-(2**61) + 2**level, 2**61, 2**level), 1):
+        prefix, letter = divmod(state - 1, 24)
+        two = b"2" + (b"%c" % (ord("o") + prefix) if prefix else b"") + b"%c" % (ord("A") + letter)
+        body += b"%d$%b$%b" % (multiple - 1 - row, two, two)
         row = multiple
     return b"#CXRLE Pos=-1,%d\nx = 0, y = 0, rule = F\n%b!\n" % (-(2**61), body)
 
