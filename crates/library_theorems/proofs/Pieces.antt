@@ -1,14 +1,16 @@
 -- What a stream has of the pieces that were fed, and what its end tells of them.
-use Rattle.std.proofs.Common.{◌≡◌, ℕ, ◌+◌, ◌≤◌, ◌++◌, ◌⊎◌, inl, inr, List, [], take, drop, length, ◌∙◌, sym, subst, arith}
+use Rattle.std.proofs.Common.{◌≡◌, ℕ, ◌+◌, ◌*◌, ◌<◌, ◌≤◌, ◌++◌, ◌⊎◌, inl, inr, List, [], take, drop, length, length-append, ◌∙◌, ap, sym, subst, arith}
 use Rattle.std.specs.Global.{Vec}
 use Rattle.std.specs.Prelude.{Option, Some, None, IfSome}
 use Rattle.life_base.specs.Kinds.{kind_number}
 use Rattle.life_base.specs.declared.fault.Fault.{Fault}
 use Rattle.life_base.specs.declared.kind.Kind.TheVariants.{Memory}
 use Rattle.life_canon.specs.Laws.{FaultsStay}
+use Rattle.life_quad.specs.Store.{Nodes}
+use Rattle.library_calls.specs.Answers.{IsTightFor}
 use Rattle.theorems.specs.Joined.{joined}
 use Rattle.theorems.proofs.PieceLaw.{joined_all, joined_split}
-use Rattle.theorems.proofs.RefusalLaw.{refuses_agree, want_as}
+use Rattle.theorems.proofs.RefusalLaw.{refuses_agree}
 use Rattle.library_calls.specs.Forms.{IsTextOf, RefusesTextOf, RefusesPiece}
 use Rattle.library_calls.specs.Streams.{IsOpen, IsFed, HasFault, Opens, Takes, by_piece, Ends, TellsEnd}
 use Rattle.library_calls.specs.Streams as streams
@@ -17,8 +19,9 @@ use Rattle.library_calls.specs.Told.{Answers, by_text, by_fault}
 use Rattle.library_calls.specs.declared.session.Form.{Form}
 use Rattle.library_calls.specs.declared.session.Session.{Session}
 use Rattle.library_calls.specs.declared.session.Session.TheVariants.{Reading, Written, Refused}
-use Rattle.library_theorems.specs.Answered.{IsUnread}
+use Rattle.library_theorems.specs.Answered.{IsUnreadWithin, room_for}
 use Rattle.library_theorems.specs.Ending.{IsEndFault}
+use Rattle.library_theorems.proofs.Reworded.{want_below}
 
 -- the pieces so far were fed, or one of them was refused
 pub data Took (form : Form) (limit : ℕ) (pieces : List (Vec ℕ)) (n : ℕ) (session : Option Session) : Type 0 where
@@ -42,12 +45,18 @@ took_more form limit pieces n piece old new more takes stays (refused k fault ha
 
 -- the fault of the pieces so far is that of all
 of_all : FaultsStay 62 → (limit : ℕ) (pieces : List (Vec ℕ)) (k : ℕ) (fault : Fault) → RefusesPiece limit (joined (take k pieces)) fault
-    → IsUnread (joined pieces) fault
+    → IsUnreadWithin limit (joined pieces) fault
 of_all stay limit pieces k fault (inl front) =
     let whole = refuses_agree (joined (take k pieces) ++ joined (drop k pieces)) fault
     (stay (joined (take k pieces)) (joined (drop k pieces)) fault front).refuses in
-    subst (λ (bytes : List ℕ). IsUnread bytes fault) (sym (joined_split pieces k)) (inl whole)
-of_all stay limit pieces k fault (inr w) = inr (want_as w.0 fault w.2)
+    subst (λ (bytes : List ℕ). IsUnreadWithin limit bytes fault) (sym (joined_split pieces k)) (inl whole)
+of_all stay limit pieces k fault (inr w) = inr (want_below (room_for (joined pieces)) limit fault (λ store lacks. tight_too store lacks.1) w)
+  where
+    tight_too : (store : Nodes) → IsTightFor (joined (take k pieces)) store → IsTightFor (joined pieces) store
+    tight_too store tight =
+        let both = length-append (joined (take k pieces)) (joined (drop k pieces)) in
+        let all = ap (λ (bytes : List ℕ). length bytes) (joined_split pieces k) in
+        omega (arith, tight, both, all)
 
 module _ (form : Form) (limit : ℕ) (bytes : List ℕ) (before after : List ℕ) (told : Told) where
   end_told : (session : Session) → Ends form limit bytes session → TellsEnd before after told session
@@ -60,11 +69,11 @@ module _ (form : Form) (limit : ℕ) (bytes : List ℕ) (before after : List ℕ
   end_told (Refused it) (streams.by_text text has good) tells = absurd has
   end_told (Refused it) (streams.by_fault fault has why) tells = by_fault it (inr (subst (RefusesTextOf form limit bytes) (sym has) why)) tells
 
-  fault_told : (session : Session) (fault : Fault) → HasFault fault session → IsUnread bytes fault → TellsEnd before after told session
+  fault_told : (session : Session) (fault : Fault) → HasFault fault session → IsUnreadWithin limit bytes fault → TellsEnd before after told session
       → Answers (IsTextOf form bytes) (IsEndFault form limit bytes) before after told
   fault_told (Reading feeding) fault has why tells = absurd has
   fault_told (Written written) fault has why tells = absurd has
-  fault_told (Refused it) fault has why tells = by_fault it (inl (subst (IsUnread bytes) (sym has) why)) tells
+  fault_told (Refused it) fault has why tells = by_fault it (inl (subst (IsUnreadWithin limit bytes) (sym has) why)) tells
 
 -- what the end tells
 pub told_at_end : FaultsStay 62 → (form : Form) (limit : ℕ) (pieces : List (Vec ℕ)) (n : ℕ) (old new : Option Session) (before after : List ℕ) (told : Told)

@@ -1,5 +1,5 @@
 -- What the calls of the library tell, in the words of the formats.
-use Rattle.std.proofs.Common.{◌≡◌, ◌⊎◌, inl, inr, ℕ, List, [], ◌∷◌, ◌++◌, length, take, drop, refl, ap, ◌∙◌, sym, subst, arith}
+use Rattle.std.proofs.Common.{◌≡◌, ◌⊎◌, inl, inr, ℕ, ◌+◌, ◌<◌, List, [], ◌∷◌, ◌++◌, length, take, drop, refl, ap, ◌∙◌, sym, subst, arith}
 use Rattle.std.specs.Prelude.{◌≢◌, Ok, Err, IsOk}
 use Rattle.life_base.specs.Kinds.{kind_number}
 use Rattle.life_base.specs.Refusal.{OrMemory}
@@ -11,12 +11,13 @@ use Rattle.life_canon.specs.Laws.{CanonicalIsLeast, FilesAreOnPlane, FilesAreUni
 use Rattle.life_canon.specs.Least.{IsLeastText}
 use Rattle.life_canon.specs.Listing.{canon_text, canonical_file}
 use Rattle.life_canon.specs.Texts.{IsCanonical, IsShown}
+use Rattle.life_quad.specs.Store.{Nodes}
 use Rattle.life_table.specs.Grammar.{IsFile}
 use Rattle.life_table.specs.Reading.{Refuses as RefusesTable, AreTable}
 use Rattle.life_table.specs.declared.table.Table.{Table as LayerTable}
 use Rattle.claims.specs.ByTable.{IsSteppedBy, IsUnsteppedBy}
 use Rattle.claims.specs.Counting.{node_lines, IsCanonicalText}
-use Rattle.claims.specs.Files.{pattern_of, Same, IsWant, fault_of}
+use Rattle.claims.specs.Files.{pattern_of, Same, fault_of}
 use Rattle.claims.specs.Generation.{IsUnstepped}
 use Rattle.claims.specs.Pattern.{Pattern}
 use Rattle.claims.specs.Shown.{IsShown as AreLines}
@@ -31,7 +32,7 @@ use Rattle.theorems.proofs.ShownLaw.{shown_is}
 use Rattle.theorems.proofs.StreamLaw.{one_text}
 use Rattle.step_theorems.proofs.StepLaw.{unstepped_is}
 use Rattle.step_theorems.proofs.StepBy.{next_by_is_fixed, stepped_is, unstepped_is as unstepped_by_is}
-use Rattle.library_calls.specs.Answers.{RefusesWithin, RefusesRleWithin}
+use Rattle.library_calls.specs.Answers.{Wants, RefusesWithin, RefusesRleWithin}
 use Rattle.library_calls.specs.Answers.{IsCanonicalText as LayerText, IsRleText as LayerRle}
 use Rattle.library_calls.specs.declared.comparing.Compared.{Compared}
 use Rattle.library_calls.specs.Comparing.{ComparesWithin, by_answer, IsAnswerOf, RefusesEither}
@@ -41,7 +42,7 @@ use Rattle.library_calls.specs.declared.session.Form.{Form}
 use Rattle.library_calls.specs.Stepping.{RefusesStepWithin, RefusesStepByWithin, StepsByTable, by_table, by_no_table}
 use Rattle.library_calls.specs.declared.telling.Told.{Told}
 use Rattle.library_calls.specs.Told.{Copies, LacksRoom, Gives, Tells, Answers, by_text, by_fault}
-use Rattle.library_theorems.specs.Answered.{IsRleText, AreFiveLines, IsUnread, IsUnwritten}
+use Rattle.library_theorems.specs.Answered.{IsRleText, AreFiveLines, IsUnread, IsUnreadWithin, IsUnwritten, IsWantBelow, room_for}
 use Rattle.library_theorems.specs.Ending.{IsEndFault}
 use Rattle.library_theorems.proofs.Numbered.{IsOfText, no_text}
 
@@ -61,7 +62,7 @@ of_form {IsFault = IsFault} {before = before} {after = after} {told = told} is f
 -- the end of a stream for that form tells what its texts and its faults imply
 pub ended_so : {form that : Form} {IsOther : List ℕ → Type 0} {IsOtherFault : Fault → Type 0} {before after : List ℕ} {told : Told} → form ≡ that
     → (limit : ℕ) (file : List ℕ) → Answers (IsTextOf form file) (IsEndFault form limit file) before after told
-    → ((text : List ℕ) → IsTextOf that file text → IsOther text) → ((fault : Fault) → IsUnread file fault → IsOtherFault fault)
+    → ((text : List ℕ) → IsTextOf that file text → IsOther text) → ((fault : Fault) → IsUnreadWithin limit file fault → IsOtherFault fault)
     → ((fault : Fault) → RefusesTextOf that limit file fault → IsOtherFault fault) → Answers IsOther IsOtherFault before after told
 ended_so {before = before} {after = after} {told = told} is limit file answers text unread refused =
     reworded (subst (λ (f : Form). Answers (IsTextOf f file) (IsEndFault f limit file) before after told) is answers) text
@@ -101,11 +102,25 @@ lines_so least on_plane unique files keep file text s =
 
 -- ---- why there is none
 
-pub unread : (limit : ℕ) (file : List ℕ) (fault : Fault) → RefusesWithin limit file fault → IsUnread file fault
-unread limit file fault (inl refuses) = inl (refuses_agree file fault refuses)
-unread limit file fault (inr w) = inr (want_as w.0 fault w.2)
+-- a store that wanted room was tight
+pub want_below : {Lacks : Nodes → Type 0} (room limit : ℕ) (fault : Fault) → ((store : Nodes) → Lacks store → store.limit < room)
+    → Wants Lacks limit fault → IsWantBelow room limit fault
+want_below room limit fault tight w = elim (want_as w.0 fault w.2) [
+  | inl full ↦ inl (full, subst (λ n. n < room) w.1 (tight w.0 (w.3 full)))
+  | inr memory ↦ inr memory
+]
 
-pub unwritten : (limit : ℕ) (file : List ℕ) (fault : Fault) → RefusesRleWithin limit file fault → IsUnwritten file fault
+pub unread : (limit : ℕ) (file : List ℕ) (fault : Fault) → RefusesWithin limit file fault → IsUnreadWithin limit file fault
+unread limit file fault (inl refuses) = inl (refuses_agree file fault refuses)
+unread limit file fault (inr w) = inr (want_below (room_for file) limit fault (λ store lacks. lacks.1) w)
+
+-- whatever the limit
+pub unread_at_all : (limit : ℕ) (file : List ℕ) (fault : Fault) → IsUnreadWithin limit file fault → IsUnread file fault
+unread_at_all limit file fault (inl bad) = inl bad
+unread_at_all limit file fault (inr (inl full)) = inr (inl full.0)
+unread_at_all limit file fault (inr (inr memory)) = inr (inr memory)
+
+pub unwritten : (limit : ℕ) (file : List ℕ) (fault : Fault) → RefusesRleWithin limit file fault → IsUnwritten limit file fault
 unwritten limit file fault (inl refuses) = inl (unread limit file fault refuses)
 unwritten limit file fault (inr many) = inr (many.0, says_more file many.1)
 
@@ -160,10 +175,11 @@ answer_so on_plane first second a b is_same (inl h) = inl (h.0, same_to first se
 answer_so on_plane first second a b is_same (inr h) = inr (h.0, λ s. h.1 (same_from on_plane first second a.0 b.0 a.1 b.1 s))
 
 uncompared : (limit : ℕ) (first second : List ℕ) (fault : Fault) → RefusesEither limit first second fault
-    → (pattern_of first ≡ Err fault) ⊎ ((IsOk (pattern_of first) × (pattern_of second ≡ Err fault)) ⊎ IsWant fault)
+    → (pattern_of first ≡ Err fault)
+    ⊎ ((IsOk (pattern_of first) × (pattern_of second ≡ Err fault)) ⊎ IsWantBelow (room_for first + room_for second) limit fault)
 uncompared limit first second fault (inl refuses) = inl (refuses_agree first fault refuses)
 uncompared limit first second fault (inr (inl h)) = inr (inl (accepted_is_ok first h.0, refuses_agree second fault h.1))
-uncompared limit first second fault (inr (inr w)) = inr (inr (want_as w.0 fault w.2))
+uncompared limit first second fault (inr (inr w)) = inr (inr (want_below (room_for first + room_for second) limit fault (λ store lacks. lacks.1) w))
 
 pub compared_so : FilesAreOnPlane 62 → (limit : ℕ) (first second : List ℕ) (told : Compared) → ComparesWithin limit first second told → told.status ≡ 0
     → (told.line ≡ 0) × IsOk (pattern_of first) × IsOk (pattern_of second)
@@ -174,7 +190,8 @@ compared_so on_plane limit first second told (comparing.by_fault fault status li
 
 pub uncompared_so : (limit : ℕ) (first second : List ℕ) (told : Compared) → ComparesWithin limit first second told → told.status ≢ 0
     → (told.is_same ≡ 0) × ((fault : Fault) × (told.status ≡ kind_number fault.kind) × (told.line ≡ fault.place.line)
-    × ((pattern_of first ≡ Err fault) ⊎ ((IsOk (pattern_of first) × (pattern_of second ≡ Err fault)) ⊎ IsWant fault)))
+    × ((pattern_of first ≡ Err fault)
+    ⊎ ((IsOk (pattern_of first) × (pattern_of second ≡ Err fault)) ⊎ IsWantBelow (room_for first + room_for second) limit fault)))
 uncompared_so limit first second told (by_answer status line a b answer) not = absurd (not status)
 uncompared_so limit first second told (comparing.by_fault fault status line none why) not =
     (none, (fault, status, line, uncompared limit first second fault why))

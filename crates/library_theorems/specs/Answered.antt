@@ -1,8 +1,8 @@
 -- What the calls of the library tell of a file, in the words of the formats.
-use Rattle.std.specs.Prelude.{◌≡◌, ◌⊎◌, ◌^◌, ℕ, List, false, codes, Ok, Err}
+use Rattle.std.specs.Prelude.{◌≡◌, ◌⊎◌, ◌+◌, ◌*◌, ◌<◌, ◌^◌, ℕ, min, List, length, false, codes, Ok, Err}
 use Rattle.life_base.specs.Text.{begins_with}
 use Rattle.life_base.specs.declared.fault.Fault.{Fault}
-use Rattle.life_base.specs.declared.kind.Kind.TheVariants.{TooManyCells}
+use Rattle.life_base.specs.declared.kind.Kind.TheVariants.{Full, Memory, TooManyCells}
 use Rattle.claims.specs.Counting.{node_lines, IsCanonicalText}
 use Rattle.claims.specs.Files.{pattern_of, Same, IsWant, fault_of}
 use Rattle.claims.specs.Generation.{SaysMoreCells}
@@ -27,6 +27,18 @@ pub record AreFiveLines (file text : List ℕ) : Type 0 where
 abbrev pub IsUnread : List ℕ → Fault → Type 0
 IsUnread file fault = (pattern_of file ≡ Err fault) ⊎ IsWant fault
 
+-- how many squares reading a file takes at most: 14 for each byte, and 264
+abbrev pub room_for : List ℕ → ℕ
+room_for file = 14 * length file + 264
+
+-- memory was wanted; or room, and the limit, which counts as 2 ^ 62 at most, is below this many squares
+abbrev pub IsWantBelow : (room limit : ℕ) → Fault → Type 0
+IsWantBelow room limit fault = ((fault ≡ fault_of Full) × (min limit (2 ^ 62) < room)) ⊎ (fault ≡ fault_of Memory)
+
+-- why a file isn't read within a limit: it has this fault; or memory was wanted, or room, and the limit is below the room for the file
+abbrev pub IsUnreadWithin : ℕ → List ℕ → Fault → Type 0
+IsUnreadWithin limit file fault = (pattern_of file ≡ Err fault) ⊎ IsWantBelow (room_for file) limit fault
+
 -- why it isn't written in extended RLE
-abbrev pub IsUnwritten : List ℕ → Fault → Type 0
-IsUnwritten file fault = IsUnread file fault ⊎ ((fault ≡ fault_of TooManyCells) × SaysMoreCells (2 ^ 20) file)
+abbrev pub IsUnwritten : ℕ → List ℕ → Fault → Type 0
+IsUnwritten limit file fault = IsUnreadWithin limit file fault ⊎ ((fault ≡ fault_of TooManyCells) × SaysMoreCells (2 ^ 20) file)

@@ -1,9 +1,10 @@
 //! Two files, compared.
 
-ghost use Rattle.std.specs.Prelude.{◌≡◌, ◌≢◌, ◌⊎◌, Err, IsOk};
+ghost use Rattle.std.specs.Prelude.{◌≡◌, ◌≢◌, ◌⊎◌, ◌+◌, Err, IsOk};
 ghost use Rattle.life_base.specs.Kinds.{kind_number};
 ghost use Rattle.life_base.specs.declared.fault.Fault.{Fault};
-ghost use Rattle.claims.specs.Files.{Same, IsWant, pattern_of};
+ghost use Rattle.claims.specs.Files.{Same, pattern_of};
+ghost use Rattle.library_theorems.specs.Answered.{IsWantBelow, room_for};
 
 use library_calls::{Compared, same};
 use life_canon::laws::files_are_on_plane;
@@ -11,6 +12,7 @@ use std::alloc::Global;
 
 /// 1 is told where two files are of one rule and one generation and each cell has the same state in both, and 0 where they
 /// aren't; or the number and the line of the fault of the first file, or of the second one where the first is a file, and 0.
+/// `Full` is told only where the limit is below 14 squares for each byte of both files, and 528.
 pub fn files_are_compared(
     alloc: Global,
     first: &[u8],
@@ -25,7 +27,8 @@ pub fn files_are_compared(
         × ((fault : Fault) × (result.status ≡ kind_number fault.kind)
         × (result.line ≡ fault.place.line)
         × ((pattern_of first.now ≡ Err fault)
-        ⊎ ((IsOk (pattern_of first.now) × (pattern_of second.now ≡ Err fault)) ⊎ IsWant fault))) }
+        ⊎ ((IsOk (pattern_of first.now) × (pattern_of second.now ≡ Err fault))
+        ⊎ IsWantBelow (room_for first.now + room_for second.now) limit fault))) }
 {
     files_are_on_plane();
     same(alloc, first, second, limit, seed)

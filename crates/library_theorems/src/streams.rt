@@ -11,7 +11,7 @@ ghost use Rattle.library_calls.specs.Forms.{IsTextOf};
 ghost use Rattle.library_calls.specs.Streams.{session_of, IsOpen, IsFed};
 ghost use Rattle.library_calls.specs.Told.{Answers, Gives};
 ghost use Rattle.library_calls.specs.declared.session.Form.{Form as FormValue};
-ghost use Rattle.library_theorems.specs.Answered.{IsRleText, AreFiveLines, IsUnread, IsUnwritten};
+ghost use Rattle.library_theorems.specs.Answered.{IsRleText, AreFiveLines, IsUnread, IsUnreadWithin, IsUnwritten};
 ghost use Rattle.library_theorems.specs.Ending.{IsEndFault};
 ghost use Rattle.theorems.specs.Joined.{joined};
 
@@ -72,14 +72,14 @@ pub fn text_of_stream(
 ) -> (u32, Told)
     ensures opened { (result.0 ≡ 0) ⊎ (result.0 ≡ kind_number Kind.Memory) }
     ensures canonical { form ≡ FormValue.Canonical → result.0 ≡ 0
-        → Answers (IsCanonicalText (joined pieces.now)) (IsUnread (joined pieces.now)) out.old
-        out.new result.1 }
+        → Answers (IsCanonicalText (joined pieces.now)) (IsUnreadWithin limit (joined pieces.now))
+        out.old out.new result.1 }
     ensures rle { form ≡ FormValue.Rle → result.0 ≡ 0
-        → Answers (IsRleText (joined pieces.now)) (IsUnwritten (joined pieces.now)) out.old
+        → Answers (IsRleText (joined pieces.now)) (IsUnwritten limit (joined pieces.now)) out.old
         out.new result.1 }
     ensures lines { form ≡ FormValue.Lines → result.0 ≡ 0
-        → Answers (AreFiveLines (joined pieces.now)) (IsUnread (joined pieces.now)) out.old
-        out.new result.1 }
+        → Answers (AreFiveLines (joined pieces.now)) (IsUnreadWithin limit (joined pieces.now))
+        out.old out.new result.1 }
     ensures next { form ≡ FormValue.Next → result.0 ≡ 0
         → Answers (IsStepped (joined pieces.now))
         (λ fault. IsUnread (joined pieces.now) fault ⊎ IsUnstepped (joined pieces.now) fault)

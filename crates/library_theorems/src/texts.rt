@@ -6,7 +6,7 @@ ghost use Rattle.claims.specs.Files.{pattern_of};
 ghost use Rattle.claims.specs.Pattern.{Pattern};
 ghost use Rattle.claims.specs.Shown.{IsShown};
 ghost use Rattle.library_calls.specs.Told.{Answers, Gives};
-ghost use Rattle.library_theorems.specs.Answered.{IsRleText, AreFiveLines, IsUnread, IsUnwritten};
+ghost use Rattle.library_theorems.specs.Answered.{IsRleText, AreFiveLines, IsUnreadWithin, IsUnwritten};
 
 use library_calls::{Told, canon, show, to_rle};
 use life_base::Fault;
@@ -17,9 +17,11 @@ use life_quad::Shared;
 use std::alloc::Global;
 
 /// The canonical text of a file stands at the front of the caller's memory, or its length is told where it doesn't fit; or
-/// the number and the line of the file's fault are told.
+/// the number and the line of the file's fault are told, and `Full` only where the limit is below 14 squares for each byte of
+/// the file, and 264.
 pub fn text_is_told(alloc: Global, file: &[u8], limit: u64, seed: u64, out: &mut [u8]) -> Told
-    ensures { Answers (IsCanonicalText file.now) (IsUnread file.now) out.old out.new result }
+    ensures { Answers (IsCanonicalText file.now) (IsUnreadWithin limit file.now) out.old out.new
+        result }
 {
     files_are_on_plane();
     texts_are_files();
@@ -29,14 +31,15 @@ pub fn text_is_told(alloc: Global, file: &[u8], limit: u64, seed: u64, out: &mut
 
 /// The same of the text in extended RLE of a file, for which the file may have too many cells.
 pub fn rle_is_told(alloc: Global, file: &[u8], limit: u64, seed: u64, out: &mut [u8]) -> Told
-    ensures { Answers (IsRleText file.now) (IsUnwritten file.now) out.old out.new result }
+    ensures { Answers (IsRleText file.now) (IsUnwritten limit file.now) out.old out.new result }
 {
     to_rle(alloc, file, limit, seed, out)
 }
 
 /// The same of the five lines that tell a file's pattern.
 pub fn lines_are_told(alloc: Global, file: &[u8], limit: u64, seed: u64, out: &mut [u8]) -> Told
-    ensures { Answers (AreFiveLines file.now) (IsUnread file.now) out.old out.new result }
+    ensures { Answers (AreFiveLines file.now) (IsUnreadWithin limit file.now) out.old out.new
+        result }
 {
     canonical_is_least();
     files_are_on_plane();

@@ -1,7 +1,7 @@
 use Rattle.std.proofs.Common.{inl}
 use Rattle.theorems.specs.Joined.{joined}
 use Rattle.step_theorems.proofs.StepLaw.{stepped_is}
-use Rattle.library_theorems.proofs.Reworded.{ended_so, canonical_to, rle_so, lines_so, unread, unwritten, unstepped}
+use Rattle.library_theorems.proofs.Reworded.{ended_so, canonical_to, rle_so, lines_so, unread, unread_at_all, unwritten, unstepped}
 use Rattle.library_theorems.proofs.streams.text_of_stream.Goals as goal
 
 pub returns-clause-canonical : goal.returns-clause-canonical
@@ -25,5 +25,6 @@ returns-clause-lines c = λ is ok.
 pub returns-clause-next : goal.returns-clause-next
 returns-clause-next c = λ is ok.
     let file = joined c.args.pieces.now in
-    ended_so is c.args.limit file (c.told_of_stream.ensures.told ok) (stepped_is c.files_are_on_plane.ensures file) (λ fault. inl)
+    ended_so is c.args.limit file (c.told_of_stream.ensures.told ok) (stepped_is c.files_are_on_plane.ensures file)
+    (λ fault u. inl (unread_at_all c.args.limit file fault u))
     (unstepped c.files_are_on_plane.ensures c.args.limit file)
