@@ -1,10 +1,10 @@
 //! A piece of a text, which is written before it outgrows its room.
 
-ghost use Rattle.std.specs.Prelude.{refl, ◌≡◌, ◌⊎◌, ◌+◌, ◌++◌, ◌≤◌, [], true, flat_map, vec_len, vec_capacity, OnOk, OnErr};
+ghost use Rattle.std.specs.Prelude.{refl, ◌≡◌, ◌⊎◌, ◌+◌, ◌++◌, ◌≤◌, [], true, vec_len, vec_capacity, OnOk, OnErr};
 ghost use Rattle.life_base.specs.declared.kind.Kind.TheVariants.{WriteFault};
 ghost use Rattle.life_base.specs.Writing.{WritesPrefix, LeavesSink};
 ghost use Rattle.life_mc.specs.Writing.{node_text};
-ghost use Rattle.life_canon.specs.Pieces.{WritesFront};
+ghost use Rattle.life_canon.specs.Pieces.{WritesFront, PieceTakes, PieceBreaks};
 ghost use Rattle.life_canon.specs.PieceLaws.{piece-begins, piece-stops, unfailed};
 
 use crate::line_sink::LineSink;
@@ -66,15 +66,15 @@ pub(crate) struct Piece {
 impl<W: Sink> LineSink<W> for Piece {
     ghost ready = { λ a. (65536 ≤ vec_capacity a.0.bytes) × (W.failures a.1 ≡ 0) };
 
-    ghost took = { λ a b lines. WritesFront (W.contents a.1) (W.contents b.1) (a.0.bytes.items ++ flat_map node_text lines) b.0.bytes.items × (W.stalled b.1 ≡ W.stalled a.1) };
+    ghost took = { λ a b lines. PieceTakes W.contents W.stalled a.1 b.1 a.0.bytes.items b.0.bytes.items lines };
 
-    ghost broke = { λ a b lines. WritesPrefix (W.contents a.1) (W.contents b.1) (a.0.bytes.items ++ flat_map node_text lines) × (W.failures b.1 ≡ 1 → W.stalled b.1 ≡ W.stalled a.1) };
+    ghost broke = { λ a b lines. PieceBreaks W.contents W.failures W.stalled a.1 b.1 a.0.bytes.items lines };
 
     ghost refuses = { λ a kind. (kind ≡ WriteFault) × ((W.failures a.1 ≡ 1) ⊎ (W.stalled a.1 ≡ true)) };
 
-    ghost begins = { λ a. (piece-begins (W.contents a.1) a.0.bytes.items, refl) };
+    ghost begins = { λ a. record { text = piece-begins (W.contents a.1) a.0.bytes.items; stalled = refl } };
 
-    ghost stops = { λ a ready start lines more took. (piece-stops _ _ _ _ lines took.0 more, unfailed (W.failures a.1) ready.1) };
+    ghost stops = { λ a ready _ lines more took. record { prefix = piece-stops _ _ _ _ lines took.text more; stalled = unfailed (W.failures a.1) ready.1 } };
 
     #[inline(always)]
     fn take(&mut self, device: &mut W, line: &Line) -> Result<(), Kind> {
