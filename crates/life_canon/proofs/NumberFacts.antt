@@ -1,15 +1,9 @@
--- The quarters of a listed square.
-use Rattle.std.proofs.Common.{◌≡◌, ℕ, suc, ◌+◌, ◌-◌, ◌^◌, ◌<◌, ◌≤◌, true, false, ◌&&◌, List, length, map, get_or, refl, ap, sym, ◌∙◌, subst, arith}
-use Rattle.std.specs.Prelude.{◌==◌, ℤ, Contains}
-use Rattle.std.proofs.lemmas.Bool.Decides.{nat_tests}
-use Rattle.std.proofs.lemmas.List.{length-map, get_or-map}
-use Rattle.life_base.specs.Tree.{Tree, quad, depth, is_blank_tree as is_blank}
+-- The lines of the squares of a root.
+use Rattle.std.proofs.Common.{◌≡◌, ℕ, suc, ◌+◌, ◌-◌, ◌^◌, ◌<◌, ◌≤◌, List, length, ap, sym, ◌∙◌, subst, arith}
+use Rattle.std.specs.Prelude.{ℤ}
+use Rattle.life_base.specs.Tree.{Tree, depth}
 use Rattle.life_base.specs.declared.rule.Rule.{Rule}
-use Rattle.life_base.specs.declared.rule.Rule.TheVariants.{Life, Named}
-use Rattle.life_canon.specs.Universe.{is_life, least_level, IsOnPlane}
-use Rattle.life_canon.specs.Listing.{is_small, is_in}
-use Rattle.life_canon.specs.Closed.{Quarters}
-use Rattle.life_canon.specs.Store.{IsListed}
+use Rattle.life_canon.specs.Universe.{least_level, IsOnPlane}
 use Rattle.life_canon.specs.Listing.{listed, lines_for, square_file, canonical_file}
 use Rattle.life_canon.specs.Least.{IsLeast}
 use Rattle.life_canon.specs.Universe.{square_universe, centred, whole, IsBlankOutside}
@@ -25,46 +19,10 @@ use Rattle.life_canon.proofs.TreeWords.{HasDepth, trimmed_to}
 use Rattle.life_canon.proofs.LineWords.{state_bound}
 use Rattle.life_canon.proofs.LineFacts.{valid-squares}
 use Rattle.life_canon.proofs.Trees.{centred-trimmed, outside-by}
-use Rattle.life_canon.proofs.Walk.{walk-part, listed-walk, listed-quarters}
-use Rattle.life_canon.proofs.Planes.{full-depth, states-below, states-upto, trimmed-is, centred-tree_cell, tree_cell-outside, tree_cell-below, upto-below}
+use Rattle.life_canon.proofs.Planes.{full-depth, states-below, trimmed-is, centred-tree_cell, tree_cell-outside, tree_cell-below, upto-below}
 use Rattle.life_canon.proofs.Canonical.{whole-trimmed}
 use Rattle.life_canon.proofs.Least.{least}
-use Rattle.life_canon.proofs.Content.{not_small, is_in-at, big-level, least-one, lines_for-valid}
-
--- a square above the level of a leaf has quarters of the least level or more
-quarter-high : (rule : Rule) (d q : ℕ) → (is_life rule && d == 3) ≡ false → least_level rule ≤ d → q + 1 ≡ d → 1 ≤ q → least_level rule ≤ q
-quarter-high (Life sets) d q h l e s = grind (arith, nat_tests)
-quarter-high (Named name) d q h l e s = s
-
-abbrev pub IsThere : ℕ → List Tree → Tree → Type 0
-IsThere d all q = depth q + 1 ≡ d → 1 ≤ depth q → is_blank q ≡ false → is_in all q ≡ true
-
-pub there : (rule : Rule) (all : List Tree) (t a b c d : Tree) → IsListed rule all t → t ≡ quad a b c d → (is_life rule && depth t == 3) ≡ false
-    → Quarters (IsThere (depth t) all) (quad a b c d)
-there rule all t a b c d l e h =
-    let q = subst (Quarters (λ q. is_small (least_level rule) q ≡ false → is_in all q ≡ true)) e l.quarters in
-    let go = λ (s : Tree) (f : is_small (least_level rule) s ≡ false → is_in all s ≡ true) (deep : depth s + 1 ≡ depth t) (some : 1 ≤ depth s)
-    (shown : is_blank s ≡ false).
-    f (not_small (least_level rule) s (depth s) refl (quarter-high rule (depth t) (depth s) h l.level deep some) shown) in
-    record { nw = go a q.nw; ne = go b q.ne; sw = go c q.sw; se = go d q.se }
-
--- ---- the squares of a root
-
-contains-in : (xs : List Tree) (t : Tree) → Contains xs t → is_in xs t ≡ true
-contains-in xs t c = subst (λ s. is_in xs s ≡ true) c.2 (is_in-at xs c.0 t c.1)
-
--- each square of the list is listed with its quarters
-pub listed-each : (rule : Rule) (root : Tree) → IsFull root → HasStatesUpTo (largest_state rule) root → (all : List Tree) → all ≡ listed root (least_level rule)
-    → (t : Tree) → Contains all t → IsListed rule all t
-listed-each rule root full states all e t c =
-    let m = least_level rule in
-    let i : is_in (listed root m) t ≡ true = subst (λ xs. is_in xs t ≡ true) e (contains-in all t c) in
-    let part = walk-part m (state_bound rule) t (full-depth root full) (states-below (largest_state rule) root states) (listed-walk root m t i) in
-    record {
-      level = big-level m t part.big;
-      states = states-upto (largest_state rule) t part.states;
-      quarters = subst (λ xs. Quarters (λ q. is_small m q ≡ false → is_in xs q ≡ true) t) (sym e) (listed-quarters root m t (least-one rule) i);
-    }
+use Rattle.life_canon.proofs.Content.{least-one, lines_for-valid}
 
 -- the lines of the list are squares
 pub valid-lines : (top : ℕ) (rule : Rule) (root : Tree) → IsFull root → HasStatesUpTo (largest_state rule) root → depth root ≤ top → (all : List Tree)
@@ -124,12 +82,3 @@ root-least top rule generation root high full states low le fixed = λ bytes fil
     subst (λ w. length (square_file rule generation w).lines ≤ length file.lines)
     (whole-of top rule generation h (subst (λ n. n ≤ suc top) d low) (subst (λ n. least_level rule ≤ n) d le) fixed)
     (least top (square_universe rule generation root) file high plane v same rival)
-
--- the square of each key of the list is listed
-pub listed-at : {K : Type 0} (content : K → Tree) (keys items : List K) (rule : Rule) (i : ℕ) (d : K)
-    → ((t : Tree) → Contains (map content keys) t → IsListed rule (map content keys) t)
-    → items ≡ keys → i < length items → IsListed rule (map content keys) (content (get_or items i d))
-listed-at {K} content keys items rule i d each e l =
-    let P : List K → Type 0 = λ ks. i < length ks → IsListed rule (map content keys) (content (get_or ks i d)) in
-    subst P (sym e)
-    (λ h. each _ (i, subst (λ n. i < n) (sym (length-map keys content)) h, get_or-map content keys i d (content (get_or keys i d)) h)) l

@@ -1,18 +1,17 @@
 -- Texts that are written in pieces.
 use Rattle.std.proofs.Common.{◌≡◌, ℕ, List, ◌++◌, Option, Result, Ok, Err, ap, sym, ◌∙◌, subst}
 use Rattle.std.specs.Prelude.{flat_map}
-use Rattle.std.proofs.lemmas.List.{append_assoc}
 use Rattle.std.specs.Io.KnownBytes.{Appends}
 use Rattle.std.proofs.KnownBytes.{Appends-trans}
 use Rattle.life_base.specs.Tree.{Tree}
 use Rattle.life_base.specs.Writing.{WritesPrefix, WritesText}
 use Rattle.life_base.specs.declared.cell.TheConstants.{MAX_LEVEL}
-use Rattle.life_base.proofs.WritingLemmas.{prefix-after}
 use Rattle.life_mc.specs.Writing.{mc_text, node_text, front_text}
 use Rattle.life_quad.specs.Store.{Nodes}
 use Rattle.life_quad.proofs.LawLemmas.{known_squares_are_full}
 use Rattle.life_canon.specs.Universe.{least_level}
 use Rattle.life_canon.specs.Listing.{listed, lines_for, square_file, canon_text}
+use Rattle.life_canon.specs.PieceLaws.{front-prefix}
 use Rattle.life_canon.specs.Pieces.{WritesFront}
 use Rattle.life_canon.specs.Store.{content, universe_in, IsTrimmed}
 use Rattle.life_canon.specs.declared.pattern.Pattern.{Pattern}
@@ -20,34 +19,14 @@ use Rattle.life_canon.proofs.NumberFacts.{file-of}
 use Rattle.life_canon.proofs.TreeWords.{below_top}
 
 module _ (a b : Option (List ℕ)) (text rest : List ℕ) (w : WritesFront a b text rest) where
-  -- more comes behind the rest
-  pub front-grows : (more : List ℕ) → WritesFront a b (text ++ more) (rest ++ more)
-  front-grows more = record { front = w.front; written = w.written; whole = sym (append_assoc w.front rest more) ∙ ap (λ l. l ++ more) w.whole }
-
-  -- a front of the rest is written too
-  pub front-after : (c : Option (List ℕ)) (left : List ℕ) → WritesFront b c rest left → WritesFront a c text left
-  front-after c left v = record {
-    front = w.front ++ v.front;
-    written = Appends-trans a b c w.front v.front w.written v.written;
-    whole = append_assoc w.front v.front left ∙ ap (λ l. w.front ++ l) v.whole ∙ w.whole;
-  }
-
   -- all of the rest is written too
   pub front-whole : (c : Option (List ℕ)) → Appends b c rest → Appends a c text
   front-whole c v = subst (Appends a c) w.whole (Appends-trans a b c w.front rest w.written v)
 
-  -- a prefix of the rest is written too
-  pub front-prefix : (c : Option (List ℕ)) → WritesPrefix b c rest → WritesPrefix a c text
-  front-prefix c v = subst (WritesPrefix a c) w.whole (prefix-after a b c w.front rest w.written v)
-
   -- the rest is written, or a prefix of it, and the text is told in another way
   pub front-told : {E : Type 0} (c : Option (List ℕ)) (other : List ℕ) (r : Result (Unit {0}) E) → text ≡ other → WritesText b c rest r → WritesText a c other r
   front-told c other (Ok x) e v = subst (Appends a c) e (front-whole c v)
-  front-told c other (Err x) e v = subst (WritesPrefix a c) e (front-prefix c v)
-
-  -- the text and the rest are told in another way
-  pub front-as : (other left : List ℕ) → text ≡ other → left ≡ rest → WritesFront a b other left
-  front-as other left e f = subst (WritesFront a b other) (sym f) (subst (λ t. WritesFront a b t rest) e w)
+  front-told c other (Err x) e v = subst (WritesPrefix a c) e (front-prefix a b text rest w c v)
 
 -- the macrocell text of a pattern in its least square is its canonical text
 pub text-of-trimmed : (store : Nodes) (p : Pattern) → IsTrimmed store p → (text : List ℕ)

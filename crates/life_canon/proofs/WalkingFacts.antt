@@ -1,33 +1,27 @@
 -- What the walk that writes needs.
 use Rattle.std.proofs.Common.{◌≡◌, ℕ, suc, ◌+◌, ◌-◌, ◌<◌, ◌≤◌, true, false, ◌&&◌, List, [], ◌∷◌, ◌++◌, Option, Result, Ok, Err, length, map, refl, ap, sym, ◌∙◌, subst, arith, ◌⊎◌, inl, inr, length-append}
-use Rattle.std.specs.Prelude.{◌==◌, Contains, flat_map, All, AllPairs, Some, None, ◌≢◌, slice_get, MatchOption, IfSome, IsErrAnd}
+use Rattle.std.specs.Prelude.{◌==◌, Contains, All, AllPairs, Some, None, ◌≢◌, slice_get, MatchOption, IfSome, IsErrAnd}
 use Rattle.std.proofs.lemmas.Bool.Decides.{nat_tests}
 use Rattle.std.proofs.lemmas.List.Elements.{All-push}
 use Rattle.std.proofs.lemmas.List.{append_assoc, append-nil, map-append, length-map}
-use Rattle.std.proofs.lemmas.Grind.{flat_map-append}
 use Rattle.life_base.specs.Tree.{Tree, point, quad, depth, IsFull, is_blank_tree as is_blank}
-use Rattle.life_base.specs.Writing.{WritesPrefix}
 use Rattle.life_base.specs.declared.kind.Kind.{Kind}
 use Rattle.life_base.specs.declared.rule.Rule.{Rule}
 use Rattle.life_base.specs.declared.rule.Rule.TheVariants.{Life, Named}
-use Rattle.life_base.proofs.WritingLemmas.{prefix-grows}
-use Rattle.life_mc.specs.Writing.{node_text}
 use Rattle.life_quad.specs.declared.id.Id.{Id}
 use Rattle.life_mc.specs.declared.line.Line.{Line}
 use Rattle.life_mc.specs.declared.line.Line.TheVariants.{Leaf, Quad}
 use Rattle.life_canon.specs.Universe.{is_life, least_level}
 use Rattle.life_canon.specs.Listing.{is_small, is_in, with_new, with_all, walk, place, number_of, line_of, lines_for, quad_line, rows_of, listed}
 use Rattle.life_canon.specs.Closed.{IsClosed}
-use Rattle.life_canon.specs.Pieces.{WritesFront, WritesOn, WritesWalk, Walked, BreaksIn, lines_text}
+use Rattle.life_canon.specs.Walking.{TakesLine, BreaksOff, TakesOn, TakesWalk, Walked, BreaksIn}
 use Rattle.life_canon.proofs.Trees.{bool_cases, true_false, same_tree-refl}
 use Rattle.life_canon.proofs.ListFacts.{with_all-from, with_all-append, with_new-known, with_new-fresh, place-append}
 use Rattle.life_canon.proofs.Walk.{walk-level, walk-big, walked, none-closed, IsKnown, IsWalked}
-use Rattle.std.proofs.KnownBytes.{Appends-nil}
 use Rattle.life_canon.proofs.Keys.{place-keys, in-keys, number-place_of, skip, step, least-step, still-closed}
 use Rattle.std.proofs.lemmas.Option.{slice_get_within, get_or_from_slice_get}
 use Rattle.life_canon.proofs.Content.{not_small, number-blank, number-place, least-one}
 use Rattle.life_canon.proofs.Planes.{full-depth}
-use Rattle.life_canon.proofs.PieceFacts.{front-grows, front-after, front-as, front-prefix}
 
 -- ---- lists that begin with another
 
@@ -92,56 +86,40 @@ fresh m all new q t e full less h = elim (bool_cases (is_in new t)) [
   | inr f ↦ f
 ]
 
--- ---- what is written
-
-lines-more : (rule : Rule) (all xs ys : List Tree) → lines_text rule all (xs ++ ys) ≡ lines_text rule all xs ++ lines_text rule all ys
-lines-more rule all xs ys = ap (flat_map node_text) (map-append (line_of rule all) xs ys)
-    ∙ flat_map-append node_text (map (line_of rule all) xs) (map (line_of rule all) ys)
+-- ---- what is taken
 
 front-more : (old new rest all : List Tree) (p : Behind old new) → all ≡ new ++ rest → all ≡ old ++ (p.0 ++ rest)
 front-more old new rest all p e = e ∙ ap (λ l. l ++ rest) p.1 ∙ append_assoc old p.0 rest
 
-module _ (rule : Rule) {a b : Option (List ℕ)} {h l : List ℕ} (old mid : List Tree) where
+module _ {A : Type 0} (took broke : A → A → List Line → Type 0) (rule : Rule) {a b : A} (old mid : List Tree) where
   -- a walk that breaks behind a call
-  pub breaks-then : {c : Option (List ℕ)} (ws far : List Tree) → WritesOn rule a b h l old mid → BreaksIn rule b c l mid (with_all mid ws)
+  pub breaks-then : {c : A} (ws far : List Tree) → TakesOn took rule a b old mid → BreaksIn took broke rule b c mid (with_all mid ws)
       → Behind (with_all mid ws) far
-      → BreaksIn rule a c h old far
-  breaks-then ws far u v q = λ start begun all rest e w.
+      → BreaksIn took broke rule a c old far
+  breaks-then ws far u v q = λ start all rest e w.
       let p = behind-all mid ws in
       let more = front-more (with_all mid ws) far rest all q e in
-      v start begun all (q.0 ++ rest) more (u start begun all (p.0 ++ (q.0 ++ rest)) (front-more mid (with_all mid ws) (q.0 ++ rest) all p more) w)
+      v start all (q.0 ++ rest) more (u start all (p.0 ++ (q.0 ++ rest)) (front-more mid (with_all mid ws) (q.0 ++ rest) all p more) w)
 
   -- a line behind a call
-  pub writes-line : {c : Option (List ℕ)} {k : List ℕ} (new : List Tree) (t : Tree) (line : Line) → new ≡ mid ++ t ∷ [] → WritesOn rule a b h l old mid
-      → WritesFront b c (l ++ node_text line) k
-      → ((all rest : List Tree) → all ≡ (mid ++ t ∷ []) ++ rest → line ≡ line_of rule all t) → WritesOn rule a c h k old new
-  writes-line {c = c} {k = k} new t line n u v is = subst (WritesOn rule a c h k old) (sym n) (λ start begun all rest e w.
-      let before = u start begun all (t ∷ rest) (e ∙ append_assoc mid (t ∷ []) rest) w in
-      let after = front-after start b _ _ (front-grows start b _ l before (node_text line)) c k v in
-      front-as start c _ k after _ k (
-      append_assoc begun (lines_text rule all mid) (node_text line)
-      ∙ ap (λ r. begun ++ (lines_text rule all mid ++ node_text r)) (is all rest e)
-      ∙ ap (λ r. begun ++ (lines_text rule all mid ++ r)) (sym (append-nil (node_text (line_of rule all t))))
-      ∙ ap (λ r. begun ++ r) (sym (lines-more rule all mid (t ∷ [])))
-      ) refl)
+  pub takes-line : {c : A} (new : List Tree) (t : Tree) (line : Line) → new ≡ mid ++ t ∷ [] → TakesOn took rule a b old mid
+      → TakesLine took b c line
+      → ((all rest : List Tree) → all ≡ (mid ++ t ∷ []) ++ rest → line ≡ line_of rule all t) → TakesOn took rule a c old new
+  takes-line {c = c} new t line n u v is = subst (TakesOn took rule a c old) (sym n) (λ start all rest e w.
+      subst (took start c) (ap (λ r. map (line_of rule all) mid ++ r ∷ []) (is all rest e) ∙ sym (map-append (line_of rule all) mid (t ∷ [])))
+      (v start (map (line_of rule all) mid) (u start all (t ∷ rest) (e ∙ append_assoc mid (t ∷ []) rest) w)))
 
   -- a line that breaks behind a call
-  pub breaks-line : {c : Option (List ℕ)} (far : List Tree) → WritesOn rule a b h l old mid → WritesPrefix b c l → Behind mid far → BreaksIn rule a c h old far
-  breaks-line {c = c} far u v p = λ start begun all rest e w.
+  pub breaks-line : {c : A} (far : List Tree) → TakesOn took rule a b old mid → BreaksOff took broke b c → Behind mid far
+      → BreaksIn took broke rule a c old far
+  breaks-line {c = c} far u v p = λ start all rest e w.
       let more = front-more mid far rest all p e in
-      let before = front-prefix start b _ l (u start begun all (p.0 ++ rest) more w) c v in
-      subst (WritesPrefix start c)
-      (append_assoc begun (lines_text rule all mid) (lines_text rule all (p.0 ++ rest))
-      ∙ ap (λ r. begun ++ r) (sym (lines-more rule all mid (p.0 ++ rest)) ∙ ap (lines_text rule all) (sym more)))
-      (prefix-grows start c _ (lines_text rule all (p.0 ++ rest)) before)
+      subst (broke start c) (sym (map-append (line_of rule all) mid (p.0 ++ rest)) ∙ ap (map (line_of rule all)) (sym more))
+      (v start (map (line_of rule all) mid) (map (line_of rule all) (p.0 ++ rest)) (u start all (p.0 ++ rest) more w))
 
--- nothing is a prefix of every text
-pub none-written : (a : Option (List ℕ)) (text : List ℕ) → WritesPrefix a a text
-none-written a text = record { count = 0; within = omega arith; written = Appends-nil a }
-
--- nothing is written
-pub writes-none : (rule : Rule) {a : Option (List ℕ)} {h : List ℕ} (old : List Tree) → WritesOn rule a a h h old old
-writes-none rule old = λ start begun all rest e w. w
+-- nothing is taken
+pub takes-none : {A : Type 0} (took : A → A → List Line → Type 0) (rule : Rule) {a : A} (old : List Tree) → TakesOn took rule a a old old
+takes-none took rule old = λ start all rest e w. w
 
 -- ---- the number of an Id is that of its square
 
@@ -297,16 +275,17 @@ module _ {K : Type 0} (content : K → Tree) (ids new : List K) (id : K) (added 
 -- ---- a square above the leaves: its quarters are walked one behind the other, and then it is added
 
 -- a call broke that walked over the square of an Id
-abbrev Broke : (Id → Tree) → Rule → Id → Option (List ℕ) → Option (List ℕ) → List ℕ → List Id → Type 0
-Broke content rule q a b h old = BreaksIn rule a b h (map content old) (with_all (map content old) (walk (content q) (least_level rule)))
+abbrev Broke : {A : Type 0} → (A → A → List Line → Type 0) → (A → A → List Line → Type 0) → (Id → Tree) → Rule → Id → A → A → List Id → Type 0
+Broke took broke content rule q a b old = BreaksIn took broke rule a b (map content old) (with_all (map content old) (walk (content q) (least_level rule)))
 
-module _ (content : Id → Tree) (rule : Rule) (id : Id) {nw ne sw se : Id} (square : content id ≡ quad (content nw) (content ne) (content sw) (content se)) where
-  -- a walk is written behind what was written
-  both : {a b c : Option (List ℕ)} {h l k : List ℕ} {q : Id} {mid new : List Id} (old : List Id) → WritesWalk content rule q b c l k mid new
-      → WritesOn rule a b h l (map content old) (map content mid) → WritesOn rule a c h k (map content old) (map content new)
-  both {q = q} {mid = mid} {new = new} old v u = λ start begun all rest e w.
+module _ {A : Type 0} (took broke : A → A → List Line → Type 0) (content : Id → Tree) (rule : Rule) (id : Id) {nw ne sw se : Id}
+    (square : content id ≡ quad (content nw) (content ne) (content sw) (content se)) where
+  -- a walk behind another
+  both : {a b c : A} {q : Id} {mid new : List Id} (old : List Id) → TakesWalk took content rule q b c mid new
+      → TakesOn took rule a b (map content old) (map content mid) → TakesOn took rule a c (map content old) (map content new)
+  both {q = q} {mid = mid} {new = new} old v u = λ start all rest e w.
       let b = subst (Behind (map content mid)) (sym v.walked) (behind-all (map content mid) (walk (content q) (least_level rule))) in
-      v.text start begun all rest e (u start begun all (b.0 ++ rest) (front-more (map content mid) (map content new) rest all b e) w)
+      v.lines start all rest e (u start all (b.0 ++ rest) (front-more (map content mid) (map content new) rest all b e) w)
 
   module _ {level : ℕ} (is : level ≡ depth (content id)) (high : is_life rule ≡ true → 3 ≤ level)
       (shown : (1 ≤ depth (content id)) × (is_blank (content id) ≡ false)) (old : List Id) where
@@ -318,35 +297,35 @@ module _ (content : Id → Tree) (rule : Rule) (id : Id) {nw ne sw se : Id} (squ
         fronts (least_level rule) (content id) (content nw) (content ne) (content sw) (content se) (map content old) all1 all2 all3
         (big rule (content id) level is high shown) square
 
-    breaks : {a b c : Option (List ℕ)} {h l : List ℕ} (q : Id) (mid : List Id) → WritesOn rule a b h l (map content old) (map content mid)
-        → Broke content rule q b c l mid
+    breaks : {a b c : A} (q : Id) (mid : List Id) → TakesOn took rule a b (map content old) (map content mid)
+        → Broke took broke content rule q b c mid
         → Behind (with_all (map content mid) (walk (content q) (least_level rule))) (with_all (map content old) (walk (content id) (least_level rule)))
-        → Broke content rule id a c h old
+        → Broke took broke content rule id a c old
     breaks q mid u v b =
-        breaks-then rule (map content old) (map content mid) (walk (content q) (least_level rule))
+        breaks-then took broke rule (map content old) (map content mid) (walk (content q) (least_level rule))
         (with_all (map content old) (walk (content id) (least_level rule))) u v b
 
-    pub breaks-nw : {a b : Option (List ℕ)} {h : List ℕ} → Broke content rule nw a b h old → Broke content rule id a b h old
-    breaks-nw v = breaks nw old (writes-none rule (map content old)) v (begun _ _ _ refl refl refl).one
+    pub breaks-nw : {a b : A} → Broke took broke content rule nw a b old → Broke took broke content rule id a b old
+    breaks-nw v = breaks nw old (takes-none took rule (map content old)) v (begun _ _ _ refl refl refl).one
 
-    pub breaks-ne : {a b c : Option (List ℕ)} {h l : List ℕ} {one : List Id} → WritesWalk content rule nw a b h l old one
-        → Broke content rule ne b c l one → Broke content rule id a c h old
-    breaks-ne {one = one} u v = breaks ne one u.text v (begun _ _ _ u.walked refl refl).two
+    pub breaks-ne : {a b c : A} {one : List Id} → TakesWalk took content rule nw a b old one
+        → Broke took broke content rule ne b c one → Broke took broke content rule id a c old
+    breaks-ne {one = one} u v = breaks ne one u.lines v (begun _ _ _ u.walked refl refl).two
 
-    pub breaks-sw : {a b c d : Option (List ℕ)} {h l k : List ℕ} {one two : List Id} → WritesWalk content rule nw a b h l old one
-        → WritesWalk content rule ne b c l k one two → Broke content rule sw c d k two → Broke content rule id a d h old
-    breaks-sw {two = two} u v w = breaks sw two (both old v u.text) w (begun _ _ _ u.walked v.walked refl).three
+    pub breaks-sw : {a b c d : A} {one two : List Id} → TakesWalk took content rule nw a b old one
+        → TakesWalk took content rule ne b c one two → Broke took broke content rule sw c d two → Broke took broke content rule id a d old
+    breaks-sw {two = two} u v w = breaks sw two (both old v u.lines) w (begun _ _ _ u.walked v.walked refl).three
 
-    pub breaks-se : {a b c d e : Option (List ℕ)} {h l k j : List ℕ} {one two three : List Id} → WritesWalk content rule nw a b h l old one
-        → WritesWalk content rule ne b c l k one two → WritesWalk content rule sw c d k j two three → Broke content rule se d e j three
-        → Broke content rule id a e h old
-    breaks-se {three = three} u v w x = breaks se three (both old w (both old v u.text)) x (begun _ _ _ u.walked v.walked w.walked).four
+    pub breaks-se : {a b c d e : A} {one two three : List Id} → TakesWalk took content rule nw a b old one
+        → TakesWalk took content rule ne b c one two → TakesWalk took content rule sw c d two three → Broke took broke content rule se d e three
+        → Broke took broke content rule id a e old
+    breaks-se {three = three} u v w x = breaks se three (both old w (both old v u.lines)) x (begun _ _ _ u.walked v.walked w.walked).four
 
-  module _ {a b c d e : Option (List ℕ)} {h l k j i : List ℕ} {old one two three four : List Id} (u : WritesWalk content rule nw a b h l old one)
-      (v : WritesWalk content rule ne b c l k one two) (w : WritesWalk content rule sw c d k j two three)
-      (x : WritesWalk content rule se d e j i three four) where
-    wrote-four : WritesOn rule a e h i (map content old) (map content four)
-    wrote-four = both old x (both old w (both old v u.text))
+  module _ {a b c d e : A} {old one two three four : List Id} (u : TakesWalk took content rule nw a b old one)
+      (v : TakesWalk took content rule ne b c one two) (w : TakesWalk took content rule sw c d two three)
+      (x : TakesWalk took content rule se d e three four) where
+    took-four : TakesOn took rule a e (map content old) (map content four)
+    took-four = both old x (both old w (both old v u.lines))
 
     pub absent-own : IsFull (content id) → is_in (map content old) (content id) ≡ false → is_in (map content four) (content id) ≡ false
     absent-own full absent =
@@ -355,53 +334,51 @@ module _ (content : Id → Tree) (rule : Rule) (id : Id) {nw ne sw se : Id} (squ
 
     module _ {level : ℕ} (is : level ≡ depth (content id)) (high : is_life rule ≡ true → 3 ≤ level)
         (shown : (1 ≤ depth (content id)) × (is_blank (content id) ≡ false)) where
-      pub breaks-own : {f : Option (List ℕ)} → WritesPrefix e f i → Broke content rule id a f h old
+      pub breaks-own : {f : A} → BreaksOff took broke e f → Broke took broke content rule id a f old
       breaks-own z =
           let whole = with_all (map content old) (walk (content id) (least_level rule)) in
-          breaks-line rule (map content old) (map content four) whole wrote-four z
+          breaks-line took broke rule (map content old) (map content four) whole took-four z
           (subst (λ l. Behind l whole) (sym x.walked) (begun is high shown old _ _ _ u.walked v.walked w.walked).four)
 
-      pub wrote-own : {f : Option (List ℕ)} {o : List ℕ} {na nb nc nd : ℕ} (new : List Id) → new ≡ four ++ id ∷ [] → IsFull (content id)
+      pub took-own : {f : A} {na nb nc nd : ℕ} (new : List Id) → new ≡ four ++ id ∷ [] → IsFull (content id)
           → is_in (map content old) (content id) ≡ false → IsClosed (least_level rule) (map content old) → (is_life rule && level == 3) ≡ false
           → na ≡ number_of (map content one) (content nw) → nb ≡ number_of (map content two) (content ne) → nc ≡ number_of (map content three) (content sw)
           → nd ≡ number_of (map content four) (content se)
-          → WritesFront e f (i ++ node_text (Quad level na nb nc nd)) o → WritesWalk content rule id a f h o old new
-      wrote-own {na = na} {nb = nb} {nc = nc} {nd = nd} new added full absent closed other ea eb ec ed z = record {
+          → TakesLine took e f (Quad level na nb nc nd) → TakesWalk took content rule id a f old new
+      took-own {na = na} {nb = nb} {nc = nc} {nd = nd} new added full absent closed other ea eb ec ed z = record {
         walked =
             quad-walk rule (content id) (content nw) (content ne) (content sw) (content se) _ _ _ _ _ _ (big rule (content id) level is high shown) square
             u.walked v.walked w.walked x.walked (absent-own full absent) (trees-more content four new id added);
-        text =
-            writes-line rule (map content old) (map content four) (map content new) (content id) (Quad level na nb nc nd)
-            (trees-more content four new id added) wrote-four z
+        lines =
+            takes-line took broke rule (map content old) (map content four) (map content new) (content id) (Quad level na nb nc nd)
+            (trees-more content four new id added) took-four z
             (λ all rest q. quad-line rule (content id) (content nw) (content ne) (content sw) (content se) level na nb nc nd _ _ _ _ _ all rest square full
             (λ r. subst (λ n. 3 ≤ n) is (high r)) (no-leaf rule (content id) level is other) is closed u.walked v.walked w.walked x.walked ea eb ec ed q);
       }
 
 -- ---- what a walk leaves
 
--- an error that is passed on, once a prefix of the text was written
-pub refused-walk : {knows : Id → Type 0} {content : Id → Tree} {rule : Rule} {q : Id} {a b : Option (List ℕ)} {held left : List ℕ} {old new : List Id}
-    (Q : Kind → Type 0) (r : Result ℕ Kind) → IsErrAnd r Q → Broke content rule q a b held old → Walked knows content rule q a b held left old new r
-refused-walk Q (Ok x) h p = absurd h
-refused-walk Q (Err e) h p = record { wrote = tt; number = tt; prefix = p; numbers = tt; closed = tt }
+module _ {A : Type 0} {knows : Id → Type 0} (took broke : A → A → List Line → Type 0) (content : Id → Tree) (rule : Rule) (q : Id) {a b : A}
+    {old new : List Id} where
+  -- an error that is passed on, once a part of the lines was taken
+  pub refused-walk : (Q : Kind → Type 0) (r : Result ℕ Kind) → IsErrAnd r Q → Broke took broke content rule q a b old
+      → Walked knows content took broke rule q a b old new r
+  refused-walk Q (Ok x) h p = absurd h
+  refused-walk Q (Err e) h p = record { wrote = tt; number = tt; part = p; numbers = tt; closed = tt }
 
--- a square that got the next number
-pub walked-on : {knows : Id → Type 0} (content : Id → Tree) (rule : Rule) (q : Id) {a b : Option (List ℕ)} {held left : List ℕ} {old new : List Id}
-    {n : ℕ} (mid : List Id) → All knows mid → knows q → IsClosed (least_level rule) (map content old)
-    → new ≡ mid ++ q ∷ [] → WritesWalk content rule q a b held left old new
-    → n ≡ number_of (map content new) (content q) → Walked knows content rule q a b held left old new (Ok n)
-walked-on {knows} content rule q {old = old} {new = new} mid all known closed added wrote number = record {
-  wrote = wrote;
-  number = number;
-  prefix = tt;
-  numbers = subst (All knows) (sym added) (All-push knows mid q all known);
-  closed = still-closed (content q) (least_level rule) (map content old) (map content new) (least-one rule) closed wrote.walked;
-}
+  -- a square that got the next number
+  pub walked-on : {n : ℕ} (mid : List Id) → All knows mid → knows q → IsClosed (least_level rule) (map content old)
+      → new ≡ mid ++ q ∷ [] → TakesWalk took content rule q a b old new
+      → n ≡ number_of (map content new) (content q) → Walked knows content took broke rule q a b old new (Ok n)
+  walked-on mid all known closed added wrote number = record {
+    wrote = wrote;
+    number = number;
+    part = tt;
+    numbers = subst (All knows) (sym added) (All-push knows mid q all known);
+    closed = still-closed (content q) (least_level rule) (map content old) (map content new) (least-one rule) closed wrote.walked;
+  }
 
 -- ---- a whole pattern, from no squares on
-
-begins : (rule : Rule) (a : Option (List ℕ)) (front : List ℕ) (all old : List Tree) → old ≡ [] → WritesFront a a (front ++ lines_text rule all old) front
-begins rule a front all old e = rw e (record { front = []; written = Appends-nil a; whole = sym (append-nil front) })
 
 pub none-numbered : (rule : Rule) (old : List Tree) → old ≡ [] → IsClosed (least_level rule) old
 none-numbered rule old e = rw e (none-closed (least_level rule))
@@ -410,20 +387,22 @@ pub root-high : (rule : Rule) (level : ℕ) → least_level rule ≤ level → i
 root-high (Life sets) level h e = h
 root-high (Named name) level h e = absurd (true_false false e refl)
 
-pub whole-written : (rule : Rule) (root : Tree) (old new : List Tree) (a b : Option (List ℕ)) (front held : List ℕ) → old ≡ []
-    → new ≡ with_all old (walk root (least_level rule))
-    → WritesOn rule a b front held old new → WritesFront a b (front ++ flat_map node_text (lines_for rule (listed root (least_level rule)))) held
-unfolding listed
-whole-written rule root old new a b front held e p w =
-    let all = with_all [] (walk root (least_level rule)) in
-    let n : new ≡ all = p ∙ ap (λ l. with_all l (walk root (least_level rule))) e in
-    subst (λ l. WritesFront a b (front ++ lines_text rule all l) held) n (w a front all [] (sym n ∙ sym (append-nil new)) (begins rule a front all old e))
+module _ {A : Type 0} (took broke : A → A → List Line → Type 0) (rule : Rule) (root : Tree) (old : List Tree) (a b : A) (none : old ≡ []) (begins : took a a [])
+  where
+    begun-none : (all : List Tree) → took a a (map (line_of rule all) old)
+    begun-none all = subst (λ l. took a a (map (line_of rule all) l)) (sym none) begins
 
-pub whole-broken : (rule : Rule) (root : Tree) (old : List Tree) (a b : Option (List ℕ)) (front : List ℕ) → old ≡ []
-    → BreaksIn rule a b front old (with_all old (walk root (least_level rule)))
-    → WritesPrefix a b (front ++ flat_map node_text (lines_for rule (listed root (least_level rule))))
-unfolding listed
-whole-broken rule root old a b front e w =
-    let m = least_level rule in
-    w a front (with_all [] (walk root m)) [] (ap (λ l. with_all l (walk root m)) (sym e) ∙ sym (append-nil (with_all old (walk root m))))
-    (begins rule a front (with_all [] (walk root m)) old e)
+    pub whole-taken : (new : List Tree) → new ≡ with_all old (walk root (least_level rule)) → TakesOn took rule a b old new
+        → took a b (lines_for rule (listed root (least_level rule)))
+    unfolding listed
+    whole-taken new p w =
+        let all = with_all [] (walk root (least_level rule)) in
+        let n : new ≡ all = p ∙ ap (λ l. with_all l (walk root (least_level rule))) none in
+        subst (λ l. took a b (map (line_of rule all) l)) n (w a all [] (sym n ∙ sym (append-nil new)) (begun-none all))
+
+    pub whole-broken : BreaksIn took broke rule a b old (with_all old (walk root (least_level rule))) → broke a b (lines_for rule (listed root (least_level rule)))
+    unfolding listed
+    whole-broken w =
+        let all = with_all [] (walk root (least_level rule)) in
+        w a all [] (ap (λ l. with_all l (walk root (least_level rule))) (sym none) ∙ sym (append-nil (with_all old (walk root (least_level rule)))))
+        (begun-none all)

@@ -14,5 +14,7 @@ pub mod Taking
 pub mod Feeding
 pub mod Running
 pub mod Pieces
+pub mod PieceLaws
+pub mod Walking
 pub mod Laws
 pub mod Rows

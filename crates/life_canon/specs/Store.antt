@@ -1,7 +1,6 @@
 -- What calls do to a store that they are lent, and what patterns in it stand for.
-use Rattle.std.specs.Prelude.{◌≡◌, ℕ, ◌≤◌, ◌⊎◌, true, false, List}
+use Rattle.std.specs.Prelude.{◌≡◌, ℕ, ◌≤◌, ◌⊎◌, List}
 use Rattle.life_base.specs.Tree.{Tree, depth}
-use Rattle.life_base.specs.declared.rule.Rule.{Rule}
 use Rattle.life_base.specs.declared.fault.Fault.{Fault}
 use Rattle.life_mc.specs.Macrocell.{largest_state}
 use Rattle.life_mc.specs.Squares.{HasStatesUpTo}
@@ -11,8 +10,6 @@ use Rattle.life_quad.specs.Store.{Nodes, Knows, IsShared, held, squares, square_
 use Rattle.life_quad.specs.declared.id.Id.{Id}
 use Rattle.life_canon.specs.Universe.{Universe, least_level, whole, square_universe}
 use Rattle.life_canon.specs.Files.{Reads, Refuses}
-use Rattle.life_canon.specs.Listing.{is_small, is_in}
-use Rattle.life_canon.specs.Closed.{Quarters}
 use Rattle.life_canon.specs.declared.pattern.Pattern.{Pattern}
 
 -- the Id names a square of the store
@@ -66,9 +63,3 @@ pub record IsTrimmed (store : Nodes) (pattern : Pattern) : Type 0 where
 -- why a call on these bytes is refused
 abbrev pub RefusesIn : ℕ → List ℕ → Nodes → Fault → Type 0
 RefusesIn top bytes store fault = Refuses top bytes fault ⊎ IsWant store fault
-
--- A square of the list: of its level and states, and with its quarters in the list unless they are blank or below the least level.
-pub record IsListed (rule : Rule) (all : List Tree) (t : Tree) : Type 0 where
-  pub level : least_level rule ≤ depth t
-  pub states : HasStatesUpTo (largest_state rule) t
-  pub quarters : Quarters (λ q. is_small (least_level rule) q ≡ false → is_in all q ≡ true) t

@@ -1,113 +1,140 @@
-//! How many node lines and cells a square has, in one walk that writes nothing.
+//! How many node lines and cells a pattern has, counted by its node lines as they come.
 
-ghost use Rattle.std.specs.Prelude.{◌≡◌, ◌-◌, ◌≤◌, [], false, length, map, slice_get, All, IfOk, IfErr, OnOk, IfSome, MatchOption, Some};
+ghost use Rattle.std.specs.Prelude.{◌≡◌, ◌-◌, ◌<◌, ◌≤◌, ◌^◌, [], length, slice_index_or, IfOk, IfErr, refl};
 ghost use Rattle.life_base.specs.declared.kind.Kind.TheVariants.{Memory};
-ghost use Rattle.life_base.specs.Tree.{depth, is_blank_tree};
+ghost use Rattle.life_base.specs.Tree.{depth};
+ghost use Rattle.life_mc.specs.Macrocell.{largest_state};
+ghost use Rattle.life_mc.specs.Squares.{HasStatesUpTo, leaf_tree};
 ghost use Rattle.life_quad.specs.Cells.{population};
-ghost use Rattle.life_canon.specs.Counting.{cells_in};
-ghost use Rattle.life_canon.specs.Listing.{is_in, with_all, walk, listed};
-ghost use Rattle.life_canon.specs.Closed.{IsClosed};
+ghost use Rattle.life_canon.specs.Counting.{CountsLines, line_count, number_count};
+ghost use Rattle.life_canon.specs.Listing.{listed};
+ghost use Rattle.life_canon.specs.Universe.{least_level};
 
+use crate::line_sink::LineSink;
+use crate::pattern::Pattern;
+use crate::walking::walk_pattern;
 use life_base::Kind;
-use life_quad::{
-    Id, IdNumbers, Quarters, SharedSquares, Squares, divide, is_blank_at, leaf_population,
-};
+use life_mc::Line;
+use life_quad::{IdNumbers, SharedSquares};
 use std::alloc::Global;
 
-/// What a walk over a square counts.
+/// What a walk over a pattern counts.
 #[derive(Clone, Copy)]
 pub(crate) struct Counts {
-    /// Its distinct nonblank squares from the least level up.
-    pub(crate) squares: u64,
+    /// Its node lines.
+    pub(crate) lines: u64,
     /// Its cells of a state other than 0.
     pub(crate) cells: u128,
 }
 
-/// The number that a square has, where it has one.
-fn number_in<S: SharedSquares>(squares: &S, numbers: &IdNumbers, id: Id) -> Option<u64>
-    requires id { S.knows squares.now id }
-    requires numbers { All (S.knows squares.now) numbers.now.ids }
-    ensures number { MatchOption result
-        (is_in (map (S.content squares.now) numbers.now.ids) (S.content squares.now id) ≡ false)
-        (λ number. slice_get numbers.now.ids (number - 1) ≡ Some id) }
-    ensures counted { IfSome result (λ number. 1 ≤ number) }
+/// How many live cells the rows of a leaf have.
+fn leaf_count(rows: &[u8; 8]) -> u128
+    ensures { result ≡ population (leaf_tree rows.now) }
 {
-    let _ = squares;
-    numbers.get(id)
+    let north = rows[0].count_ones()
+        + rows[1].count_ones()
+        + rows[2].count_ones()
+        + rows[3].count_ones();
+    let south = rows[4].count_ones()
+        + rows[5].count_ones()
+        + rows[6].count_ones()
+        + rows[7].count_ones();
+    u128::from(north + south)
 }
 
-/// How many cells of a square of a level have a state other than 0. The squares of the walk over it that have no number yet get one, each behind its
-/// quarters, and by its number each has its cells.
-fn count_square<S: SharedSquares>(
-    squares: &S,
-    least: u8,
-    level: u8,
-    id: Id,
-    numbers: &mut IdNumbers,
-    cells: &mut Vec<u128>,
-) -> Result<u128, Kind>
-    requires least { 1 ≤ least }
-    requires high { least ≤ level }
-    requires id { S.knows squares.now id }
-    requires level { level ≡ depth (S.content squares.now id) }
-    requires numbers { All (S.knows squares.now) numbers.old.ids }
-    requires closed { IsClosed least (map (S.content squares.now) numbers.old.ids) }
-    requires cells { cells.old.items ≡ cells_in (S.content squares.now) numbers.old.ids }
-    ensures number { IfOk result (λ n. n ≡ population (S.content squares.now id)) }
-    ensures walked { OnOk result (map (S.content squares.now) numbers.new.ids
-        ≡ with_all (map (S.content squares.now) numbers.old.ids)
-        (walk (S.content squares.now id) least)) }
-    ensures numbers { OnOk result (All (S.knows squares.now) numbers.new.ids) }
-    ensures closed { OnOk result (IsClosed least (map (S.content squares.now) numbers.new.ids)) }
-    ensures cells { OnOk result
-        (cells.new.items ≡ cells_in (S.content squares.now) numbers.new.ids) }
-    ensures kind { IfErr result (λ kind. kind ≡ Memory) }
+/// How many cells what a number stands for in a line of a level has, where the squares of the lines before have so many.
+fn number_count(counts: &[u128], level: u8, number: u64) -> u128
+    ensures { result ≡ number_count counts.now level number }
 {
-    if is_blank_at(squares, level, id) {
-        return Ok(0);
+    if number == 0 {
+        return 0;
     }
-    if let Some(number) = number_in(squares, numbers, id) {
-        return Ok(cells[number as usize - 1]);
+    if level == 1 {
+        return 1;
     }
-    if level == least {
-        let count = leaf_population(squares, level, id);
-        numbers.push(id)?;
-        cells.push(count)?;
-        return Ok(count);
+    match counts.get(number as usize - 1) {
+        Some(count) => *count,
+        None => 0,
     }
-    let Quarters { nw, ne, sw, se } = divide(squares, id);
-    let nw = count_square(squares, least, level - 1, nw, numbers, cells)?;
-    let ne = count_square(squares, least, level - 1, ne, numbers, cells)?;
-    let sw = count_square(squares, least, level - 1, sw, numbers, cells)?;
-    let se = count_square(squares, least, level - 1, se, numbers, cells)?;
-    let count = nw + ne + sw + se;
-    numbers.push(id)?;
-    cells.push(count)?;
-    Ok(count)
 }
 
-/// The distinct nonblank squares of a square from the least level up, and its cells of a state other than 0.
+/// How many cells the square of a line has, where the squares of the lines before have so many.
+fn line_count(counts: &[u128], line: &Line) -> u128
+    ensures { line_count counts.now line.now < 2 ^ 128
+        → result ≡ line_count counts.now line.now }
+{
+    match line {
+        Line::Leaf(rows) => leaf_count(rows),
+        Line::Quad(level, nw, ne, sw, se) => {
+            let nw = number_count(counts, *level, *nw);
+            let ne = number_count(counts, *level, *ne);
+            let sw = number_count(counts, *level, *sw);
+            let se = number_count(counts, *level, *se);
+            nw.saturating_add(ne).saturating_add(sw).saturating_add(se)
+        }
+    }
+}
+
+/// For each line that was taken, how many cells its square has.
+#[derive(Drop)]
+struct CellCounts {
+    counts: Vec<u128>,
+}
+
+impl LineSink<()> for CellCounts {
+    ghost ready = { λ _. Unit {0} };
+
+    ghost took = { λ a b lines. CountsLines a.0.counts.items b.0.counts.items lines };
+
+    ghost broke = { λ _ _ _. Unit {0} };
+
+    ghost refuses = { λ _ kind. kind ≡ Memory };
+
+    ghost begins = { λ _ _. refl };
+
+    ghost stops = { λ _ _ _ _ _ _. tt };
+
+    fn take(&mut self, _device: &mut (), line: &Line) -> Result<(), Kind> {
+        let count = line_count(&self.counts, line);
+        self.counts.push(count)?;
+        Ok(())
+    }
+}
+
+/// The count of the last line, or 0 for none.
+fn last_count(counts: &[u128]) -> u128
+    ensures { result ≡ slice_index_or counts.now (length counts.now - 1) 0 }
+{
+    match counts.last() {
+        Some(count) => *count,
+        None => 0,
+    }
+}
+
+/// The node lines of a pattern, and its cells of a state other than 0. No square has a number yet.
 pub(crate) fn count_all<S: SharedSquares>(
     alloc: Global,
     squares: &S,
-    least: u8,
-    id: Id,
-    mut numbers: IdNumbers,
+    pattern: &Pattern,
+    numbers: IdNumbers,
 ) -> Result<Counts, Kind>
-    requires least { 1 ≤ least }
-    requires high { least ≤ depth (S.content squares.now id) }
-    requires id { S.knows squares.now id }
+    requires known { S.knows squares.now pattern.now.root }
+    requires level { least_level pattern.now.rule ≤ depth (S.content squares.now pattern.now.root) }
+    requires states { HasStatesUpTo (largest_state pattern.now.rule)
+        (S.content squares.now pattern.now.root) }
     requires none { numbers.ids ≡ [] }
-    ensures squares { IfOk result
-        (λ counts. counts.squares ≡ length (listed (S.content squares.now id) least)) }
-    ensures cells { IfOk result (λ counts. counts.cells ≡ population (S.content squares.now id)) }
+    ensures lines { IfOk result (λ counts. counts.lines ≡ length
+        (listed (S.content squares.now pattern.now.root) (least_level pattern.now.rule))) }
+    ensures cells { IfOk result
+        (λ counts. counts.cells ≡ population (S.content squares.now pattern.now.root)) }
     ensures kind { IfErr result (λ kind. kind ≡ Memory) }
 {
-    let mut known = Vec::new(alloc);
-    let level = squares.level(id);
-    let cells = count_square(squares, least, level, id, &mut numbers, &mut known)?;
+    let mut list = CellCounts {
+        counts: Vec::new(alloc),
+    };
+    walk_pattern(squares, pattern, numbers, &mut list, &mut ())?;
     Ok(Counts {
-        squares: known.len() as u64,
-        cells,
+        lines: list.counts.len() as u64,
+        cells: last_count(&list.counts),
     })
 }

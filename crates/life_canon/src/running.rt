@@ -12,9 +12,10 @@ ghost use Rattle.life_canon.specs.Room.{AddsLines, HoldsFront, room_for};
 ghost use Rattle.life_canon.specs.Store.{Keeps, IsWant};
 
 use crate::pattern::Pattern;
+use crate::piece::PIECE;
 use crate::reader::Reader;
 use crate::room::Room;
-use crate::writing::{PIECE, begin_text, deliver_squares};
+use crate::writing::{begin_text, deliver_squares};
 use life_base::{Fault, Kind, MAX_LEVEL, Sink, Source};
 use life_quad::Shared;
 use std::alloc::Global;

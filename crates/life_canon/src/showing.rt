@@ -19,7 +19,7 @@ ghost use Rattle.life_canon.specs.Store.{Keeps, RefusesIn, IsOfFile, IsRead, IsT
 ghost use Rattle.life_canon.specs.Texts.{IsShown, IsOrdered, AreOrdered, box_text, show_text};
 
 use crate::counting::{Counts, count_all};
-use crate::pattern::{Pattern, least_level};
+use crate::pattern::Pattern;
 use crate::reading::read;
 use crate::writing::begin_numbers;
 use life_base::{Bounds, Fault, Kind, MAX_LEVEL, append, append_number};
@@ -94,18 +94,17 @@ fn append_rule(out: &mut Vec<u8>, pattern: &Pattern) -> Result<(), Kind>
     append(out, b"\n")
 }
 
-/// How many node lines the canonical file of a pattern has, one for each square of the walk, and how many cells aren't 0.
+/// How many node lines the canonical file of a pattern has, and how many cells aren't 0.
 fn counts_of(alloc: Global, store: &Shared, pattern: &Pattern) -> Result<Counts, Kind>
     requires { IsTrimmed store.now pattern.now }
-    ensures lines { IfOk result (λ counts. counts.squares ≡ node_lines
+    ensures lines { IfOk result (λ counts. counts.lines ≡ node_lines
         (canonical_file MAX_LEVEL (universe_in store.now pattern.now))) }
     ensures cells { IfOk result
         (λ counts. counts.cells ≡ population (content store.now pattern.now.root)) }
     ensures kind { IfErr result (λ kind. kind ≡ Memory) }
 {
     let numbers = begin_numbers(alloc, store, pattern)?;
-    let least = least_level(&pattern.rule);
-    count_all(alloc, store, least, pattern.root, numbers)
+    count_all(alloc, store, pattern, numbers)
 }
 
 /// The five lines of a pattern.
@@ -127,7 +126,7 @@ fn five_lines(alloc: Global, store: &Shared, pattern: &Pattern) -> Result<Vec<u8
     append_line(&mut out, b"generation ", pattern.generation)?;
     append_population(&mut out, counts.cells)?;
     append_box(&mut out, least)?;
-    append_line(&mut out, b"nodes ", counts.squares)?;
+    append_line(&mut out, b"nodes ", counts.lines)?;
     Ok(out)
 }
 

@@ -1,18 +1,41 @@
-//! The walk that numbers the squares of a square and writes their lines.
+//! The walk that numbers the squares of a pattern and gives their lines.
 
-ghost use Rattle.std.specs.Prelude.{◌≡◌, ◌⊎◌, ◌++◌, ◌≤◌, true, false, map, vec_capacity, All, OnOk, OnErr, MatchOption};
-ghost use Rattle.life_base.specs.Writing.{WritesPrefix, LeavesSink};
+ghost use Rattle.std.specs.Prelude.{◌≡◌, ◌==◌, ◌&&◌, ◌⊎◌, ◌≤◌, [], true, false, map, All, OnOk, OnErr, IfErr, MatchOption};
+ghost use Rattle.life_base.specs.declared.kind.Kind.TheVariants.{Memory};
 ghost use Rattle.life_base.specs.Tree.{depth, is_blank_tree};
-ghost use Rattle.life_mc.specs.Writing.{node_text};
-ghost use Rattle.life_canon.specs.Universe.{least_level};
-ghost use Rattle.life_canon.specs.Listing.{is_small, is_in, number_of};
-ghost use Rattle.life_canon.specs.Pieces.{WritesFront, MayWalk, Walked, LacksRoom, LeavesNumbered};
+ghost use Rattle.life_mc.specs.Macrocell.{largest_state};
+ghost use Rattle.life_mc.specs.Squares.{HasStatesUpTo};
+ghost use Rattle.life_mc.specs.declared.line.Line.TheVariants.{Leaf};
+ghost use Rattle.life_canon.specs.Universe.{is_life, least_level};
+ghost use Rattle.life_canon.specs.Listing.{is_small, is_in, number_of, rows_of, listed, lines_for};
+ghost use Rattle.life_canon.specs.Walking.{MayWalk, Walked, LacksRoom};
 
-use crate::numbering::{is_leaf, leaf};
-use crate::writing::{has_way, write_piece};
-use life_base::{Kind, Rule, Sink};
-use life_mc::{Line, append_line};
+use crate::leaf_rows::eight_rows;
+use crate::line_sink::LineSink;
+use crate::pattern::Pattern;
+use life_base::{Kind, Rule};
+use life_mc::Line;
 use life_quad::{Id, IdNumbers, Quarters, SharedSquares, Squares, divide, is_blank_at};
+
+/// The leaf of a square of level 3.
+fn leaf<S: Squares>(squares: &S, id: Id) -> Line
+    requires known { S.knows squares.now id }
+    requires level { depth (S.content squares.now id) ≡ 3 }
+    requires states { HasStatesUpTo 1 (S.content squares.now id) }
+    ensures { result ≡ Leaf (rows_of (S.content squares.now id)) }
+{
+    Line::Leaf(eight_rows(squares, id))
+}
+
+/// Whether a square of a level is written as a leaf.
+fn is_leaf(rule: &Rule, level: u8) -> bool
+    ensures { result ≡ (is_life rule.now && level == 3) }
+{
+    match rule {
+        Rule::Life(_) => level == 3,
+        Rule::Named(_) => false,
+    }
+}
 
 /// The number that stands for a square of a level in a node line, where nothing has to be written for it: a cell's state, 0 for a blank
 /// square, else the number that it has.
@@ -43,67 +66,48 @@ fn known_number<S: SharedSquares>(
     numbers.get(id)
 }
 
-/// Adds a line, behind what the piece holds. Where it may not fit, that is written first.
-fn write_line<W: Sink>(line: &Line, piece: &mut Vec<u8>, writer: &mut W) -> Result<(), Kind>
-    requires room { 65536 ≤ vec_capacity piece.old }
-    requires works { W.failures writer.old ≡ 0 }
-    ensures front { OnOk result (WritesFront (W.contents writer.old) (W.contents writer.new)
-        (piece.old.items ++ node_text line.now) piece.new.items) }
-    ensures prefix { OnErr result
-        (WritesPrefix (W.contents writer.old) (W.contents writer.new) piece.old.items) }
-    ensures room { 65536 ≤ vec_capacity piece.new }
-    ensures sink { LeavesSink W.failures W.stalled writer.old writer.new result }
-{
-    if has_way(piece) {
-        return append_line(piece, line);
-    }
-    write_piece(piece, writer)?;
-    append_line(piece, line)
-}
-
-/// Writes the lines of the squares of the walk over a square of a level that have no number yet, each behind those of its quarters, and gives
-/// them numbers. It answers the number that stands for the square in a node line. Memory is refused only where a square of the store had no room
-/// for its number.
+/// Gives a sink the lines of the squares of the walk over a square of a level that have no number yet, each behind those of its quarters, and
+/// gives them numbers. It answers the number that stands for the square in a node line. Besides what the sink refuses, memory is refused only
+/// where a square of the store had no room for its number.
 #[cycle(walk)]
 #[inline(always)]
-pub(crate) fn write_square<S: SharedSquares, W: Sink>(
+fn walk_square<S: SharedSquares, D, L: LineSink<D>>(
     squares: &S,
     rule: &Rule,
     level: u8,
     id: Id,
     numbers: &mut IdNumbers,
-    piece: &mut Vec<u8>,
-    writer: &mut W,
+    lines: &mut L,
+    device: &mut D,
 ) -> Result<u64, Kind>
     requires square { MayWalk (S.knows squares.now) (S.content squares.now) rule.now level id
         numbers.old.ids }
-    requires room { 65536 ≤ vec_capacity piece.old }
-    requires works { W.failures writer.old ≡ 0 }
-    ensures walked { Walked (S.knows squares.now) (S.content squares.now) rule.now id
-        (W.contents writer.old) (W.contents writer.new) piece.old.items piece.new.items
-        numbers.old.ids numbers.new.ids result }
+    requires ready { L.ready (lines.old, device.old) }
+    ensures walked { Walked (S.knows squares.now) (S.content squares.now) L.took L.broke rule.now
+        id (lines.old, device.old) (lines.new, device.new) numbers.old.ids numbers.new.ids result }
     ensures places { OnOk result (numbers.new.room ≡ numbers.old.room) }
-    ensures room { 65536 ≤ vec_capacity piece.new }
-    ensures sink { LeavesNumbered (LacksRoom (S.knows squares.now) (S.content squares.now)
-        (least_level rule.now) numbers.old.room) W.failures W.stalled writer.old writer.new result }
+    ensures ready { OnOk result (L.ready (lines.new, device.new)) }
+    ensures refused { IfErr result (λ kind. L.refuses (lines.new, device.new) kind
+        ⊎ ((kind ≡ Memory) × LacksRoom (S.knows squares.now) (S.content squares.now)
+        (least_level rule.now) numbers.old.room)) }
 {
     if let Some(number) = known_number(squares, level, numbers, id) {
         return Ok(number);
     }
-    write_new_square(squares, rule, level, id, numbers, piece, writer)
+    walk_new_square(squares, rule, level, id, numbers, lines, device)
 }
 
 /// The same of a square that needs a line and has no number yet.
 #[cycle(walk)]
 #[inline(never)]
-fn write_new_square<S: SharedSquares, W: Sink>(
+fn walk_new_square<S: SharedSquares, D, L: LineSink<D>>(
     squares: &S,
     rule: &Rule,
     level: u8,
     id: Id,
     numbers: &mut IdNumbers,
-    piece: &mut Vec<u8>,
-    writer: &mut W,
+    lines: &mut L,
+    device: &mut D,
 ) -> Result<u64, Kind>
     requires square { MayWalk (S.knows squares.now) (S.content squares.now) rule.now level id
         numbers.old.ids }
@@ -111,27 +115,65 @@ fn write_new_square<S: SharedSquares, W: Sink>(
         × (is_blank_tree (S.content squares.now id) ≡ false) }
     requires new { is_in (map (S.content squares.now) numbers.old.ids) (S.content squares.now id)
         ≡ false }
-    requires room { 65536 ≤ vec_capacity piece.old }
-    requires works { W.failures writer.old ≡ 0 }
-    ensures walked { Walked (S.knows squares.now) (S.content squares.now) rule.now id
-        (W.contents writer.old) (W.contents writer.new) piece.old.items piece.new.items
-        numbers.old.ids numbers.new.ids result }
+    requires ready { L.ready (lines.old, device.old) }
+    ensures walked { Walked (S.knows squares.now) (S.content squares.now) L.took L.broke rule.now
+        id (lines.old, device.old) (lines.new, device.new) numbers.old.ids numbers.new.ids result }
     ensures places { OnOk result (numbers.new.room ≡ numbers.old.room) }
-    ensures room { 65536 ≤ vec_capacity piece.new }
-    ensures sink { LeavesNumbered (LacksRoom (S.knows squares.now) (S.content squares.now)
-        (least_level rule.now) numbers.old.room) W.failures W.stalled writer.old writer.new result }
+    ensures ready { OnOk result (L.ready (lines.new, device.new)) }
+    ensures refused { IfErr result (λ kind. L.refuses (lines.new, device.new) kind
+        ⊎ ((kind ≡ Memory) × LacksRoom (S.knows squares.now) (S.content squares.now)
+        (least_level rule.now) numbers.old.room)) }
 {
     if is_leaf(rule, level) {
         let number = numbers.push(id)?;
-        write_line(&leaf(squares, id), piece, writer)?;
+        lines.take(device, &leaf(squares, id))?;
         return Ok(number);
     }
     let Quarters { nw, ne, sw, se } = divide(squares, id);
-    let nw = write_square(squares, rule, level - 1, nw, numbers, piece, writer)?;
-    let ne = write_square(squares, rule, level - 1, ne, numbers, piece, writer)?;
-    let sw = write_square(squares, rule, level - 1, sw, numbers, piece, writer)?;
-    let se = write_square(squares, rule, level - 1, se, numbers, piece, writer)?;
+    let nw = walk_square(squares, rule, level - 1, nw, numbers, lines, device)?;
+    let ne = walk_square(squares, rule, level - 1, ne, numbers, lines, device)?;
+    let sw = walk_square(squares, rule, level - 1, sw, numbers, lines, device)?;
+    let se = walk_square(squares, rule, level - 1, se, numbers, lines, device)?;
     let number = numbers.push(id)?;
-    write_line(&Line::Quad(level, nw, ne, sw, se), piece, writer)?;
+    lines.take(device, &Line::Quad(level, nw, ne, sw, se))?;
     Ok(number)
+}
+
+/// Gives a sink the lines of the squares of a pattern, in their order. No square has a number yet. Besides what the sink refuses, memory is
+/// refused only where a square of the store has no room for its number.
+pub(crate) fn walk_pattern<S: SharedSquares, D, L: LineSink<D>>(
+    squares: &S,
+    pattern: &Pattern,
+    mut numbers: IdNumbers,
+    lines: &mut L,
+    device: &mut D,
+) -> Result<(), Kind>
+    requires known { S.knows squares.now pattern.now.root }
+    requires level { least_level pattern.now.rule ≤ depth (S.content squares.now pattern.now.root) }
+    requires states { HasStatesUpTo (largest_state pattern.now.rule)
+        (S.content squares.now pattern.now.root) }
+    requires none { numbers.ids ≡ [] }
+    requires ready { L.ready (lines.old, device.old) }
+    ensures took { OnOk result (L.took (lines.old, device.old) (lines.new, device.new)
+        (lines_for pattern.now.rule (listed (S.content squares.now pattern.now.root)
+        (least_level pattern.now.rule)))) }
+    ensures broke { OnErr result (L.broke (lines.old, device.old) (lines.new, device.new)
+        (lines_for pattern.now.rule (listed (S.content squares.now pattern.now.root)
+        (least_level pattern.now.rule)))) }
+    ensures ready { OnOk result (L.ready (lines.new, device.new)) }
+    ensures refused { IfErr result (λ kind. L.refuses (lines.new, device.new) kind
+        ⊎ ((kind ≡ Memory) × LacksRoom (S.knows squares.now) (S.content squares.now)
+        (least_level pattern.now.rule) numbers.room)) }
+{
+    let level = squares.level(pattern.root);
+    walk_square(
+        squares,
+        &pattern.rule,
+        level,
+        pattern.root,
+        &mut numbers,
+        lines,
+        device,
+    )?;
+    Ok(())
 }

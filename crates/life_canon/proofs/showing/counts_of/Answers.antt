@@ -3,7 +3,7 @@ use Rattle.std.proofs.lemmas.List.{length-map}
 use Rattle.std.proofs.lemmas.Result.{IfOk-weaker}
 use Rattle.life_mc.specs.Macrocell.{Macrocell}
 use Rattle.life_quad.proofs.LawLemmas.{known_squares_are_full}
-use Rattle.life_canon.specs.Listing.{listed, line_of}
+use Rattle.life_canon.specs.Listing.{line_of}
 use Rattle.life_canon.specs.Store.{content}
 use Rattle.life_canon.proofs.NumberFacts.{file-of}
 use Rattle.life_canon.proofs.TreeWords.{below_top}
@@ -16,5 +16,5 @@ returns-clause-lines c =
     let root = content store p.root in
     let k = known_squares_are_full store p.root c.requires.known.0 in
     let file = file-of below_top p.rule p.generation root k.0 k.1 c.requires.level c.requires.trimmed in
-    IfOk-weaker c.count_all.result _ _ (λ counts e. e ∙ ap (λ m. length (listed root m)) c.least_level-least.ensures ∙ sym (length-map _ (line_of p.rule _))
-    ∙ ap (λ (m : Macrocell). length m.lines) (sym file)) c.count_all.ensures.squares
+    IfOk-weaker c.count_all.result _ _ (λ counts e. e ∙ sym (length-map _ (line_of p.rule _))
+    ∙ ap (λ (m : Macrocell). length m.lines) (sym file)) c.count_all.ensures.lines

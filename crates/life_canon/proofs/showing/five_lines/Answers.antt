@@ -21,9 +21,9 @@ returns-clause-text c =
       c.in_ok-least.least,
       c.in_ok-least.ensures.least,
       five-text _ _ _ _ _ _ (rule_text p.rule) (decimal p.generation) (decimal c.in_ok-counts.counts.cells) (box_text c.in_ok-least.least)
-          (decimal c.in_ok-counts.counts.squares)
+          (decimal c.in_ok-counts.counts.lines)
           c.new-out.ensures.items c.in_ok-append_rule.ensures.ok c.in_ok-append_line.ensures.ok c.in_ok-append_population.ensures.ok
           c.in_ok-append_box.ensures.ok c.in_ok-append_line-2.ensures.ok
-          ∙ ap (λ n. show_text p.rule p.generation n c.in_ok-least.least c.in_ok-counts.counts.squares) c.in_ok-counts.ensures.cells
+          ∙ ap (λ n. show_text p.rule p.generation n c.in_ok-least.least c.in_ok-counts.counts.lines) c.in_ok-counts.ensures.cells
           ∙ ap (show_text p.rule p.generation (population (content c.args.store.now p.root)) c.in_ok-least.least) c.in_ok-counts.ensures.lines,
     )

@@ -2,6 +2,7 @@ use Rattle.std.proofs.Common.{refl, ◌∙◌}
 use Rattle.life_canon.proofs.PieceFacts.{pieces-text}
 use Rattle.life_canon.proofs.writing.text_of.Goals as goal
 
-pub returns-in-Ok-clause-text : goal.returns-in-Ok-clause-text
-returns-in-Ok-clause-text c =
-    (rw c.new.ensures.items at c.in-Ok.ensures.text) ∙ pieces-text c.args.store.now c.args.pattern.now c.requires _ _ c.in_ok-front.ensures.front refl
+pub returns-clause-text : goal.returns-clause-text
+returns-clause-text c =
+    c.in_ok-walk_pattern.ensures.took
+    ∙ pieces-text c.args.store.now c.args.pattern.now c.requires _ _ c.in_ok-front_with_room.ensures.front refl

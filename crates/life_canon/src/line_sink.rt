@@ -1,0 +1,40 @@
+//! What takes the node lines of a walk.
+
+ghost use Rattle.std.specs.Prelude.{◌≡◌, [], List, OnOk, OnErr, IfErr};
+ghost use Rattle.life_base.specs.declared.kind.Kind.{Kind as KindValue};
+ghost use Rattle.life_mc.specs.declared.line.Line.{Line as LineValue};
+ghost use Rattle.life_canon.specs.Walking.{TakesLine, BreaksOff};
+
+use life_base::Kind;
+use life_mc::Line;
+
+/// What takes node lines one after another, and a device that it may empty itself into. Contracts speak of both together.
+pub(crate) trait LineSink<D> {
+    // It may be given a line.
+    ghost ready: { Self × D → Type 0 };
+
+    // From the one state to the other it took these lines.
+    ghost took: { Self × D → Self × D → List LineValue → Type 0 };
+
+    // From the one state to the other it took some of these lines, and no more.
+    ghost broke: { Self × D → Self × D → List LineValue → Type 0 };
+
+    // It is so after a line that it refused with this kind.
+    ghost refuses: { Self × D → KindValue → Type 0 };
+
+    /// Takes a line behind those that it took before.
+    fn take(&mut self, device: &mut D, line: &Line) -> Result<(), Kind>
+        requires { ready (self.old, device.old) }
+        ensures ready { OnOk result (ready (self.new, device.new)) }
+        ensures took { OnOk result
+            (TakesLine took (self.old, device.old) (self.new, device.new) line.now) }
+        ensures broke { OnErr result
+            (BreaksOff took broke (self.old, device.old) (self.new, device.new)) }
+        ensures kind { IfErr result (refuses (self.new, device.new)) };
+
+    // At first it took nothing.
+    ghost begins: { (a : Self × D) → took a a [] };
+
+    // It may stop behind each line.
+    ghost stops: { (a : Self × D) → ready a → BreaksOff took broke a a };
+}
