@@ -4,21 +4,24 @@ use Rattle.std.specs.Prelude.{◌↔◌, Bool, true, false, IsTrue, if◌then◌
 use Rattle.life_base.specs.Refusal.{fault_of}
 use Rattle.life_base.specs.declared.cell.TheConstants.{MAX_LEVEL}
 use Rattle.life_base.specs.declared.fault.Fault.{Fault}
-use Rattle.life_base.specs.declared.kind.Kind.TheVariants.{Full, Memory, TooManyCells}
+use Rattle.life_base.specs.declared.kind.Kind.TheVariants.{Full, Memory}
 use Rattle.life_base.specs.Tree.{Tree}
 use Rattle.life_quad.specs.Store.{Nodes, held}
-use Rattle.life_canon.specs.Files.{Accepted, Reads, Refuses}
+use Rattle.life_canon.specs.Files.{Reads, Refuses}
 use Rattle.life_canon.specs.Needs.{LacksFor}
 use Rattle.life_canon.specs.Room.{room_for}
-use Rattle.life_canon.specs.Store.{IsWant, RefusesIn}
-use Rattle.life_canon.specs.Texts.{HasMoreCells}
+use Rattle.life_canon.specs.Store.{IsWant}
 use Rattle.life_canon.specs.Universe.{Universe}
-use Rattle.life_step.specs.Refusals.{LacksForStep, LacksForStepBy, LifeRefusal, TableRefusal}
+use Rattle.life_step.specs.Refusals.{LacksForStepBy, TableRefusal}
 use Rattle.life_table.specs.declared.table.Table.{Table}
 use Rattle.library_calls.specs.Told.{Told, Gives, Tells, Answers, by_text, by_fault}
-use Rattle.library_calls.specs.Answers.{room_of, IsTooSmallFor, RefusesWithin, RefusesRleWithin}
-use Rattle.library_calls.specs.Comparing.{IsTooSmallForBoth, RefusesEither}
-use Rattle.library_calls.specs.Stepping.{RefusesStepWithin, RefusesStepByWithin}
+use Rattle.library_calls.specs.Answers.{room_of, IsTooSmallFor}
+use Rattle.library_calls.specs.Comparing.{Compared, ComparesWithin}
+use Rattle.library_calls.specs.Comparing as compared
+use Rattle.library_calls.specs.ComparingInForm.{ComparesInForm}
+use Rattle.library_calls.specs.ComparingInForm as in_form
+use Rattle.library_calls.specs.Stepping.{RefusesStepByWithin}
+use Rattle.library_calls.specs.declared.pattern_form.PatternForm.TheVariants.{Placed}
 
 -- a text or a fault, told
 pub answered : {X : Type 0} (items : X → List ℕ) (IsText : List ℕ → Type 0) (IsFault : Fault → Type 0) (before after : List ℕ) (it : Told)
@@ -56,29 +59,9 @@ pub tight-alone : (room : ℕ) (old new : Nodes) → new.limit ≡ old.limit →
 tight-alone room old new same low = omega (arith, same, low)
 
 -- and too small for the file of which it lacks a square
-pub too-small : {X : Type 0} (bytes : List ℕ) (old new : Nodes) (r : Result X Fault) → held old ≡ [] → new.limit ≡ old.limit
-    → (r ≡ Err (fault_of Full) → LacksFor MAX_LEVEL bytes new)
-    → (r ≡ Err (fault_of Full) → old.limit < length (held old) + room_for (length bytes)) → r ≡ Err (fault_of Full) → IsTooSmallFor bytes new
-too-small bytes old new r empty same lacks low full = (lacks full, tight (room_for (length bytes)) old new empty same (low full))
-
--- why a call is refused, by the limit of its store
-within : (limit : ℕ) (bytes : List ℕ) (store : Nodes) (fault : Fault) → store.limit ≡ room_of limit → RefusesIn MAX_LEVEL bytes store fault
-    → (fault ≡ fault_of Full → IsTooSmallFor bytes store) → RefusesWithin limit bytes fault
-within limit bytes store fault is (inl refuses) lacks = inl refuses
-within limit bytes store fault is (inr want) lacks = inr (store, is, want, lacks)
-
-pub refused : {X : Type 0} (limit : ℕ) (bytes : List ℕ) (store : Nodes) (r : Result X Fault) → store.limit ≡ room_of limit
-    → IfErr r (RefusesIn MAX_LEVEL bytes store) → (r ≡ Err (fault_of Full) → IsTooSmallFor bytes store) → IfErr r (RefusesWithin limit bytes)
-refused limit bytes store (Ok x) is h lacks = tt
-refused limit bytes store (Err fault) is h lacks = within limit bytes store fault is h (λ full. lacks (ap (λ (f : Fault). Err f) full))
-
--- why two files aren't compared, by the limit of their store
-pub either : (limit : ℕ) (first second : List ℕ) (store : Nodes) (fault : Fault) → store.limit ≡ room_of limit
-    → Refuses MAX_LEVEL first fault ⊎ (Accepted MAX_LEVEL first × Refuses MAX_LEVEL second fault) ⊎ IsWant store fault
-    → (fault ≡ fault_of Full → IsTooSmallForBoth first second store) → RefusesEither limit first second fault
-either limit first second store fault is (inl refuses) lacks = inl refuses
-either limit first second store fault is (inr (inl refuses)) lacks = inr (inl refuses)
-either limit first second store fault is (inr (inr want)) lacks = inr (inr (store, is, want, lacks))
+pub too-small-for : (bytes : List ℕ) (old new : Nodes) → held old ≡ [] → new.limit ≡ old.limit → LacksFor MAX_LEVEL bytes new
+    → old.limit < length (held old) + room_for (length bytes) → IsTooSmallFor bytes new
+too-small-for bytes old new empty same lacks low = (lacks, tight (room_for (length bytes)) old new empty same low)
 
 -- 1 is told where the answer is yes, and 0 where it is no
 abbrev number : Bool → ℕ
@@ -88,35 +71,7 @@ pub is-answer : {P : Type 0} (answer : Bool) → IsTrue answer ↔ P → ((numbe
 is-answer true agree = inl (refl, agree.0 refl)
 is-answer false agree = inr (refl, λ p. let e : false ≡ true = agree.1 p in absurd cc)
 
--- why a text in extended RLE is refused, by the limit of the store
-of_rle : (limit : ℕ) (bytes : List ℕ) (store : Nodes) (fault : Fault) → store.limit ≡ room_of limit
-    → RefusesIn MAX_LEVEL bytes store fault ⊎ ((fault ≡ fault_of TooManyCells) × HasMoreCells MAX_LEVEL bytes (2 ^ 20))
-    → (fault ≡ fault_of Full → IsTooSmallFor bytes store) → RefusesRleWithin limit bytes fault
-of_rle limit bytes store fault is (inl why) lacks = inl (within limit bytes store fault is why lacks)
-of_rle limit bytes store fault is (inr many) lacks = inr many
-
-pub refused_rle : {X : Type 0} (limit : ℕ) (bytes : List ℕ) (store : Nodes) (r : Result X Fault) → store.limit ≡ room_of limit
-    → IfErr r (λ fault. RefusesIn MAX_LEVEL bytes store fault ⊎ ((fault ≡ fault_of TooManyCells) × HasMoreCells MAX_LEVEL bytes (2 ^ 20)))
-    → (r ≡ Err (fault_of Full) → IsTooSmallFor bytes store) → IfErr r (RefusesRleWithin limit bytes)
-refused_rle limit bytes store (Ok x) is h lacks = tt
-refused_rle limit bytes store (Err fault) is h lacks = of_rle limit bytes store fault is h (λ full. lacks (ap (λ (f : Fault). Err f) full))
-
--- why a step is refused, by the limit of the store
-of_step : (limit : ℕ) (bytes : List ℕ) (store : Nodes) (fault : Fault) → store.limit ≡ room_of limit
-    → Refuses MAX_LEVEL bytes fault ⊎ (IsWant store fault ⊎ ((u : Universe) × Reads MAX_LEVEL bytes u × LifeRefusal MAX_LEVEL u (Some fault)))
-    → (fault ≡ fault_of Full → LacksForStep bytes store) → RefusesStepWithin limit bytes fault
-of_step limit bytes store fault is (inl refuses) lacks = inl refuses
-of_step limit bytes store fault is (inr (inl want)) lacks = inr (inl (store, is, want, lacks))
-of_step limit bytes store fault is (inr (inr step)) lacks = inr (inr step)
-
-pub refused_step : {X : Type 0} (limit : ℕ) (bytes : List ℕ) (store : Nodes) (r : Result X Fault) → store.limit ≡ room_of limit
-    → IfErr r (λ fault. Refuses MAX_LEVEL bytes fault
-    ⊎ (IsWant store fault ⊎ ((u : Universe) × Reads MAX_LEVEL bytes u × LifeRefusal MAX_LEVEL u (Some fault))))
-    → (r ≡ Err (fault_of Full) → LacksForStep bytes store) → IfErr r (RefusesStepWithin limit bytes)
-refused_step limit bytes store (Ok x) is h lacks = tt
-refused_step limit bytes store (Err fault) is h lacks = of_step limit bytes store fault is h (λ full. lacks (ap (λ (f : Fault). Err f) full))
-
--- the same by a table
+-- why a step by a table is refused, by the limit of the store
 of_step_by : (table : Table) (limit : ℕ) (bytes : List ℕ) (store : Nodes) (fault : Fault) → store.limit ≡ room_of limit
     → Refuses MAX_LEVEL bytes fault ⊎ (IsWant store fault ⊎ ((u : Universe) × Reads MAX_LEVEL bytes u × TableRefusal MAX_LEVEL table u (Some fault)))
     → (fault ≡ fault_of Full → LacksForStepBy table bytes store) → RefusesStepByWithin table limit bytes fault
@@ -131,6 +86,11 @@ pub refused_step_by : {X : Type 0} (table : Table) (limit : ℕ) (bytes : List �
 refused_step_by table limit bytes store (Ok x) is h lacks = tt
 refused_step_by table limit bytes store (Err fault) is h lacks =
     of_step_by table limit bytes store fault is h (λ full. lacks (ap (λ (f : Fault). Err f) full))
+
+-- two files that are compared where they lie
+pub placed-compares : (limit : ℕ) (first second : List ℕ) (it : Compared) → ComparesInForm Placed limit first second it → ComparesWithin limit first second it
+placed-compares limit first second it (in_form.by_answer status line one other few answer) = compared.by_answer status line one other answer
+placed-compares limit first second it (in_form.by_fault fault status line is_same why) = compared.by_fault fault status line is_same why
 
 -- a form that has the number, and none that has
 pub at-form : {X : Type 0} (form : Option X) (A : Type 0) (B : X → Type 0) (x : X) → form ≡ Some x → B x → MatchOption form A B

@@ -113,21 +113,6 @@ turned-text fit bytes store pattern text read few turned = record {
 
 -- ---- why there is none
 
--- a file that isn't read
-pub unread : (form : PatternForm) (limit : ℕ) (bytes : List ℕ) (store : Nodes) (fault : Fault) → store.limit ≡ room_of limit
-    → RefusesIn MAX_LEVEL bytes store fault → (fault ≡ fault_of Full → IsTooSmallFor bytes store) → RefusesInForm form limit bytes fault
-unread Placed limit bytes store fault room (inl refuses) lacks = inl refuses
-unread Placed limit bytes store fault room (inr want) lacks = inr (store, room, want, lacks)
-unread Moved limit bytes store fault room (inl refuses) lacks = inl (inl refuses)
-unread Moved limit bytes store fault room (inr want) lacks = inl (inr (store, room, want, λ full. inl (lacks full)))
-unread Turned limit bytes store fault room (inl refuses) lacks = inl (inl refuses)
-unread Turned limit bytes store fault room (inr want) lacks = inl (inr (store, room, want, lacks))
-
--- memory is refused for a text
-pub no-memory : (form : PatternForm) (limit : ℕ) (bytes : List ℕ) (store : Nodes) (fault : Fault) → store.limit ≡ room_of limit
-    → fault ≡ fault_of Memory → RefusesInForm form limit bytes fault
-no-memory form limit bytes store fault room memory = unread form limit bytes store fault room (inr (inl memory)) (not-full fault memory)
-
 -- a pattern that isn't moved
 pub unmoved : PatternsFit MAX_LEVEL → (limit : ℕ) (bytes : List ℕ) (old new : Nodes) (pattern : Pattern) (fault : Fault) → new.limit ≡ room_of limit
     → IsRead MAX_LEVEL bytes old pattern
@@ -142,7 +127,7 @@ pub unturned : PatternsFit MAX_LEVEL → (limit : ℕ) (bytes : List ℕ) (store
     → IsRead MAX_LEVEL bytes store pattern
     → (fault ≡ fault_of Memory) ⊎ ((fault ≡ fault_of TooManyCells) × (2 ^ 20 < population (content store pattern.root)))
     → RefusesInForm Turned limit bytes fault
-unturned fit limit bytes store pattern fault room read (inl memory) = no-memory Turned limit bytes store fault room memory
+unturned fit limit bytes store pattern fault room read (inl memory) = inl (inr (store, room, inl memory, not-full fault memory))
 unturned fit limit bytes store pattern fault room read (inr many) = inr (many.0, more-cells fit bytes store pattern read many.1)
 
 -- ---- two files

@@ -1,4 +1,5 @@
 pub mod Answering
 pub mod Pointer
+pub mod TextFacts
 pub mod StreamFacts
 pub mod FormFacts

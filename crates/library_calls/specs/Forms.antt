@@ -1,12 +1,14 @@
 -- The text that a stream gives at its end: that of the call on a file held whole.
-use Rattle.std.specs.Prelude.{◌⊎◌, ℕ, List}
+use Rattle.std.specs.Prelude.{◌≡◌, ◌⊎◌, ℕ, List}
 use Rattle.life_base.specs.declared.cell.TheConstants.{MAX_LEVEL}
 use Rattle.life_base.specs.declared.fault.Fault.{Fault}
 use Rattle.life_canon.specs.Feeding.{RefusesFront}
 use Rattle.life_canon.specs.Needs.{LacksForFront}
+use Rattle.life_canon.specs.Store.{IsRead}
 use Rattle.life_canon.specs.Texts.{IsShown}
+use Rattle.life_canon.specs.declared.pattern.Pattern.{Pattern}
 use Rattle.life_quad.specs.Store.{Nodes}
-use Rattle.library_calls.specs.Answers.{IsCanonicalText, IsRleText, IsTightFor, RefusesWithin, RefusesRleWithin, Wants}
+use Rattle.library_calls.specs.Answers.{IsCanonicalText, IsRleText, IsTightFor, room_of, RefusesWithin, RefusesRleWithin, Wants}
 use Rattle.life_step.specs.Stepped.{IsStepped}
 use Rattle.library_calls.specs.Stepping.{RefusesStepWithin}
 use Rattle.library_calls.specs.declared.session.Form.{Form}
@@ -33,7 +35,16 @@ RefusesTextOf Next = RefusesStepWithin
 RefusesTextOf Moved = RefusesInForm forms.Moved
 RefusesTextOf Turned = RefusesInForm forms.Turned
 
--- what a stream gives whose end gives the canonical text of a pattern in this form
+-- the text is the one that this form asks of each file that was read as this pattern of the store
+abbrev pub IsTextOfRead : Form → Nodes → Pattern → List ℕ → Type 0
+IsTextOfRead form store pattern text = (bytes : List ℕ) → IsRead MAX_LEVEL bytes store pattern → IsTextOf form bytes text
+
+-- why those files have none, within the limit of the store
+abbrev pub RefusesTextOfRead : Form → Nodes → Pattern → Fault → Type 0
+RefusesTextOfRead form store pattern fault =
+    (limit : ℕ) (bytes : List ℕ) → store.limit ≡ room_of limit → IsRead MAX_LEVEL bytes store pattern → RefusesTextOf form limit bytes fault
+
+-- the text that a pattern in this form gives
 abbrev pub text_in : PatternForm → Form
 text_in forms.Placed = Canonical
 text_in forms.Moved = Moved

@@ -4,7 +4,8 @@ ghost use Rattle.std.specs.Prelude.{◌≡◌, if◌then◌else◌};
 ghost use Rattle.life_base.specs.Kinds.{kind_number};
 ghost use Rattle.library_calls.specs.Comparing.{ComparesWithin, compared};
 
-use crate::session::store_of;
+use crate::comparing_in_form::compare;
+use crate::pattern_form::PatternForm;
 use life_base::Fault;
 use std::alloc::Global;
 
@@ -47,9 +48,5 @@ impl Compared {
 pub fn same(alloc: Global, first: &[u8], second: &[u8], limit: u64, seed: u64) -> Compared
     ensures { ComparesWithin limit first.now second.now result }
 {
-    let mut store = store_of(alloc, limit, seed);
-    match life_canon::same(alloc, &mut store, first, second) {
-        Ok(answer) => Compared::of(answer),
-        Err(fault) => Compared::refused(&fault),
-    }
+    compare(alloc, first, second, PatternForm::Placed, limit, seed)
 }

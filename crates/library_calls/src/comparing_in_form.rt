@@ -11,7 +11,6 @@ ghost use Rattle.library_calls.specs.Answers.{IsFresh};
 ghost use Rattle.library_calls.specs.Comparing.{IsTooSmallForBoth};
 ghost use Rattle.library_calls.specs.InForm.{form_numbered};
 ghost use Rattle.library_calls.specs.ComparingInForm.{AreOneInForm, HasTooMany, RefusesEitherInForm, ComparesInForm, ComparesInNone};
-ghost use Rattle.library_calls.specs.declared.pattern_form.PatternForm.{PatternForm as FormValue};
 
 use crate::comparing::Compared;
 use crate::in_form::{NO_FORM, form_of};
@@ -20,9 +19,9 @@ use crate::session::store_of;
 use life_base::Fault;
 use life_canon::laws::{
     few_squares, files_are_on_plane, files_are_unique, patterns_fit, patterns_stay,
-    refusals_have_kinds, room_suffices,
+    patterns_tell_files, refusals_have_kinds, room_suffices,
 };
-use life_canon::{Pattern, read};
+use life_canon::{Pattern, are_same, read};
 use life_forms::{are_shifts, are_turns};
 use life_quad::Shared;
 use std::alloc::Global;
@@ -58,42 +57,6 @@ fn read_both(
     }
 }
 
-/// Whether a shift takes the pattern of one file to that of another.
-fn are_shifted(
-    alloc: Global,
-    store: &mut Shared,
-    first: &[u8],
-    second: &[u8],
-) -> Result<bool, Fault>
-    ensures accepted { OnOk result (Accepted MAX_LEVEL first.now × Accepted MAX_LEVEL second.now) }
-    ensures answer { IfOk result
-        (λ answer. IsTrue answer ↔ AreOneInForm FormValue.Moved first.now second.now) }
-    ensures few { OnOk result (¬ HasTooMany FormValue.Moved first.now second.now) }
-    ensures fault { IfErr result (λ fault. (limit : ℕ) → IsFresh limit store.old
-        → RefusesEitherInForm FormValue.Moved limit first.now second.now fault) }
-{
-    patterns_fit();
-    files_are_unique();
-    let both = read_both(alloc, store, first, second)?;
-    are_shifts(alloc, store, &both.0, &both.1)
-}
-
-/// Whether a shift behind one of the eight turns and reflections does.
-fn are_turned(alloc: Global, store: &mut Shared, first: &[u8], second: &[u8]) -> Result<bool, Fault>
-    ensures accepted { OnOk result (Accepted MAX_LEVEL first.now × Accepted MAX_LEVEL second.now) }
-    ensures answer { IfOk result
-        (λ answer. IsTrue answer ↔ AreOneInForm FormValue.Turned first.now second.now) }
-    ensures few { OnOk result (¬ HasTooMany FormValue.Turned first.now second.now) }
-    ensures fault { IfErr result (λ fault. (limit : ℕ) → IsFresh limit store.old
-        → RefusesEitherInForm FormValue.Turned limit first.now second.now fault) }
-{
-    patterns_fit();
-    files_are_unique();
-    files_are_on_plane();
-    let both = read_both(alloc, store, first, second)?;
-    are_turns(alloc, store, &both.0, &both.1)
-}
-
 /// Whether two files are one pattern in a form.
 fn are_one(
     alloc: Global,
@@ -109,10 +72,33 @@ fn are_one(
     ensures fault { IfErr result (λ fault. (limit : ℕ) → IsFresh limit store.old
         → RefusesEitherInForm form limit first.now second.now fault) }
 {
+    patterns_fit();
+    patterns_tell_files();
+    files_are_unique();
+    files_are_on_plane();
+    let (a, b) = read_both(alloc, store, first, second)?;
     match form {
-        PatternForm::Placed => life_canon::same(alloc, store, first, second),
-        PatternForm::Moved => are_shifted(alloc, store, first, second),
-        PatternForm::Turned => are_turned(alloc, store, first, second),
+        PatternForm::Placed => Ok(are_same(&a, &b)),
+        PatternForm::Moved => are_shifts(alloc, store, &a, &b),
+        PatternForm::Turned => are_turns(alloc, store, &a, &b),
+    }
+}
+
+/// Whether two files, each of either format, are one pattern in the form.
+pub(crate) fn compare(
+    alloc: Global,
+    first: &[u8],
+    second: &[u8],
+    form: PatternForm,
+    limit: u64,
+    seed: u64,
+) -> Compared
+    ensures { ComparesInForm form limit first.now second.now result }
+{
+    let mut store = store_of(alloc, limit, seed);
+    match are_one(alloc, &mut store, first, second, form) {
+        Ok(answer) => Compared::of(answer),
+        Err(fault) => Compared::refused(&fault),
     }
 }
 
@@ -135,9 +121,5 @@ pub fn same_form(
             line: 0,
         };
     };
-    let mut store = store_of(alloc, limit, seed);
-    match are_one(alloc, &mut store, first, second, form) {
-        Ok(answer) => Compared::of(answer),
-        Err(fault) => Compared::refused(&fault),
-    }
+    compare(alloc, first, second, form, limit, seed)
 }

@@ -1,24 +1,17 @@
 //! A file that is read in pieces, and the text that its end gives.
 
-ghost use Rattle.std.specs.Prelude.{◌≡◌, ◌++◌, ℕ, List, [], IfOk, IfErr, OnOk};
-ghost use Rattle.life_base.specs.Refusal.{fault_of};
-ghost use Rattle.life_base.specs.declared.kind.Kind.TheVariants.{Memory};
+ghost use Rattle.std.specs.Prelude.{◌≡◌, ◌++◌, ℕ, [], IfOk, IfErr, OnOk};
 ghost use Rattle.life_base.specs.declared.fault.Fault.{Fault as FaultValue};
 ghost use Rattle.life_canon.specs.Feeding.{RefusesFront};
-ghost use Rattle.life_canon.specs.Store.{IsOfFile, IsRead};
-ghost use Rattle.library_calls.specs.Answers.{IsCanonicalText, room_of};
+ghost use Rattle.library_calls.specs.Answers.{room_of};
 ghost use Rattle.library_calls.specs.Forms.{IsTextOf, RefusesTextOf, RefusesPiece};
 
-use crate::in_form::{moved_text, turned_text_of};
 use crate::session::{Form, store_of};
+use crate::texts::text_of_read;
 use life_base::{Fault, MAX_LEVEL};
-use life_canon::laws::{
-    canonical_is_least, files_are_on_plane, fronts_hold, patterns_fit, texts_are_files,
-    texts_tell_universes,
-};
-use life_canon::{Pattern, Reader, five_lines_of, rle_of, text_of};
+use life_canon::Reader;
+use life_canon::laws::fronts_hold;
 use life_quad::Shared;
-use life_step::next_by_rule;
 use std::alloc::Global;
 use std::marker::Model;
 
@@ -43,25 +36,6 @@ impl Model for Feeding {
     // The store holds no squares but those of the lines that have ended.
     ghost invariant = { λ f. (f.reader.spent ≡ false) × Stands f.store f.reader
         × HoldsFront [] f.reader.bytes f.store };
-}
-
-/// The canonical text of a pattern that was read into the store.
-pub(crate) fn canonical_of(
-    alloc: Global,
-    store: &Shared,
-    pattern: &Pattern,
-) -> Result<Vec<u8>, Fault>
-    requires { IsOfFile MAX_LEVEL store.now pattern.now }
-    ensures text { IfOk result (λ text. (bytes : List ℕ)
-        → IsRead MAX_LEVEL bytes store.now pattern.now → IsCanonicalText bytes text.items) }
-    ensures memory { IfErr result (λ fault. fault ≡ fault_of Memory) }
-{
-    patterns_fit();
-    files_are_on_plane();
-    texts_tell_universes();
-    texts_are_files();
-    canonical_is_least();
-    text_of(alloc, store, pattern)
 }
 
 impl Feeding {
@@ -112,13 +86,6 @@ impl Feeding {
             form,
         } = self;
         let pattern = reader.finish(&mut store)?;
-        match form {
-            Form::Canonical => canonical_of(alloc, &store, &pattern),
-            Form::Rle => rle_of(alloc, &store, &pattern),
-            Form::Lines => five_lines_of(alloc, &store, &pattern),
-            Form::Moved => moved_text(alloc, &mut store, &pattern),
-            Form::Turned => turned_text_of(alloc, &store, &pattern),
-            Form::Next => next_by_rule(alloc, &mut store, pattern),
-        }
+        text_of_read(alloc, &mut store, pattern, form)
     }
 }

@@ -5,9 +5,10 @@ ghost use Rattle.life_step.specs.Stepped.{IsStepped, IsSteppedBy};
 ghost use Rattle.library_calls.specs.Stepping.{RefusesStepByWithin, RefusesStepWithin, StepsByTable};
 
 use crate::seeding::seed_of_names;
-use crate::session::store_of;
+use crate::session::{Form, store_of};
 use crate::telling::{Told, refuse, tell};
-use life_step::{step_life, step_table};
+use crate::texts::answer;
+use life_step::step_table;
 use life_table::{Table, read_table};
 use std::alloc::Global;
 
@@ -16,9 +17,7 @@ pub fn step(alloc: Global, bytes: &[u8], limit: u64, seed: u64, out: &mut [u8]) 
     ensures { Answers (IsStepped bytes.now) (RefusesStepWithin limit bytes.now) out.old out.new
         result }
 {
-    let mut store = store_of(alloc, limit, seed);
-    let found = step_life(alloc, &mut store, bytes);
-    tell(found, out)
+    answer(alloc, bytes, Form::Next, limit, seed, out)
 }
 
 /// The same by a table that is read.

@@ -8,8 +8,7 @@ ghost use Rattle.library_calls.specs.Streams.{session_of, IsOpen, IsFed, HasText
 ghost use Rattle.library_calls.specs.declared.session.Form.{Form as FormValue};
 
 use crate::feeding::Feeding;
-use crate::in_form::{NO_FORM, form_of};
-use crate::pattern_form::PatternForm;
+use crate::in_form::{NO_FORM, form_of, text_in};
 use crate::session::{Form, Session, ended, fed};
 use crate::stream::{Stream, put, take};
 use crate::telling::{Told, give, refuse};
@@ -29,17 +28,6 @@ pub fn open(alloc: Global, stream: &mut Stream, form: Form, limit: u64, seed: u6
             0
         }
         Err(_) => Kind::Memory.number() as u32,
-    }
-}
-
-/// What a stream gives whose end gives the canonical text of a pattern in this form.
-fn text_in(form: PatternForm) -> Form
-    ensures { result ≡ text_in form }
-{
-    match form {
-        PatternForm::Placed => Form::Canonical,
-        PatternForm::Moved => Form::Moved,
-        PatternForm::Turned => Form::Turned,
     }
 }
 

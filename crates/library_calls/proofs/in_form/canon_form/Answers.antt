@@ -1,11 +1,14 @@
-use Rattle.std.proofs.Common.{◌∙◌, sym}
-use Rattle.library_calls.specs.InForm.{IsTextInForm, RefusesInForm}
-use Rattle.library_calls.proofs.Answering.{answered, at-form}
+use Rattle.std.proofs.Common.{sym, ◌∙◌, subst}
+use Rattle.library_calls.specs.Forms.{IsTextOf, RefusesTextOf}
+use Rattle.library_calls.specs.Told.{Answers}
+use Rattle.library_calls.specs.declared.session.Form.{Form}
+use Rattle.library_calls.proofs.Answering.{at-form}
+use Rattle.library_calls.proofs.TextFacts.{answers-in-form}
 use Rattle.library_calls.proofs.in_form.canon_form.Goals as goal
 
 pub returns : goal.returns
 returns c =
     at-form _ _ _ c.in-Some.form (sym c.form_of.ensures ∙ c.in-Some.is)
-    (answered (λ text. text.items) (IsTextInForm c.in-Some.form c.args.bytes.now) (RefusesInForm c.in-Some.form c.args.limit c.args.bytes.now) _ _ _
-    c.text_of_file-found.result c.text_of_file-found.ensures.text c.text_of_file-found.ensures.fault c.tell.ensures.gives c.tell.ensures.no_line
-    c.tell.ensures.tells)
+    (answers-in-form c.in-Some.form c.args.limit c.args.bytes.now _ _ _
+    (subst (λ (f : Form). Answers (IsTextOf f c.args.bytes.now) (RefusesTextOf f c.args.limit c.args.bytes.now) c.args.out.now c.answer.new.out
+    c.answer.result) c.text_in.ensures c.answer.ensures))

@@ -1,0 +1,138 @@
+-- The text of a pattern that was read into a store, in each form.
+use Rattle.std.proofs.Common.{◌≡◌, ℕ, ◌<◌, ◌≤◌, ◌^◌, ◌∙◌, ap, subst, sym, List, ◌⊎◌, inl, inr, Some, Result, Ok, Err, IfOk, IfErr}
+use Rattle.life_base.specs.Refusal.{fault_of}
+use Rattle.life_base.specs.Rules.{IsRule}
+use Rattle.life_base.specs.declared.cell.TheConstants.{MAX_LEVEL}
+use Rattle.life_base.specs.declared.fault.Fault.{Fault}
+use Rattle.life_base.specs.declared.kind.Kind.TheVariants.{Full, Memory, TooManyCells}
+use Rattle.life_mc.specs.Macrocell.{largest_state}
+use Rattle.life_mc.specs.Reading.{IsMacrocell}
+use Rattle.life_quad.specs.Store.{Nodes}
+use Rattle.life_canon.specs.Files.{Reads}
+use Rattle.life_canon.specs.Laws.{PatternsFit, FilesAreOnPlane, TextsTellUniverses, TextsAreFiles, CanonicalIsLeast}
+use Rattle.life_canon.specs.Listing.{canonical_file, canon_text}
+use Rattle.life_canon.specs.Store.{IsRead, IsWant, RefusesIn, content, universe_in}
+use Rattle.life_canon.specs.Texts.{HasMoreCells}
+use Rattle.life_canon.specs.Universe.{Universe, IsSame, IsOnPlane}
+use Rattle.life_canon.specs.declared.pattern.Pattern.{Pattern}
+use Rattle.life_step.specs.Refusals.{LacksForLife, LacksForNext, LifeRefusal}
+use Rattle.library_calls.specs.Answers.{IsCanonicalText, IsTooSmallFor, room_of}
+use Rattle.library_calls.specs.Forms.{IsTextOf, IsTextOfRead, RefusesTextOf, RefusesTextOfRead, text_in}
+use Rattle.library_calls.specs.InForm.{IsTextInForm, RefusesInForm}
+use Rattle.library_calls.specs.Told.{Told, Answers}
+use Rattle.library_calls.specs.declared.session.Form.{Form}
+use Rattle.library_calls.specs.declared.session.Form.TheVariants.{Canonical, Rle, Lines, Next, Moved, Turned}
+use Rattle.library_calls.specs.declared.pattern_form.PatternForm.{PatternForm}
+use Rattle.library_calls.specs.declared.pattern_form.PatternForm.TheVariants as forms
+use Rattle.library_calls.proofs.Answering.{not-full}
+
+-- a pattern that is the same as one on the plane is on it too
+moved : (u v : Universe) → IsSame u v → IsOnPlane MAX_LEVEL u → IsOnPlane MAX_LEVEL v
+moved u v same on = record {
+  rule = subst IsRule same.rule on.rule;
+  generation = subst (λ n. n < 2 ^ 64) same.generation on.generation;
+  states = λ x y. subst (λ r. v.cell x y ≤ largest_state r) same.rule (subst (λ n. n ≤ largest_state u.rule) (same.cells x y) (on.states x y));
+  outside = λ x y out. sym (same.cells x y) ∙ on.outside x y out;
+}
+
+-- the canonical text of what the store holds is that of the bytes, and the least
+pub canonical : PatternsFit MAX_LEVEL → FilesAreOnPlane MAX_LEVEL → TextsTellUniverses MAX_LEVEL → TextsAreFiles MAX_LEVEL
+    → CanonicalIsLeast MAX_LEVEL → (bytes : List ℕ) (store : Nodes) (pattern : Pattern) (text : List ℕ)
+    → text ≡ canon_text MAX_LEVEL (universe_in store pattern) → IsRead MAX_LEVEL bytes store pattern → IsCanonicalText bytes text
+canonical fit plane tell files least bytes store pattern text is read =
+    let u = read.universe in
+    let v = universe_in store pattern in
+    let same : IsSame u v = (fit bytes store pattern read).1 in
+    let on : IsOnPlane MAX_LEVEL u = plane bytes u read.reads in
+    let there : IsOnPlane MAX_LEVEL v = moved u v same on in
+    let one : text ≡ canon_text MAX_LEVEL u = is ∙ sym ((tell u v on there).1 same) in
+    let file = files u on in (
+      record { universe = u; reads = read.reads; is = one },
+      record {
+        universe = u;
+        reads = read.reads;
+        file = canonical_file MAX_LEVEL u;
+        says = subst (λ t. IsMacrocell MAX_LEVEL t (canonical_file MAX_LEVEL u)) (sym one) file.0;
+        same = file.1;
+        least = least u on;
+      },
+    )
+
+-- why a file is refused at its end, or room or memory wanted
+pub text-fault : (form : Form) (limit : ℕ) (bytes : List ℕ) (store : Nodes) (fault : Fault) → store.limit ≡ room_of limit
+    → RefusesIn MAX_LEVEL bytes store fault → (fault ≡ fault_of Full → IsTooSmallFor bytes store) → RefusesTextOf form limit bytes fault
+text-fault Canonical limit bytes store fault is (inl refuses) lacks = inl refuses
+text-fault Canonical limit bytes store fault is (inr want) lacks = inr (store, is, want, lacks)
+text-fault Rle limit bytes store fault is (inl refuses) lacks = inl (inl refuses)
+text-fault Rle limit bytes store fault is (inr want) lacks = inl (inr (store, is, want, lacks))
+text-fault Lines limit bytes store fault is (inl refuses) lacks = inl refuses
+text-fault Lines limit bytes store fault is (inr want) lacks = inr (store, is, want, lacks)
+text-fault Next limit bytes store fault is (inl refuses) lacks = inl refuses
+text-fault Next limit bytes store fault is (inr want) lacks = inr (inl (store, is, want, λ full. inl (lacks full).0))
+text-fault Moved limit bytes store fault is (inl refuses) lacks = inl (inl refuses)
+text-fault Moved limit bytes store fault is (inr want) lacks = inl (inr (store, is, want, λ full. inl (lacks full)))
+text-fault Turned limit bytes store fault is (inl refuses) lacks = inl (inl refuses)
+text-fault Turned limit bytes store fault is (inr want) lacks = inl (inr (store, is, want, lacks))
+
+-- memory is wanted for a text of any form
+pub wants : (form : Form) (store : Nodes) (pattern : Pattern) (fault : Fault) → fault ≡ fault_of Memory → RefusesTextOfRead form store pattern fault
+wants form store pattern fault memory = λ limit bytes is read.
+    text-fault form limit bytes store fault is (inr (inl memory)) (not-full fault memory)
+
+-- the text of a form that is another one
+pub of-form : {X : Type 0} {form that : Form} (store : Nodes) (pattern : Pattern) (items : X → List ℕ) (r : Result X Fault) → form ≡ that
+    → IfOk r (λ x. IsTextOfRead that store pattern (items x)) → IfOk r (λ x. IsTextOfRead form store pattern (items x))
+of-form store pattern items r is text =
+    subst (λ (f : Form). IfOk r (λ x. IsTextOfRead f store pattern (items x))) (sym is) text
+
+-- and its refusal
+pub of-fault : {X : Type 0} {form that : Form} (store : Nodes) (pattern : Pattern) (r : Result X Fault) → form ≡ that
+    → IfErr r (RefusesTextOfRead that store pattern) → IfErr r (RefusesTextOfRead form store pattern)
+of-fault store pattern r is why = subst (λ (f : Form). IfErr r (RefusesTextOfRead f store pattern)) (sym is) why
+
+-- the text of a pattern in a form is the text in this form
+pub in-form : (form : PatternForm) (bytes text : List ℕ) → IsTextOf (text_in form) bytes text → IsTextInForm form bytes text
+in-form forms.Placed bytes text is = is
+in-form forms.Moved bytes text is = is
+in-form forms.Turned bytes text is = is
+
+-- so is its refusal
+pub refused-in-form : (form : PatternForm) (limit : ℕ) (bytes : List ℕ) (fault : Fault) → RefusesTextOf (text_in form) limit bytes fault
+    → RefusesInForm form limit bytes fault
+refused-in-form forms.Placed limit bytes fault why = why
+refused-in-form forms.Moved limit bytes fault why = why
+refused-in-form forms.Turned limit bytes fault why = why
+
+pub answers-in-form : (form : PatternForm) (limit : ℕ) (bytes before after : List ℕ) (it : Told)
+    → Answers (IsTextOf (text_in form) bytes) (RefusesTextOf (text_in form) limit bytes) before after it
+    → Answers (IsTextInForm form bytes) (RefusesInForm form limit bytes) before after it
+answers-in-form forms.Placed limit bytes before after it answers = answers
+answers-in-form forms.Moved limit bytes before after it answers = answers
+answers-in-form forms.Turned limit bytes before after it answers = answers
+
+-- the same of a text in extended RLE, which may have too many cells
+pub rle-fault : (limit : ℕ) (bytes : List ℕ) (store : Nodes) (pattern : Pattern) (fault : Fault) → store.limit ≡ room_of limit
+    → IsRead MAX_LEVEL bytes store pattern
+    → (fault ≡ fault_of Memory) ⊎ ((fault ≡ fault_of TooManyCells)
+    × ((bytes : List ℕ) → IsRead MAX_LEVEL bytes store pattern → HasMoreCells MAX_LEVEL bytes (2 ^ 20)))
+    → RefusesTextOf Rle limit bytes fault
+rle-fault limit bytes store pattern fault is read (inl memory) = inl (inr (store, is, inl memory, not-full fault memory))
+rle-fault limit bytes store pattern fault is read (inr many) = inr (many.0, many.1 bytes read)
+
+-- what the step of a pattern lacks, the step of its bytes lacks
+next-lacks : (bytes : List ℕ) (old store : Nodes) (pattern : Pattern) → IsRead MAX_LEVEL bytes old pattern
+    → LacksForLife pattern.rule (content old pattern.root) store → LacksForNext bytes store
+next-lacks bytes old store pattern read lacks =
+    let u = read.universe in
+    let of_rule = subst (λ r. LacksForLife r (content old pattern.root) store) read.is.rule lacks in
+    (u, read.reads, subst (λ t. LacksForLife u.rule t store) read.is.root of_rule)
+
+-- the same of a step, which may be refused
+pub next-fault : (limit : ℕ) (bytes : List ℕ) (old store : Nodes) (pattern : Pattern) (fault : Fault) → store.limit ≡ room_of limit
+    → IsRead MAX_LEVEL bytes old pattern
+    → IsWant store fault ⊎ ((bytes : List ℕ) → IsRead MAX_LEVEL bytes old pattern → (u : Universe) × Reads MAX_LEVEL bytes u
+    × LifeRefusal MAX_LEVEL u (Some fault))
+    → (fault ≡ fault_of Full → LacksForLife pattern.rule (content old pattern.root) store) → RefusesTextOf Next limit bytes fault
+next-fault limit bytes old store pattern fault is read (inl want) lacks =
+    inr (inl (store, is, want, λ full. inr (next-lacks bytes old store pattern read (lacks full))))
+next-fault limit bytes old store pattern fault is read (inr step) lacks = inr (inr (step bytes read))
