@@ -12,7 +12,7 @@ use Rattle.life_canon.specs.Running.{LacksForRead, Ran, RunRefuses}
 use Rattle.life_canon.specs.Running as running
 use Rattle.life_cli.specs.Faults.{status_of}
 use Rattle.life_cli.specs.Forms.{IsTextIn}
-use Rattle.life_cli.specs.Jobs.{HasNoText, HasText, RefusesIn}
+use Rattle.life_cli.specs.Jobs.{HasNoText, HasText, RefusesInForm}
 use Rattle.life_cli.specs.Keys.{IsKeyIn, IsStatus}
 use Rattle.life_cli.specs.declared.plans.Form.{Form}
 use Rattle.life_cli.specs.declared.plans.Form.TheVariants.{Placed}
@@ -27,9 +27,9 @@ key_of_text form source text key has hashed =
 -- a run into a sink that never fails is refused by its input alone
 pub no_key : (source : SourceRun) (sink : SinkRun) (store : Nodes) (fault : Fault) → store.limit ≡ 2 ^ 31 → sink.failures ≡ 0 → sink.stalled ≡ false
     → RunRefuses MAX_LEVEL (2 ^ 30) store source sink fault → (fault ≡ fault_of kinds.Full → LacksForRead MAX_LEVEL (2 ^ 30) store source)
-    → HasNoText (RefusesIn Placed) source fault
+    → HasNoText (RefusesInForm Placed) source fault
 no_key source sink store fault limit works takes (running.by_reading reading) lacks =
-    no_pattern (RefusesIn Placed) source store fault limit (λ bytes h. h) reading lacks
+    no_pattern (RefusesInForm Placed) source store fault limit (λ bytes h. h) reading lacks
 no_key source sink store fault limit works takes (running.by_writing is broke) lacks = elim broke.cause [
   | inl failed ↦ let bad : 0 ≡ 1 = sym works ∙ failed in absurd cc
   | inr stalled ↦ let bad : false ≡ true = sym takes ∙ stalled in absurd cc

@@ -28,15 +28,15 @@ use Rattle.life_cli.specs.declared.plans.Form.TheVariants.{Placed, Moved, Turned
 use Rattle.life_cli.specs.declared.plans.Job.{Job}
 use Rattle.life_cli.specs.declared.plans.Job.TheVariants.{Canon, Convert, Same, Show, Step, StepTable}
 use Rattle.life_cli.specs.declared.plans.Target.TheVariants.{Rle, Mc}
-use Rattle.life_cli.specs.declared.telling.Refusal.{Refusal}
-use Rattle.life_cli.specs.declared.working.Made.{Made}
-use Rattle.life_cli.specs.declared.working.Made.TheVariants.{Comparison}
+use Rattle.life_cli.specs.declared.refusals.Refusal.{Refusal}
+use Rattle.life_cli.specs.declared.jobs.Made.{Made}
+use Rattle.life_cli.specs.declared.jobs.Made.TheVariants.{Comparison}
 use Rattle.life_cli.specs.Forms.{AreSameIn, HasTooMany, IsTextIn}
-use Rattle.life_cli.specs.Plans.{HasSecond, WritesCanonical}
+use Rattle.life_cli.specs.Plans.{HasSecond, WritesPlacedText}
 use Rattle.life_step.specs.Stepped.{IsStepped, IsSteppedBy}
 use Rattle.life_cli.specs.Jobs.{InputRefuses, by_length, by_source, HasNoText, by_input, by_file, by_want, AreUncompared}
-use Rattle.life_cli.specs.Jobs.{by_first, by_second, by_form, by_first_shortage, by_second_shortage, RefusesIn, RefusesSame}
-use Rattle.life_cli.specs.Jobs.{IsWantFor, WantsFor, RefusesMany, Compares, made_text, made_status, HasAnswer, Makes, Writes, Worked, Breaks, HasText, FileRefuses}
+use Rattle.life_cli.specs.Jobs.{by_first, by_second, by_form, by_first_shortage, by_second_shortage, RefusesInForm, RefusesSame}
+use Rattle.life_cli.specs.Jobs.{IsWantFor, WantsFor, RefusesMany, Compares, made_text, made_status, HasAnswer, Makes, Writes, Worked, BreaksOff, HasText, FileRefuses}
 use Rattle.life_cli.specs.Jobs.{by_reading, by_writing, by_telling}
 use Rattle.life_cli.specs.Jobs.{RefusesStep, HasTable, HasNoTable, table_by_input, table_by_lines}
 use Rattle.life_cli.specs.Jobs.{table_by_memory, OfFile, JobRefuses}
@@ -66,15 +66,15 @@ refused_rle source store pattern (Err fault) has (inl memory) = by_want (inl mem
 refused_rle source store pattern (Err fault) has (inr many) = by_file has.bytes has.read (inr (many.0, many.1 has.bytes has.is))
 
 -- no text in a form
-pub refused_in : (form : Form) (bytes : List ℕ) (fault : Fault) → Refuses MAX_LEVEL bytes fault → RefusesIn form bytes fault
+pub refused_in : (form : Form) (bytes : List ℕ) (fault : Fault) → Refuses MAX_LEVEL bytes fault → RefusesInForm form bytes fault
 refused_in Placed bytes fault h = h
 refused_in Moved bytes fault h = inl (inl h)
 refused_in Turned bytes fault h = inl h
 
 pub refused_text : {X : Type 0} (form : Form) (source : SourceRun) (store : Nodes) (pattern : Pattern) (r : Result X Fault)
     → HasRead MAX_LEVEL (2 ^ 30) store source pattern
-    → IfErr r (λ fault. (fault ≡ fault_of Memory) ⊎ ((b : List ℕ) → IsRead MAX_LEVEL b store pattern → RefusesIn form b fault))
-    → IfErr r (HasNoText (RefusesIn form) source)
+    → IfErr r (λ fault. (fault ≡ fault_of Memory) ⊎ ((b : List ℕ) → IsRead MAX_LEVEL b store pattern → RefusesInForm form b fault))
+    → IfErr r (HasNoText (RefusesInForm form) source)
 refused_text form source store pattern (Ok x) has h = tt
 refused_text form source store pattern (Err fault) has (inl memory) = by_want (inl memory)
 refused_text form source store pattern (Err fault) has (inr refuses) = by_file has.bytes has.read (refuses has.bytes has.is)
@@ -228,17 +228,17 @@ worked job first second output made makes written = record { text = made_text ma
 
 -- it could not be written
 broken_text : (gives : List ℕ → List ℕ → Type 0) (refuses : List ℕ → Fault → Type 0) (source : SourceRun) (output : SinkRun) (bytes text : List ℕ)
-    (fault : Fault) → ReadAll (2 ^ 30) source.before source.after bytes → gives bytes text → Breaks output text fault
+    (fault : Fault) → ReadAll (2 ^ 30) source.before source.after bytes → gives bytes text → BreaksOff output text fault
     → FileRefuses gives refuses source output fault
 broken_text gives refuses source output bytes text fault read is broken = by_writing text (record { bytes = bytes; read = read; is = is }) broken
 
-pub unwritten : (job : Job) (first second : SourceRun) (output : SinkRun) (made : Made) (refusal : Refusal) → ¬ WritesCanonical job
-    → Makes job first second made → OfFile (Breaks output (made_text made)) refusal → JobRefuses job first second output refusal
+pub unwritten : (job : Job) (first second : SourceRun) (output : SinkRun) (made : Made) (refusal : Refusal) → ¬ WritesPlacedText job
+    → Makes job first second made → OfFile (BreaksOff output (made_text made)) refusal → JobRefuses job first second output refusal
 unwritten (Canon Placed) first second output made refusal other makes broken = absurd (other tt)
 unwritten (Canon Moved) first second output made refusal other makes broken =
-    (broken.0, broken_text (IsTextIn Moved MAX_LEVEL) (RefusesIn Moved) first output _ _ refusal.fault makes.first_read makes.writes.1 broken.1)
+    (broken.0, broken_text (IsTextIn Moved MAX_LEVEL) (RefusesInForm Moved) first output _ _ refusal.fault makes.first_read makes.writes.1 broken.1)
 unwritten (Canon Turned) first second output made refusal other makes broken =
-    (broken.0, broken_text (IsTextIn Turned MAX_LEVEL) (RefusesIn Turned) first output _ _ refusal.fault makes.first_read makes.writes.1 broken.1)
+    (broken.0, broken_text (IsTextIn Turned MAX_LEVEL) (RefusesInForm Turned) first output _ _ refusal.fault makes.first_read makes.writes.1 broken.1)
 unwritten (Convert Rle) first second output made refusal other makes broken =
     (broken.0, broken_text (IsRleOf MAX_LEVEL (2 ^ 20)) RefusesMany first output _ _ refusal.fault makes.first_read makes.writes.1 broken.1)
 unwritten (Convert Mc) first second output made refusal other makes broken = absurd (other tt)
@@ -255,14 +255,14 @@ unwritten StepTable first second output made refusal other makes broken =
     inr (broken.0, (made_text made, (table, has, stepped), broken.1))
 
 -- nothing comes of a pattern in a form
-pub refused_form : (form : Form) (first second : SourceRun) (output : SinkRun) (refusal : Refusal) → ¬ WritesCanonical (Canon form)
-    → OfFile (HasNoText (RefusesIn form) first) refusal → JobRefuses (Canon form) first second output refusal
+pub refused_form : (form : Form) (first second : SourceRun) (output : SinkRun) (refusal : Refusal) → ¬ WritesPlacedText (Canon form)
+    → OfFile (HasNoText (RefusesInForm form) first) refusal → JobRefuses (Canon form) first second output refusal
 refused_form Placed first second output refusal other h = absurd (other tt)
 refused_form Moved first second output refusal other h = (h.0, by_reading h.1)
 refused_form Turned first second output refusal other h = (h.0, by_reading h.1)
 
 -- a job that writes the canonical text of its file's pattern as that lies
-canonical_as : (job : Job) (first second : SourceRun) (output : SinkRun) → WritesCanonical job → Worked (Canon Placed) 0 first second output
+canonical_as : (job : Job) (first second : SourceRun) (output : SinkRun) → WritesPlacedText job → Worked (Canon Placed) 0 first second output
     → Worked job 0 first second output
 canonical_as (Canon Placed) first second output is done = done
 canonical_as (Canon Moved) first second output is done = absurd is
@@ -284,7 +284,7 @@ canonical_as Show first second output is done = absurd is
 canonical_as Step first second output is done = absurd is
 canonical_as StepTable first second output is done = absurd is
 
-pub worked_canonical : (job : Job) (first second : SourceRun) (output : SinkRun) (r : Result ℕ Refusal) → WritesCanonical job
+pub worked_canonical : (job : Job) (first second : SourceRun) (output : SinkRun) (r : Result ℕ Refusal) → WritesPlacedText job
     → IfOk r (λ status. status ≡ 0) → OnOk r ((second : SourceRun) → Worked (Canon Placed) 0 first second output)
     → IfOk r (λ status. Worked job status first second output)
 worked_canonical job first second output (Ok status) is zero done =

@@ -29,9 +29,9 @@ use Rattle.life_cli.specs.declared.plans.Form.TheVariants.{Placed, Moved, Turned
 use Rattle.life_cli.specs.declared.plans.Job.{Job}
 use Rattle.life_cli.specs.declared.plans.Job.TheVariants.{Canon, Convert, Same, Show, Step, StepTable}
 use Rattle.life_cli.specs.declared.plans.Target.TheVariants.{Rle, Mc}
-use Rattle.life_cli.specs.declared.telling.Refusal.{Refusal}
-use Rattle.life_cli.specs.declared.working.Made.{Made}
-use Rattle.life_cli.specs.declared.working.Made.TheVariants.{Text, Comparison}
+use Rattle.life_cli.specs.declared.refusals.Refusal.{Refusal}
+use Rattle.life_cli.specs.declared.jobs.Made.{Made}
+use Rattle.life_cli.specs.declared.jobs.Made.TheVariants.{Text, Comparison}
 
 -- the status and the line of two files that are compared in a form
 abbrev pub Compares : Form → List ℕ → List ℕ → ℕ → List ℕ → Type 0
@@ -91,7 +91,7 @@ abbrev pub Wants : SourceRun → Fault → Type 0
 Wants source fault = (fault ≡ fault_of Memory) ⊎ ((store : Nodes) × (store.limit ≡ 2 ^ 31) × IsWantFor source store fault)
 
 -- a prefix of the text was written, and the sink failed or took no bytes
-pub record Breaks (output : SinkRun) (text : List ℕ) (fault : Fault) : Type 0 where
+pub record BreaksOff (output : SinkRun) (text : List ℕ) (fault : Fault) : Type 0 where
   pub is : fault ≡ fault_of WriteFault
   pub written : WritesPrefix output.before output.after text
   pub cause : (output.failures ≡ 1) ⊎ (output.stalled ≡ true)
@@ -112,14 +112,14 @@ pub data HasNoText (refuses : List ℕ → Fault → Type 0) (source : SourceRun
 pub data FileRefuses (gives : List ℕ → List ℕ → Type 0) (refuses : List ℕ → Fault → Type 0) (source : SourceRun) (output : SinkRun)
     (fault : Fault) : Type 0 where
   by_reading : HasNoText refuses source fault → FileRefuses gives refuses source output fault
-  by_writing : (text : List ℕ) → HasText gives source text → Breaks output text fault → FileRefuses gives refuses source output fault
+  by_writing : (text : List ℕ) → HasText gives source text → BreaksOff output text fault → FileRefuses gives refuses source output fault
 
 -- all of a file was read, and the store has its pattern; or this is the fault of the file
-pub record IsHeld (store : Nodes) (source : SourceRun) (held : Result Pattern Fault) : Type 0 where
+pub record IsPatternIn (store : Nodes) (source : SourceRun) (found : Result Pattern Fault) : Type 0 where
   pub bytes : List ℕ
   pub read : ReadAll (2 ^ 30) source.before source.after bytes
-  pub pattern : IfOk held (IsRead MAX_LEVEL bytes store)
-  pub fault : IfErr held (Refuses MAX_LEVEL bytes)
+  pub pattern : IfOk found (IsRead MAX_LEVEL bytes store)
+  pub fault : IfErr found (Refuses MAX_LEVEL bytes)
 
 -- a call found that a store of 2^31 squares holds its limit and lacks what the call needs, or a growth of memory was refused to it
 abbrev pub WantsFor : (Nodes → Type 0) → Fault → Type 0
@@ -152,7 +152,7 @@ pub data AreUncompared (form : Form) (first second : SourceRun) (fault : Fault) 
 -- why the comparison of two files is refused: there is none, or its line could not be written
 pub data SameRefuses (form : Form) (first second : SourceRun) (output : SinkRun) (fault : Fault) : Type 0 where
   by_comparing : AreUncompared form first second fault → SameRefuses form first second output fault
-  by_telling : (status : ℕ) (text : List ℕ) → HasAnswer (Same form) first second status text → Breaks output text fault
+  by_telling : (status : ℕ) (text : List ℕ) → HasAnswer (Same form) first second status text → BreaksOff output text fault
       → SameRefuses form first second output fault
 
 -- why bytes have no text that takes a list of cells: they are no file, or one with too many cells
@@ -160,10 +160,10 @@ abbrev pub RefusesMany : List ℕ → Fault → Type 0
 RefusesMany bytes fault = Refuses MAX_LEVEL bytes fault ⊎ ((fault ≡ fault_of TooManyCells) × HasMoreCells MAX_LEVEL bytes (2 ^ 20))
 
 -- why bytes have no text in a form
-abbrev pub RefusesIn : Form → List ℕ → Fault → Type 0
-RefusesIn Placed bytes fault = Refuses MAX_LEVEL bytes fault
-RefusesIn Moved bytes fault = RefusesMany bytes fault ⊎ WantsFor (LacksToMove bytes) fault
-RefusesIn Turned bytes fault = RefusesMany bytes fault
+abbrev pub RefusesInForm : Form → List ℕ → Fault → Type 0
+RefusesInForm Placed bytes fault = Refuses MAX_LEVEL bytes fault
+RefusesInForm Moved bytes fault = RefusesMany bytes fault ⊎ WantsFor (LacksToMove bytes) fault
+RefusesInForm Turned bytes fault = RefusesMany bytes fault
 
 -- why a run of `run_canon` in a store of 2^31 squares is refused
 abbrev pub CanonRefuses : SourceRun → SinkRun → Fault → Type 0
@@ -219,11 +219,11 @@ HasNoTextByTable first second refusal = (OfTable (HasNoTable second) refusal × 
 -- why a job is refused with this fault, and what it left of its files and the output
 abbrev pub JobRefuses : Job → (first second : SourceRun) → SinkRun → Refusal → Type 0
 JobRefuses (Canon Placed) first second output refusal = OfFile (CanonRefuses first output) refusal
-JobRefuses (Canon form) first second output refusal = OfFile (FileRefuses (IsTextIn form MAX_LEVEL) (RefusesIn form) first output) refusal
+JobRefuses (Canon form) first second output refusal = OfFile (FileRefuses (IsTextIn form MAX_LEVEL) (RefusesInForm form) first output) refusal
 JobRefuses (Convert Rle) first second output refusal = OfFile (FileRefuses (IsRleOf MAX_LEVEL (2 ^ 20)) RefusesMany first output) refusal
 JobRefuses (Convert Mc) first second output refusal = OfFile (CanonRefuses first output) refusal
 JobRefuses (Same form) first second output refusal = OfFile (SameRefuses form first second output) refusal
 JobRefuses Show first second output refusal = OfFile (FileRefuses (IsShown MAX_LEVEL) (Refuses MAX_LEVEL) first output) refusal
 JobRefuses Step first second output refusal = OfFile (FileRefuses IsStepped RefusesStep first output) refusal
 JobRefuses StepTable first second output refusal = HasNoTextByTable first second refusal
-    ⊎ OfFile (λ fault. (text : List ℕ) × HasTextByTable first second text × Breaks output text fault) refusal
+    ⊎ OfFile (λ fault. (text : List ℕ) × HasTextByTable first second text × BreaksOff output text fault) refusal

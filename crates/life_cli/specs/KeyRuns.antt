@@ -14,15 +14,15 @@ use Rattle.life_base.specs.declared.cell.TheConstants.{MAX_LEVEL}
 use Rattle.life_base.specs.declared.kind.Kind.{Kind}
 use Rattle.life_base.specs.declared.kind.Kind.TheVariants as kinds
 use Rattle.life_cli.specs.Faults.{fault_line, refusal_of, status_of, Tells}
-use Rattle.life_cli.specs.Jobs.{HasNoText, HasText, InputRefuses, RefusesIn}
+use Rattle.life_cli.specs.Jobs.{HasNoText, HasText, InputRefuses, RefusesInForm}
 use Rattle.life_cli.specs.Keys.{end_of, IsKeyIn, key_line, pieces_of, refused_line, unopened_line}
-use Rattle.life_cli.specs.Opening.{Gives, IsOriginOf}
+use Rattle.life_cli.specs.Origins.{Gives, IsOriginOf}
 use Rattle.life_cli.specs.declared.keys.outputs.Outputs.{Outputs}
 use Rattle.life_cli.specs.declared.keys.outcome.Outcome.{Outcome}
 use Rattle.life_cli.specs.declared.keys.outcome.Outcome.TheVariants.{Key, Refused, Unopened}
-use Rattle.life_cli.specs.declared.opening.Opened.{Opened}
-use Rattle.life_cli.specs.declared.opening.Origin.{Origin}
-use Rattle.life_cli.specs.declared.opening.Origin.TheVariants.{Standard, File}
+use Rattle.life_cli.specs.declared.origins.Opened.{Opened}
+use Rattle.life_cli.specs.declared.origins.Origin.{Origin}
+use Rattle.life_cli.specs.declared.origins.Origin.TheVariants.{Standard, File}
 use Rattle.life_cli.specs.declared.plans.Form.{Form}
 use Rattle.life_cli.specs.declared.plans.KeysPlan.{KeysPlan}
 
@@ -113,7 +113,7 @@ module _ {F R : Type 0} (step : F → Origin → Result (Opened R) IoError → F
   -- what comes of what an opener gave: a key in the form, or why there is none
   abbrev pub Comes : Result (Opened R) IoError → Outcome → Type 0
   Comes (Ok opened) (Key key) = (source : SourceRun) × (source.before ≡ remaining opened.input) × HasText (IsKeyIn form MAX_LEVEL) source key
-  Comes (Ok opened) (Refused fault) = (source : SourceRun) × (source.before ≡ remaining opened.input) × HasNoText (RefusesIn form) source fault
+  Comes (Ok opened) (Refused fault) = (source : SourceRun) × (source.before ≡ remaining opened.input) × HasNoText (RefusesInForm form) source fault
   Comes (Err error) (Unopened kind) = kind ≡ error_kind error
   Comes _ _ = ⊥
 

@@ -45,10 +45,10 @@ HasSecond StepTable = Unit {0}
 HasSecond _ = ⊥
 
 -- the job writes the canonical text of its file's pattern as that lies
-abbrev pub WritesCanonical : Job → Type 0
-WritesCanonical (Canon Placed) = Unit {0}
-WritesCanonical (Convert Mc) = Unit {0}
-WritesCanonical _ = ⊥
+abbrev pub WritesPlacedText : Job → Type 0
+WritesPlacedText (Canon Placed) = Unit {0}
+WritesPlacedText (Convert Mc) = Unit {0}
+WritesPlacedText _ = ⊥
 
 -- the only file is FILE
 abbrev pub HoldsFile : List Row → Plan → Type 0

@@ -2,13 +2,13 @@
 
 ghost use Rattle.std.specs.Prelude.{◌≡◌, IfOk, IfErr, IsErrAnd};
 ghost use Rattle.life_base.specs.DeviceRuns.{source_run};
-ghost use Rattle.life_cli.specs.Jobs.{HasNoText, HasText, RefusesIn};
+ghost use Rattle.life_cli.specs.Jobs.{HasNoText, HasText, RefusesInForm};
 ghost use Rattle.life_cli.specs.Keys.{IsKeyIn};
 
-use crate::forming::text_of_source;
+use crate::forms::text_of_source;
+use crate::jobs::MOST_SQUARES;
 use crate::plans::Form;
 use crate::seeds::Seeds;
-use crate::working::MOST_SQUARES;
 use key_sink::KeySink;
 use life_base::{Fault, Kind, MAX_LEVEL, Source};
 use life_canon::run_canon;
@@ -18,19 +18,19 @@ use std::alloc::Global;
 
 mod files;
 mod lines;
-mod listing;
+mod names;
 mod outcome;
 mod outputs;
-mod running;
+mod runs;
 
-pub use running::write_keys;
+pub use runs::write_keys;
 
 /// The key of a source's pattern as it lies. Its text is hashed as it is made, and not held.
 fn placed_key<A: Source>(alloc: Global, seeds: &Seeds, source: &mut A) -> Result<[u8; 32], Fault>
     requires { A.failures source.old ≡ 0 }
     ensures ok { IfOk result (HasText (IsKeyIn Form.Placed MAX_LEVEL)
         (source_run A.remaining A.failures source.old source.new)) }
-    ensures err { IfErr result (HasNoText (RefusesIn Form.Placed)
+    ensures err { IfErr result (HasNoText (RefusesInForm Form.Placed)
         (source_run A.remaining A.failures source.old source.new)) }
     ensures told { A.failures source.new ≡ 1
         → IsErrAnd result (λ fault. fault.kind ≡ Kind.ReadFault) }
@@ -52,7 +52,7 @@ fn key_of_text<A: Source>(
     ensures ok { IfOk result (HasText (IsKeyIn form MAX_LEVEL)
         (source_run A.remaining A.failures source.old source.new)) }
     ensures err { IfErr result
-        (HasNoText (RefusesIn form) (source_run A.remaining A.failures source.old source.new)) }
+        (HasNoText (RefusesInForm form) (source_run A.remaining A.failures source.old source.new)) }
     ensures told { A.failures source.new ≡ 1
         → IsErrAnd result (λ fault. fault.kind ≡ Kind.ReadFault) }
 {
@@ -73,7 +73,7 @@ pub(crate) fn key_of<A: Source>(
     ensures ok { IfOk result (HasText (IsKeyIn form MAX_LEVEL)
         (source_run A.remaining A.failures source.old source.new)) }
     ensures err { IfErr result
-        (HasNoText (RefusesIn form) (source_run A.remaining A.failures source.old source.new)) }
+        (HasNoText (RefusesInForm form) (source_run A.remaining A.failures source.old source.new)) }
     ensures told { A.failures source.new ≡ 1
         → IsErrAnd result (λ fault. fault.kind ≡ Kind.ReadFault) }
 {

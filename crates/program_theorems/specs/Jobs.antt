@@ -16,7 +16,7 @@ use Rattle.claims.specs.Generation.{SaysMoreCells, IsStepped, IsUnstepped}
 use Rattle.claims.specs.Table.{Table, table_of}
 use Rattle.claims.specs.ByTable.{IsSteppedBy, IsUnsteppedBy}
 use Rattle.program_theorems.specs.Forms.{SameIn, HasTooMany, IsTextIn}
-use Rattle.program_theorems.specs.Telling.{status_of, fault_line}
+use Rattle.program_theorems.specs.Faults.{status_of, fault_line}
 
 -- the job has a second file: the one that the first is compared with, or a rule table
 abbrev pub HasSecond : Job → Type 0
