@@ -1,7 +1,7 @@
 //! The work of a job.
 
-ghost use Rattle.std.specs.Prelude.{◌≡◌, ◌⊎◌, ◌↔◌, ◌<◌, ◌++◌, ℕ, List, [], take, true, false, Some, IsSome, IfSome, IsSomeAnd};
-ghost use Rattle.program_theorems.specs.Jobs.{HasSecond, Answers, IsShort, IsRefused, Holds};
+ghost use Rattle.std.specs.Prelude.{◌≡◌, ◌⊎◌, ◌<◌, ◌++◌, ℕ, List, [], take, true, false, Some, IfSome, IsSomeAnd};
+ghost use Rattle.program_theorems.specs.Jobs.{HasSecond, IsGiven, Answers, IsShort, IsRefused, Holds};
 
 use crate::laws::layers_agree;
 use life_base::{Sink, Source};
@@ -21,13 +21,8 @@ pub fn does_its_job<A: Source, B: Source, O: Sink, E: Sink>(
     out: &mut O,
     err: &mut E,
 ) -> u8
-    requires first_reads { A.failures first.old ≡ 0 }
-    requires second_reads { IfSome second.old (λ b. B.failures b ≡ 0) }
-    requires second_given { IsSome second.old ↔ HasSecond job.now }
-    requires writes { O.failures out.old ≡ 0 }
-    requires takes { O.stalled out.old ≡ false }
-    requires tells { E.failures err.old ≡ 0 }
-    requires hears { E.stalled err.old ≡ false }
+    requires { IsGiven job.now (A.failures first.old) B.failures second.old
+        (O.failures out.old) (O.stalled out.old) (E.failures err.old) (E.stalled err.old) }
     ensures done { (file other : List ℕ) → A.remaining first.old ≡ Some file
         → IfSome second.old (λ b. B.remaining b ≡ Some other) → result < 2
         → (text : List ℕ) × Answers job.now file other result text
