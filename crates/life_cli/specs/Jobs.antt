@@ -1,5 +1,5 @@
 -- What a job writes, by the bytes of its files, and why it is refused.
-use Rattle.std.specs.Prelude.{◌≡◌, ◌⊎◌, ◌^◌, ℕ, true, false, List, Some, Result, IfOk, IfErr, codes, if◌then◌else◌}
+use Rattle.std.specs.Prelude.{◌≡◌, ◌⊎◌, ◌<◌, ◌^◌, ℕ, true, false, List, Some, Result, IfOk, IfErr, IsErrAnd, codes, if◌then◌else◌}
 use Rattle.std.specs.Io.KnownBytes.{Appends}
 use Rattle.life_base.specs.DeviceRuns.{SourceRun, SinkRun}
 use Rattle.life_base.specs.Inputs.{ReadAll, CameBeyond}
@@ -107,6 +107,13 @@ pub data HasNoText (refuses : List ℕ → Fault → Type 0) (source : SourceRun
   by_input : InputRefuses source fault → HasNoText refuses source fault
   by_file : (bytes : List ℕ) → ReadAll (2 ^ 30) source.before source.after bytes → refuses bytes fault → HasNoText refuses source fault
   by_want : Wants source fault → HasNoText refuses source fault
+
+-- what comes of a file: what `gives` relates to its bytes, or why there is nothing; and where its source failed, that is told
+pub record ComesOf {A : Type 0} (items : A → List ℕ) (gives : List ℕ → List ℕ → Type 0) (refuses : List ℕ → Fault → Type 0) (source : SourceRun)
+    (result : Result A Fault) : Type 0 where
+  pub ok : IfOk result (λ a. HasText gives source (items a))
+  pub err : IfErr result (HasNoText refuses source)
+  pub told : source.failures ≡ 1 → IsErrAnd result (λ fault. fault.kind ≡ ReadFault)
 
 -- why a job of one file is refused: nothing comes of it, or its text could not be written
 pub data FileRefuses (gives : List ℕ → List ℕ → Type 0) (refuses : List ℕ → Fault → Type 0) (source : SourceRun) (output : SinkRun)
@@ -227,3 +234,17 @@ JobRefuses Show first second output refusal = OfFile (FileRefuses (IsShown MAX_L
 JobRefuses Step first second output refusal = OfFile (FileRefuses IsStepped RefusesStep first output) refusal
 JobRefuses StepTable first second output refusal = HasNoTextByTable first second refusal
     ⊎ OfFile (λ fault. (text : List ℕ) × HasTextByTable first second text × BreaksOff output text fault) refusal
+
+-- what comes of a job before anything is written: what it makes of its files, or why it is refused, whatever the output; and where a source
+-- failed, that is told
+pub record MadeOf (job : Job) (first second : SourceRun) (result : Result Made Refusal) : Type 0 where
+  pub ok : IfOk result (Makes job first second)
+  pub err : IfErr result (λ refusal. (output : SinkRun) → JobRefuses job first second output refusal)
+  pub told : (first.failures ≡ 1) ⊎ (second.failures ≡ 1) → IsErrAnd result (λ refusal. refusal.fault.kind ≡ ReadFault)
+
+-- what became of a job: it was done, with its status; or why it was refused; and a device that failed, or took no bytes, is told
+pub record JobRan (job : Job) (first second : SourceRun) (output : SinkRun) (result : Result ℕ Refusal) : Type 0 where
+  pub done : IfOk result (λ status. (status < 2) × Worked job status first second output)
+  pub refused : IfErr result (JobRefuses job first second output)
+  pub read_told : (first.failures ≡ 1) ⊎ (second.failures ≡ 1) → IsErrAnd result (λ refusal. refusal.fault.kind ≡ ReadFault)
+  pub write_told : (output.failures ≡ 1) ⊎ (output.stalled ≡ true) → IsErrAnd result (λ refusal. refusal.fault.kind ≡ WriteFault)

@@ -1,5 +1,5 @@
 -- What a run of the command `keys` comes to, file by file, and what it writes of that. The project's own.
-use Rattle.std.specs.Prelude.{◌≡◌, ◌⊎◌, ◌^◌, ℕ, Bool, true, false, not, max, List, [], ◌∷◌, ◌++◌, map, filter, flat_map, option_map, Option, Some, None, Result, Ok, Err, IsUtf8}
+use Rattle.std.specs.Prelude.{◌≡◌, ◌⊎◌, ◌^◌, ℕ, Bool, true, false, not, max, List, [], ◌∷◌, ◌++◌, map, filter, flat_map, option_map, Option, Some, None, Result, Ok, Err, OnOk, IsUtf8}
 use Rattle.std.specs.List.{FoldsTo}
 use Rattle.std.specs.IoError.{error_kind}
 use Rattle.std.specs.Io.KnownBytes.{Appends}
@@ -186,3 +186,9 @@ module _ {F R W E : Type 0} (step : F → Origin → Result (Opened R) IoError �
     pub takes : TakesAll step remaining form opener_old taken opener_new
     pub writes : Writes held contents failures stalled out_old out_new err_old err_new old new result (output_of old.zero taken) (errors_of taken)
         (greatest_status taken)
+
+  -- The same of all these names, or at a refusal of the first ones.
+  abbrev pub TakesNames : Form → List Name → (opener_old opener_new : F) (out_old out_new : W) (err_old err_new : E) (old new : Outputs)
+      → Result (Unit {0}) Kind → Type 0
+  TakesNames form names opener_old opener_new out_old out_new err_old err_new old new result =
+      (rest : List Name) × OnOk result (rest ≡ []) × TakesFiles form names rest opener_old opener_new out_old out_new err_old err_new old new result

@@ -1,13 +1,13 @@
 //! The work of the jobs that take a pattern in a form.
 
-ghost use Rattle.std.specs.Prelude.{◌≡◌, ◌⊎◌, ◌↔◌, ◌^◌, ◌<◌, ◌≤◌, Err, IfOk, IfErr, OnOk, IsErrAnd, IsTrue, List, ℕ};
+ghost use Rattle.std.specs.Prelude.{◌≡◌, ◌⊎◌, ◌↔◌, ◌^◌, ◌<◌, ◌≤◌, Err, IfOk, IfErr, OnOk, IsTrue, List, ℕ};
 ghost use Rattle.life_base.specs.DeviceRuns.{source_run};
 ghost use Rattle.life_base.specs.Refusal.{fault_of};
 ghost use Rattle.life_quad.specs.Cells.{population};
 ghost use Rattle.life_canon.specs.Store.{IsOfFile, IsRead, IsTrimmed, IsWant, Keeps, content, universe_in};
 ghost use Rattle.life_forms.specs.Needed.{LacksForMoved};
 ghost use Rattle.life_cli.specs.Forms.{AreSameIn, HasTooMany, IsMovedText, IsTextIn};
-ghost use Rattle.life_cli.specs.Jobs.{HasNoText, HasText, RefusesInForm, RefusesSame};
+ghost use Rattle.life_cli.specs.Jobs.{ComesOf, RefusesInForm, RefusesSame};
 
 use crate::jobs::MOST_SQUARES;
 use crate::plans::Form;
@@ -67,12 +67,8 @@ pub(crate) fn text_of_source<A: Source>(
     first: &mut A,
 ) -> Result<Vec<u8>, Fault>
     requires { A.failures first.old ≡ 0 }
-    ensures ok { IfOk result (λ text. HasText (IsTextIn form MAX_LEVEL)
-        (source_run A.remaining A.failures first.old first.new) text.items) }
-    ensures err { IfErr result
-        (HasNoText (RefusesInForm form) (source_run A.remaining A.failures first.old first.new)) }
-    ensures told { A.failures first.new ≡ 1
-        → IsErrAnd result (λ fault. fault.kind ≡ Kind.ReadFault) }
+    ensures { ComesOf (λ text. text.items) (IsTextIn form MAX_LEVEL) (RefusesInForm form)
+        (source_run A.remaining A.failures first.old first.new) result }
 {
     let mut store = Shared::new(alloc, seeds.squares, MOST_SQUARES);
     let pattern = read_from(alloc, &mut store, first)?;

@@ -1,14 +1,14 @@
 //! The work of a job.
 
-ghost use Rattle.std.specs.Prelude.{◌≡◌, ◌≢◌, ◌⊎◌, ◌<◌, ◌↔◌, ◌^◌, IsSome, IfSome, IfOk, IfErr, OnOk, IsErrAnd, IsTrue, true, false};
+ghost use Rattle.std.specs.Prelude.{◌≡◌, ◌≢◌, ◌⊎◌, ◌<◌, ◌↔◌, ◌^◌, IsSome, IfSome, IfOk, IfErr, OnOk, IsErrAnd, IsTrue, Ok, Err, true, false};
 ghost use Rattle.std.specs.Io.KnownBytes.{Appends};
 ghost use Rattle.life_base.specs.DeviceRuns.{SinkRun, SourceRun, source_run, optional_source_run, sink_run};
 ghost use Rattle.life_cli.specs.declared.refusals.Refusal.{Refusal};
 ghost use Rattle.life_canon.specs.Files.{Refuses};
 ghost use Rattle.life_canon.specs.Store.{Keeps};
 ghost use Rattle.life_canon.specs.Texts.{IsRleOf, IsShown};
-ghost use Rattle.life_cli.specs.Faults.{fault_line, status_of, Tells};
-ghost use Rattle.life_cli.specs.Jobs.{made_status, made_text, Makes, Worked, OfFile, InputRefuses, BreaksOff, HasText, HasNoText, AreUncompared, CanonRefuses, IsPatternIn, IsWantFor, JobRefuses, RefusesMany};
+ghost use Rattle.life_cli.specs.Faults.{fault_line, refusal_of, status_of, Tells};
+ghost use Rattle.life_cli.specs.Jobs.{made_status, made_text, MadeOf, Makes, Worked, OfFile, InputRefuses, BreaksOff, ComesOf, AreUncompared, CanonRefuses, IsPatternIn, IsWantFor, JobRan, JobRefuses, RefusesMany};
 ghost use Rattle.life_cli.specs.Plans.{HasSecond, WritesPlacedText};
 
 use crate::forms::{are_same_in, text_of_source};
@@ -77,12 +77,8 @@ fn write_whole<W: Sink>(writer: &mut W, text: &[u8]) -> Result<(), Refusal>
 /// The text in extended RLE of a source's pattern.
 fn rle_of_source<A: Source>(alloc: Global, seeds: &Seeds, first: &mut A) -> Result<Vec<u8>, Fault>
     requires { A.failures first.old ≡ 0 }
-    ensures ok { IfOk result (λ text. HasText (IsRleOf MAX_LEVEL (2 ^ 20))
-        (source_run A.remaining A.failures first.old first.new) text.items) }
-    ensures err { IfErr result
-        (HasNoText RefusesMany (source_run A.remaining A.failures first.old first.new)) }
-    ensures told { A.failures first.new ≡ 1
-        → IsErrAnd result (λ fault. fault.kind ≡ Kind.ReadFault) }
+    ensures { ComesOf (λ text. text.items) (IsRleOf MAX_LEVEL (2 ^ 20)) RefusesMany
+        (source_run A.remaining A.failures first.old first.new) result }
 {
     let mut store = Shared::new(alloc, seeds.squares, MOST_SQUARES);
     let pattern = read_from(alloc, &mut store, first)?;
@@ -96,12 +92,8 @@ fn five_lines_of_source<A: Source>(
     first: &mut A,
 ) -> Result<Vec<u8>, Fault>
     requires { A.failures first.old ≡ 0 }
-    ensures ok { IfOk result (λ text. HasText (IsShown MAX_LEVEL)
-        (source_run A.remaining A.failures first.old first.new) text.items) }
-    ensures err { IfErr result
-        (HasNoText (Refuses MAX_LEVEL) (source_run A.remaining A.failures first.old first.new)) }
-    ensures told { A.failures first.new ≡ 1
-        → IsErrAnd result (λ fault. fault.kind ≡ Kind.ReadFault) }
+    ensures { ComesOf (λ text. text.items) (IsShown MAX_LEVEL) (Refuses MAX_LEVEL)
+        (source_run A.remaining A.failures first.old first.new) result }
 {
     let mut store = Shared::new(alloc, seeds.squares, MOST_SQUARES);
     let pattern = read_from(alloc, &mut store, first)?;
@@ -169,6 +161,39 @@ fn compared<A: Source, B: Source>(
     are_same_in(alloc, &mut store, form, &a?, &b?)
 }
 
+/// A text that was made, or the refusal with its fault, which is none of a table.
+fn made_from_text(text: Result<Vec<u8>, Fault>) -> Result<Made, Refusal>
+    ensures text { IfOk text (λ text. result ≡ Ok (Made.Text text)) }
+    ensures fault { IfErr text (λ fault. result ≡ Err (refusal_of fault)) }
+{
+    match text {
+        Ok(text) => Ok(Made::Text(text)),
+        Err(fault) => Err(fault.into()),
+    }
+}
+
+/// The same of a comparison.
+fn made_from_comparison(is_same: Result<bool, Fault>) -> Result<Made, Refusal>
+    ensures answer { IfOk is_same (λ is_same. result ≡ Ok (Made.Comparison is_same)) }
+    ensures fault { IfErr is_same (λ fault. result ≡ Err (refusal_of fault)) }
+{
+    match is_same {
+        Ok(is_same) => Ok(Made::Comparison(is_same)),
+        Err(fault) => Err(fault.into()),
+    }
+}
+
+/// A text that was made by a table, or the refusal.
+fn made_from_step(text: Result<Vec<u8>, Refusal>) -> Result<Made, Refusal>
+    ensures text { IfOk text (λ text. result ≡ Ok (Made.Text text)) }
+    ensures refusal { IfErr text (λ refusal. result ≡ Err refusal) }
+{
+    match text {
+        Ok(text) => Ok(Made::Text(text)),
+        Err(refusal) => Err(refusal),
+    }
+}
+
 /// What is written for a job, of those that don't write the canonical text of a file's pattern as that lies.
 fn make<A: Source, B: Source>(
     alloc: Global,
@@ -181,31 +206,23 @@ fn make<A: Source, B: Source>(
     requires second_reads { IfSome second.old (λ b. B.failures b ≡ 0) }
     requires second_given { IsSome second.old ↔ HasSecond job.now }
     requires other { ¬ WritesPlacedText job.now }
-    ensures ok { IfOk result (Makes job.now
-        (source_run A.remaining A.failures first.old first.new)
-        (optional_source_run B.remaining B.failures second.old second.new)) }
-    ensures err { IfErr result (λ refusal. (output : SinkRun)
-        → JobRefuses job.now (source_run A.remaining A.failures first.old first.new)
-        (optional_source_run B.remaining B.failures second.old second.new) output refusal) }
-    ensures first_told { A.failures first.new ≡ 1
-        → IsErrAnd result (λ refusal. refusal.fault.kind ≡ Kind.ReadFault) }
-    ensures second_told { IfSome second.new
-        (λ b. B.failures b ≡ 1 → IsErrAnd result (λ refusal. refusal.fault.kind ≡ Kind.ReadFault)) }
+    ensures { MadeOf job.now (source_run A.remaining A.failures first.old first.new)
+        (optional_source_run B.remaining B.failures second.old second.new) result }
 {
-    Ok(match (job, second) {
-        (Job::Canon(form), _) => Made::Text(text_of_source(alloc, seeds, *form, first)?),
-        (Job::Convert(Target::Rle), _) => Made::Text(rle_of_source(alloc, seeds, first)?),
+    match (job, second) {
+        (Job::Canon(form), _) => made_from_text(text_of_source(alloc, seeds, *form, first)),
+        (Job::Convert(Target::Rle), _) => made_from_text(rle_of_source(alloc, seeds, first)),
         (Job::Same(form), Some(second)) => {
-            Made::Comparison(compared(alloc, seeds, *form, first, second)?)
+            made_from_comparison(compared(alloc, seeds, *form, first, second))
         }
-        (Job::Show, _) => Made::Text(five_lines_of_source(alloc, seeds, first)?),
-        (Job::Step, _) => Made::Text(next_of(alloc, seeds, first)?),
-        (Job::StepTable, Some(second)) => Made::Text(next_by_table_of(
-            alloc, seeds, first, second,
-        )?),
+        (Job::Show, _) => made_from_text(five_lines_of_source(alloc, seeds, first)),
+        (Job::Step, _) => made_from_text(next_of(alloc, seeds, first)),
+        (Job::StepTable, Some(second)) => {
+            made_from_step(next_by_table_of(alloc, seeds, first, second))
+        }
         (Job::Same(_), None) | (Job::StepTable, None) => unreachable!(),
         (Job::Convert(Target::Mc), _) => unreachable!(),
-    })
+    }
 }
 
 /// Whether the job writes the canonical text of its file's pattern as that lies.
@@ -260,24 +277,12 @@ fn run<A: Source, B: Source, O: Sink>(
     requires second_given { IsSome second.old ↔ HasSecond job.now }
     requires writes { O.failures out.old ≡ 0 }
     requires takes { O.stalled out.old ≡ false }
-    ensures done { IfOk result (λ status. status < 2) }
-    ensures worked { IfOk result (λ status. Worked job.now status
-        (source_run A.remaining A.failures first.old first.new)
+    ensures ran { JobRan job.now (source_run A.remaining A.failures first.old first.new)
         (optional_source_run B.remaining B.failures second.old second.new)
-        (sink_run O.contents O.failures O.stalled out.old out.new)) }
+        (sink_run O.contents O.failures O.stalled out.old out.new) result }
     ensures flushed { OnOk result (O.flushed out.new ≡ true) }
-    ensures refused { IfErr result (JobRefuses job.now
-        (source_run A.remaining A.failures first.old first.new)
-        (optional_source_run B.remaining B.failures second.old second.new)
-        (sink_run O.contents O.failures O.stalled out.old out.new)) }
     ensures unwritten { IfErr result
         (λ refusal. refusal.fault.kind ≢ Kind.WriteFault → out.new ≡ out.old) }
-    ensures first_told { A.failures first.new ≡ 1
-        → IsErrAnd result (λ refusal. refusal.fault.kind ≡ Kind.ReadFault) }
-    ensures second_told { IfSome second.new
-        (λ b. B.failures b ≡ 1 → IsErrAnd result (λ refusal. refusal.fault.kind ≡ Kind.ReadFault)) }
-    ensures write_told { (O.failures out.new ≡ 1) ⊎ (O.stalled out.new ≡ true)
-        → IsErrAnd result (λ refusal. refusal.fault.kind ≡ Kind.WriteFault) }
 {
     if writes_placed_text(job) {
         return run_canonical(alloc, seeds, first, out);

@@ -5,7 +5,7 @@ ghost use Rattle.life_base.specs.DeviceRuns.{source_run};
 ghost use Rattle.life_base.specs.Inputs.{ReadAll};
 ghost use Rattle.life_base.specs.Refusal.{fault_of};
 ghost use Rattle.life_step.specs.Stepped.{IsStepped, IsSteppedBy};
-ghost use Rattle.life_cli.specs.Jobs.{InputRefuses, OfTable, HasText, HasNoText, RefusesStep, RefusesStepBy, HasTable, HasNoTable, HasTextByTable, HasNoTextByTable};
+ghost use Rattle.life_cli.specs.Jobs.{InputRefuses, OfTable, ComesOf, RefusesStep, RefusesStepBy, HasTable, HasNoTable, HasTextByTable, HasNoTextByTable};
 
 use crate::jobs::MOST_SQUARES;
 use crate::refusals::Refusal;
@@ -27,12 +27,8 @@ pub(crate) fn next_of<A: Source>(
     first: &mut A,
 ) -> Result<Vec<u8>, Fault>
     requires { A.failures first.old ≡ 0 }
-    ensures ok { IfOk result (λ text. HasText IsStepped
-        (source_run A.remaining A.failures first.old first.new) text.items) }
-    ensures err { IfErr result
-        (HasNoText RefusesStep (source_run A.remaining A.failures first.old first.new)) }
-    ensures told { A.failures first.new ≡ 1
-        → IsErrAnd result (λ fault. fault.kind ≡ Kind.ReadFault) }
+    ensures { ComesOf (λ text. text.items) IsStepped RefusesStep
+        (source_run A.remaining A.failures first.old first.new) result }
 {
     let mut store = Shared::new(alloc, seeds.squares, MOST_SQUARES);
     let pattern = read_from(alloc, &mut store, first)?;
@@ -47,12 +43,8 @@ fn next_by<A: Source>(
     table: &Table,
 ) -> Result<Vec<u8>, Fault>
     requires { A.failures first.old ≡ 0 }
-    ensures ok { IfOk result (λ text. HasText (IsSteppedBy table.now)
-        (source_run A.remaining A.failures first.old first.new) text.items) }
-    ensures err { IfErr result (HasNoText (RefusesStepBy table.now)
-        (source_run A.remaining A.failures first.old first.new)) }
-    ensures told { A.failures first.new ≡ 1
-        → IsErrAnd result (λ fault. fault.kind ≡ Kind.ReadFault) }
+    ensures { ComesOf (λ text. text.items) (IsSteppedBy table.now) (RefusesStepBy table.now)
+        (source_run A.remaining A.failures first.old first.new) result }
 {
     let mut store = Shared::new(alloc, seeds.squares, MOST_SQUARES);
     let pattern = read_from(alloc, &mut store, first)?;

@@ -1,10 +1,10 @@
 //! The command `keys`: its files, one after another.
 
-ghost use Rattle.std.specs.Prelude.{◌≡◌, OnOk, false, true, [], map};
+ghost use Rattle.std.specs.Prelude.{◌≡◌, OnOk, false, true, map};
 ghost use Rattle.life_base.specs.DeviceRuns.{sink_run};
 ghost use Rattle.life_base.specs.Writing.{LeavesSink};
 ghost use Rattle.life_cli.specs.Keys.{IsStatus, end_of};
-ghost use Rattle.life_cli.specs.KeyRuns.{Listed, names_among, names_in, Ran, TakesFiles, Word};
+ghost use Rattle.life_cli.specs.KeyRuns.{Listed, names_among, names_in, Ran, TakesNames, Word};
 
 use super::files::Files;
 use super::names::first_name;
@@ -36,9 +36,8 @@ impl<R: Read + Drop, F: FnMut(Origin<'_>) -> IoResult<Opened<R>> + Drop> Run<F> 
         requires works { W.failures out.old ≡ 0 }
         requires hears { self.old.outputs.tells ≡ true → E.failures err.old ≡ 0 }
         ensures callable { F.IsAlwaysCallable self.new.files.opener }
-        ensures took { (rest : _) × OnOk result (rest ≡ [])
-            × TakesFiles F.step R.remaining W.contents E.contents E.failures E.stalled
-            self.old.files.form (map Word (map (λ word. word.now) words.now)) rest
+        ensures took { TakesNames F.step R.remaining W.contents E.contents E.failures E.stalled
+            self.old.files.form (map Word (map (λ word. word.now) words.now))
             self.old.files.opener self.new.files.opener out.old out.new err.old err.new
             self.old.outputs self.new.outputs result }
         ensures sink { LeavesSink W.failures W.stalled out.old out.new result }
@@ -63,10 +62,9 @@ impl<R: Read + Drop, F: FnMut(Origin<'_>) -> IoResult<Opened<R>> + Drop> Run<F> 
         requires works { W.failures out.old ≡ 0 }
         requires hears { self.old.outputs.tells ≡ true → E.failures err.old ≡ 0 }
         ensures callable { F.IsAlwaysCallable self.new.files.opener }
-        ensures took { (rest : _) × OnOk result (rest ≡ [])
-            × TakesFiles F.step R.remaining W.contents E.contents E.failures E.stalled
+        ensures took { TakesNames F.step R.remaining W.contents E.contents E.failures E.stalled
             self.old.files.form (map Listed (names_in (end_of self.old.outputs.zero) list.now))
-            rest self.old.files.opener self.new.files.opener out.old out.new err.old err.new
+            self.old.files.opener self.new.files.opener out.old out.new err.old err.new
             self.old.outputs self.new.outputs result }
         ensures sink { LeavesSink W.failures W.stalled out.old out.new result }
     {
@@ -94,10 +92,9 @@ impl<R: Read + Drop, F: FnMut(Origin<'_>) -> IoResult<Opened<R>> + Drop> Run<F> 
         requires callable { F.IsAlwaysCallable self.old.files.opener }
         requires works { W.failures out.old ≡ 0 }
         requires hears { self.old.outputs.tells ≡ true → E.failures err.old ≡ 0 }
-        ensures took { (rest : _) × OnOk result (rest ≡ [])
-            × TakesFiles F.step R.remaining W.contents E.contents E.failures E.stalled
+        ensures took { TakesNames F.step R.remaining W.contents E.contents E.failures E.stalled
             self.old.files.form
-            (names_among self.old.outputs.zero (map (λ word. word.now) words.now) list.now) rest
+            (names_among self.old.outputs.zero (map (λ word. word.now) words.now) list.now)
             self.old.files.opener self.new.files.opener out.old out.new err.old err.new
             self.old.outputs self.new.outputs result }
         ensures sink { LeavesSink W.failures W.stalled out.old out.new result }

@@ -15,15 +15,25 @@ use clap::{ArgMatches, Command};
 use std::alloc::Global;
 use std::convert::AsStr;
 
+/// How a command is called.
+const CALL: &str = "golly_canon <COMMAND>";
+
+/// The refusal of words as this kind, with how the command is called and a message.
+fn refusal_as(alloc: Global, kind: ErrorKind, call: &str, message: &str) -> Usage
+    ensures { RefusesAs kind (Unit {0}) result }
+{
+    let mut command = Command::new(alloc, "golly_canon").override_usage(call);
+    match command.error(kind, message) {
+        Ok(error) => Usage::Words(error),
+        Err(_) => Usage::Memory,
+    }
+}
+
 /// The refusal of a word behind an option, with the message that says what stands there.
 fn refusal(alloc: Global, message: &str) -> Usage
     ensures { RefusesWord (Unit {0}) result }
 {
-    let mut command = Command::new(alloc, "golly_canon").override_usage("golly_canon <COMMAND>");
-    match command.error(ErrorKind::InvalidValue, message) {
-        Ok(error) => Usage::Words(error),
-        Err(_) => Usage::Memory,
-    }
+    refusal_as(alloc, ErrorKind::InvalidValue, CALL, message)
 }
 
 /// The first value of an option or a file.
@@ -190,30 +200,17 @@ fn step(alloc: Global, found: &ArgMatches<'_>) -> Result<Plan, Usage>
 fn no_job(alloc: Global) -> Usage
     ensures { RefusesAs ErrorKind.InvalidSubcommand (Unit {0}) result }
 {
-    let mut command = Command::new(alloc, "golly_canon").override_usage("golly_canon <COMMAND>");
-    match command.error(
-        ErrorKind::InvalidSubcommand,
-        "the command is none over one file or two",
-    ) {
-        Ok(error) => Usage::Words(error),
-        Err(_) => Usage::Memory,
-    }
+    let message = "the command is none over one file or two";
+    refusal_as(alloc, ErrorKind::InvalidSubcommand, CALL, message)
 }
 
 /// The refusal of words that name no file.
 fn lacks_files(alloc: Global) -> Usage
     ensures { RefusesAs ErrorKind.MissingRequiredArgument (Unit {0}) result }
 {
-    let mut command = Command::new(alloc, "golly_canon").override_usage(
-        "golly_canon keys [OPTIONS] [FILE]...",
-    );
-    match command.error(
-        ErrorKind::MissingRequiredArgument,
-        "a FILE or --from LIST has to be given",
-    ) {
-        Ok(error) => Usage::Words(error),
-        Err(_) => Usage::Memory,
-    }
+    let call = "golly_canon keys [OPTIONS] [FILE]...";
+    let message = "a FILE or --from LIST has to be given";
+    refusal_as(alloc, ErrorKind::MissingRequiredArgument, call, message)
 }
 
 /// Whether a flag was given.

@@ -1,4 +1,4 @@
-use Rattle.std.proofs.Common.{◌∙◌, inl, inr}
+use Rattle.std.proofs.Common.{◌≡◌, ◌∙◌, ℕ, inl, inr, sym}
 use Rattle.std.proofs.lemmas.Result.{err_from_is_err_and}
 use Rattle.life_cli.specs.Jobs.{by_files}
 use Rattle.life_cli.proofs.WorkLemmas.{compared_in, no_first_input, no_second_input, uncompared_in}
@@ -63,3 +63,32 @@ returns-clause-err g c =
     let q = rw c.in_ok-b-2.was at b.pattern in
     uncompared_in c.args.form _ _ c.pattern_in-2.new.store a.bytes b.bytes _ _ c.are_same_in.result a.read b.read
     (c.patterns_stay.ensures a.bytes _ _ _ c.pattern_in-2.ensures.keeps r) q c.are_same_in.ensures.fault
+
+-- what has not failed has not failed once
+unfailed : (n : ℕ) → n ≡ 0 → n ≡ 1 → ⊥
+unfailed n works failed = let bad : 0 ≡ 1 = sym works ∙ failed in absurd cc
+
+pub returns-in_err-a-clause-told : goal.returns-in_err-a-clause-told
+returns-in_err-a-clause-told g c =
+    let p = err_from_is_err_and c.from_residual.result c.from_residual.ensures.1 in
+    rw (p.1, p.2) (λ e. elim e [
+      | inl failed ↦ c.in_err-a.ensures.told failed
+      | inr failed ↦ absurd (unfailed _ c.requires.other failed)
+    ])
+
+pub returns-in_err-b-clause-told : goal.returns-in_err-b-clause-told
+returns-in_err-b-clause-told g c =
+    let p = err_from_is_err_and c.from_residual-in_err-b.result c.from_residual-in_err-b.ensures.1 in
+    rw (p.1, p.2) (λ e. elim e [ inl failed ↦ absurd (c.in_ok-a.ensures.told failed) | inr failed ↦ c.in_err-b.ensures.told failed ])
+
+pub returns-in_err-a-2-clause-told : goal.returns-in_err-a-2-clause-told
+returns-in_err-a-2-clause-told g c =
+    λ e. elim e [ inl failed ↦ absurd (c.in_ok-a.ensures.told failed) | inr failed ↦ absurd (c.in_ok-b.ensures.told failed) ]
+
+pub returns-in_err-b-2-clause-told : goal.returns-in_err-b-2-clause-told
+returns-in_err-b-2-clause-told g c =
+    λ e. elim e [ inl failed ↦ absurd (c.in_ok-a.ensures.told failed) | inr failed ↦ absurd (c.in_ok-b.ensures.told failed) ]
+
+pub returns-clause-told : goal.returns-clause-told
+returns-clause-told g c =
+    λ e. elim e [ inl failed ↦ absurd (c.in_ok-a.ensures.told failed) | inr failed ↦ absurd (c.in_ok-b.ensures.told failed) ]
