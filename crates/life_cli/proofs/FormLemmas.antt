@@ -20,7 +20,7 @@ use Rattle.life_canon.specs.Universe.{Universe, IsSame, least_level}
 use Rattle.life_canon.specs.declared.pattern.Pattern.{Pattern}
 use Rattle.life_forms.specs.Needed.{LacksForMoved}
 use Rattle.life_cli.specs.Forms.{AreOfOneGeneration, HasTooMany, SaysText, SayRelated}
-use Rattle.life_cli.specs.Jobs.{RefusesIn, RefusesSame, LacksToMove}
+use Rattle.life_cli.specs.Jobs.{RefusesInForm, RefusesSame, LacksToMove}
 use Rattle.life_cli.specs.declared.plans.Form.TheVariants.{Moved, Turned}
 
 -- patterns with one rule, one generation and the same cells are one
@@ -101,7 +101,7 @@ module _ (fit : PatternsFit MAX_LEVEL) (store : Nodes) (pattern : Pattern) where
   pub unmoved : {X : Type 0} (new : Nodes) (r : Result X Fault) → new.limit ≡ 2 ^ 31
       → IfErr r (λ fault. ((fault ≡ fault_of TooManyCells) × (2 ^ 20 < population (content store pattern.root))) ⊎ IsWant new fault)
       → (r ≡ Err (fault_of Full) → LacksForMoved (universe_in store pattern) new)
-      → IfErr r (λ fault. (fault ≡ fault_of Memory) ⊎ ((bytes : List ℕ) → IsRead MAX_LEVEL bytes store pattern → RefusesIn Moved bytes fault))
+      → IfErr r (λ fault. (fault ≡ fault_of Memory) ⊎ ((bytes : List ℕ) → IsRead MAX_LEVEL bytes store pattern → RefusesInForm Moved bytes fault))
   unmoved new (Ok x) limit h needed = tt
   unmoved new (Err fault) limit (inl many) needed = inr (λ bytes read. inl (inr (many.0, more_cells bytes read many.1)))
   unmoved new (Err fault) limit (inr want) needed =
@@ -109,7 +109,7 @@ module _ (fit : PatternsFit MAX_LEVEL) (store : Nodes) (pattern : Pattern) where
 
   pub unturned : {X : Type 0} (r : Result X Fault)
       → IfErr r (λ fault. (fault ≡ fault_of Memory) ⊎ ((fault ≡ fault_of TooManyCells) × (2 ^ 20 < population (content store pattern.root))))
-      → IfErr r (λ fault. (fault ≡ fault_of Memory) ⊎ ((bytes : List ℕ) → IsRead MAX_LEVEL bytes store pattern → RefusesIn Turned bytes fault))
+      → IfErr r (λ fault. (fault ≡ fault_of Memory) ⊎ ((bytes : List ℕ) → IsRead MAX_LEVEL bytes store pattern → RefusesInForm Turned bytes fault))
   unturned (Ok x) h = tt
   unturned (Err fault) (inl memory) = inl memory
   unturned (Err fault) (inr many) = inr (λ bytes read. inr (many.0, more_cells bytes read many.1))

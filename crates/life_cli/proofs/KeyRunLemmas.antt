@@ -18,9 +18,9 @@ use Rattle.life_base.proofs.WritingLemmas.{prefix-after, prefix-grows}
 use Rattle.life_cli.specs.Faults.{fault_line, refusal_of, status_of, Tells}
 use Rattle.life_cli.specs.Jobs.{by_length, by_source, by_want}
 use Rattle.life_cli.specs.KeyRuns.{broken_off, bytes_of, by_call, by_memory, by_name, by_reading, Comes, error_line, errors_of, greatest_status, IsToldAs, LacksList, list_word, Listed, Name, names_among, names_in, names_of, outcome_status, output_line, output_of, Ran, ReadsList, Taken, Takes, TakesAll, TakesFiles, TellsOn, through, Took, Word, words_of, Writes}
-use Rattle.life_cli.specs.Opening.{Gives}
-use Rattle.life_cli.specs.declared.opening.Opened.{Opened}
-use Rattle.life_cli.specs.declared.opening.Origin.{Origin}
+use Rattle.life_cli.specs.Origins.{Gives}
+use Rattle.life_cli.specs.declared.origins.Opened.{Opened}
+use Rattle.life_cli.specs.declared.origins.Origin.{Origin}
 use Rattle.life_cli.specs.declared.plans.Form.{Form}
 use Rattle.life_cli.specs.declared.plans.KeysPlan.{KeysPlan}
 use Rattle.life_cli.specs.Keys.{end_of, IsStatus, pieces_of}

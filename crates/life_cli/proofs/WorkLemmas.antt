@@ -1,5 +1,6 @@
 -- From the parts of a job to what it did, or why it is refused.
-use Rattle.std.proofs.Common.{◌≡◌, ℕ, ◌^◌, ◌⊎◌, inl, inr, List, Bool, true, false, Result, Ok, Err, IfErr, IfOk, OnOk, ap, refl, IsTrue, ◌↔◌, subst, sym}
+use Rattle.std.proofs.Common.{◌≡◌, ◌<◌, arith, ℕ, ◌^◌, ◌⊎◌, inl, inr, List, [], Bool, true, false, Option, Some, None, IfSome, Result, Ok, Err, IfErr, IfOk, OnOk, IsErrAnd, ap, refl, IsTrue, ◌↔◌, subst, sym, ◌∙◌}
+use Rattle.std.specs.Option.{option_map_or}
 use Rattle.std.specs.Io.KnownBytes.{Appends}
 use Rattle.life_base.specs.DeviceRuns.{SourceRun, SinkRun}
 use Rattle.life_base.specs.Inputs.{ReadAll}
@@ -9,7 +10,8 @@ use Rattle.life_base.specs.Tree.{Tree}
 use Rattle.life_base.specs.declared.cell.TheConstants.{MAX_LEVEL}
 use Rattle.life_base.specs.declared.fault.Fault.{Fault}
 use Rattle.life_base.specs.declared.kind.Kind.{Kind}
-use Rattle.life_base.specs.declared.kind.Kind.TheVariants.{Full, Memory, TooManyCells, ReadFault, InputTooLong}
+use Rattle.life_base.specs.declared.kind.Kind.TheVariants as kinds
+use Rattle.life_base.specs.declared.kind.Kind.TheVariants.{Full, Memory, TooManyCells, ReadFault, InputTooLong, WriteFault}
 use Rattle.life_base.specs.declared.rule.Rule.{Rule}
 use Rattle.life_quad.specs.Store.{Nodes}
 use Rattle.life_canon.specs.Files.{Accepted, Reads, Refuses, is_file_kind}
@@ -28,18 +30,19 @@ use Rattle.life_cli.specs.declared.plans.Form.TheVariants.{Placed, Moved, Turned
 use Rattle.life_cli.specs.declared.plans.Job.{Job}
 use Rattle.life_cli.specs.declared.plans.Job.TheVariants.{Canon, Convert, Same, Show, Step, StepTable}
 use Rattle.life_cli.specs.declared.plans.Target.TheVariants.{Rle, Mc}
-use Rattle.life_cli.specs.declared.telling.Refusal.{Refusal}
-use Rattle.life_cli.specs.declared.working.Made.{Made}
-use Rattle.life_cli.specs.declared.working.Made.TheVariants.{Comparison}
+use Rattle.life_cli.specs.declared.refusals.Refusal.{Refusal}
+use Rattle.life_cli.specs.declared.jobs.Made.{Made}
+use Rattle.life_cli.specs.declared.jobs.Made.TheVariants.{Comparison, Text}
+use Rattle.life_cli.specs.Faults.{refusal_of, status_of}
 use Rattle.life_cli.specs.Forms.{AreSameIn, HasTooMany, IsTextIn}
-use Rattle.life_cli.specs.Plans.{HasSecond, WritesCanonical}
+use Rattle.life_cli.specs.Plans.{HasSecond, WritesPlacedText}
 use Rattle.life_step.specs.Stepped.{IsStepped, IsSteppedBy}
 use Rattle.life_cli.specs.Jobs.{InputRefuses, by_length, by_source, HasNoText, by_input, by_file, by_want, AreUncompared}
-use Rattle.life_cli.specs.Jobs.{by_first, by_second, by_form, by_first_shortage, by_second_shortage, RefusesIn, RefusesSame}
-use Rattle.life_cli.specs.Jobs.{IsWantFor, WantsFor, RefusesMany, Compares, made_text, made_status, HasAnswer, Makes, Writes, Worked, Breaks, HasText, FileRefuses}
-use Rattle.life_cli.specs.Jobs.{by_reading, by_writing, by_telling}
+use Rattle.life_cli.specs.Jobs.{by_first, by_second, by_form, by_first_shortage, by_second_shortage, RefusesInForm, RefusesSame}
+use Rattle.life_cli.specs.Jobs.{IsWantFor, WantsFor, RefusesMany, Compares, made_text, made_status, HasAnswer, Makes, Writes, Worked, BreaksOff, HasText, FileRefuses, ComesOf}
+use Rattle.life_cli.specs.Jobs.{by_comparing, by_reading, by_writing, by_telling, HasTextByTable, HasNoTextByTable, MadeOf}
 use Rattle.life_cli.specs.Jobs.{RefusesStep, HasTable, HasNoTable, table_by_input, table_by_lines}
-use Rattle.life_cli.specs.Jobs.{table_by_memory, OfFile, JobRefuses}
+use Rattle.life_cli.specs.Jobs.{table_by_memory, CanonRefuses, OfFile, JobRan, JobRefuses}
 
 -- nothing comes of an input of which a store makes no pattern
 pub no_pattern : (refuses : List ℕ → Fault → Type 0) (source : SourceRun) (store : Nodes) (fault : Fault) → store.limit ≡ 2 ^ 31
@@ -66,15 +69,15 @@ refused_rle source store pattern (Err fault) has (inl memory) = by_want (inl mem
 refused_rle source store pattern (Err fault) has (inr many) = by_file has.bytes has.read (inr (many.0, many.1 has.bytes has.is))
 
 -- no text in a form
-pub refused_in : (form : Form) (bytes : List ℕ) (fault : Fault) → Refuses MAX_LEVEL bytes fault → RefusesIn form bytes fault
+pub refused_in : (form : Form) (bytes : List ℕ) (fault : Fault) → Refuses MAX_LEVEL bytes fault → RefusesInForm form bytes fault
 refused_in Placed bytes fault h = h
 refused_in Moved bytes fault h = inl (inl h)
 refused_in Turned bytes fault h = inl h
 
 pub refused_text : {X : Type 0} (form : Form) (source : SourceRun) (store : Nodes) (pattern : Pattern) (r : Result X Fault)
     → HasRead MAX_LEVEL (2 ^ 30) store source pattern
-    → IfErr r (λ fault. (fault ≡ fault_of Memory) ⊎ ((b : List ℕ) → IsRead MAX_LEVEL b store pattern → RefusesIn form b fault))
-    → IfErr r (HasNoText (RefusesIn form) source)
+    → IfErr r (λ fault. (fault ≡ fault_of Memory) ⊎ ((b : List ℕ) → IsRead MAX_LEVEL b store pattern → RefusesInForm form b fault))
+    → IfErr r (HasNoText (RefusesInForm form) source)
 refused_text form source store pattern (Ok x) has h = tt
 refused_text form source store pattern (Err fault) has (inl memory) = by_want (inl memory)
 refused_text form source store pattern (Err fault) has (inr refuses) = by_file has.bytes has.read (refuses has.bytes has.is)
@@ -156,11 +159,30 @@ module _ (form : Form) (first second : SourceRun) (store : Nodes) (a b : List �
           by_form a b one two (reads.universe, reads.reads) (others.universe, others.reads) (refuses a b reads others)
 
 -- all of a file was read, and a call on its pattern gave its text
-pub text_of_pattern : {X : Type 0} (gives : List ℕ → List ℕ → Type 0) (items : X → List ℕ) (source : SourceRun) (store : Nodes) (pattern : Pattern)
+text_of_pattern : {X : Type 0} (gives : List ℕ → List ℕ → Type 0) (items : X → List ℕ) (source : SourceRun) (store : Nodes) (pattern : Pattern)
     (r : Result X Fault) → HasRead MAX_LEVEL (2 ^ 30) store source pattern
     → IfOk r (λ x. (bytes : List ℕ) → IsRead MAX_LEVEL bytes store pattern → gives bytes (items x)) → IfOk r (λ x. HasText gives source (items x))
 text_of_pattern gives items source store pattern (Ok x) has is = record { bytes = has.bytes; read = has.read; is = is has.bytes has.is }
 text_of_pattern gives items source store pattern (Err fault) has is = tt
+
+-- nothing comes of a file whose pattern wasn't read
+pub nothing_comes : {X : Type 0} (items : X → List ℕ) (gives : List ℕ → List ℕ → Type 0) (refuses : List ℕ → Fault → Type 0) (source : SourceRun)
+    (store : Nodes) (fault : Fault) → store.limit ≡ 2 ^ 31 → ((bytes : List ℕ) → Refuses MAX_LEVEL bytes fault → refuses bytes fault)
+    → ReadRefuses MAX_LEVEL (2 ^ 30) store source fault → (fault ≡ fault_of Full → LacksForRead MAX_LEVEL (2 ^ 30) store source)
+    → (source.failures ≡ 1 → fault.kind ≡ ReadFault) → ComesOf items gives refuses source (Err fault)
+nothing_comes items gives refuses source store fault limit f reading lacks told =
+    record { ok = tt; err = no_pattern refuses source store fault limit f reading lacks; told = told }
+
+-- what a call on the pattern of a file answers comes of the file
+pub comes_of_pattern : {X : Type 0} (items : X → List ℕ) (gives : List ℕ → List ℕ → Type 0) (refuses : List ℕ → Fault → Type 0) (source : SourceRun)
+    (store : Nodes) (pattern : Pattern) (r : Result X Fault) → HasRead MAX_LEVEL (2 ^ 30) store source pattern → source.failures ≡ 0
+    → IfOk r (λ x. (bytes : List ℕ) → IsRead MAX_LEVEL bytes store pattern → gives bytes (items x)) → IfErr r (HasNoText refuses source)
+    → ComesOf items gives refuses source r
+comes_of_pattern items gives refuses source store pattern r has works is err = record {
+  ok = text_of_pattern gives items source store pattern r has is;
+  err = err;
+  told = λ failed. let bad : 0 ≡ 1 = sym works ∙ failed in absurd cc;
+}
 
 -- what the step of a pattern needs, that of its file needs
 of_file : (needs : Rule → Tree → Type 0) (bytes : List ℕ) (store : Nodes) (pattern : Pattern) → IsRead MAX_LEVEL bytes store pattern
@@ -205,7 +227,7 @@ read_as_table source bytes (Ok table) read is = record { bytes = bytes; read = r
 read_as_table source bytes (Err fault) read is = tt
 
 -- a text that was made of the first file, and of what was read of the second one
-pub made_of_file : (gives : List ℕ → List ℕ → Type 0) (job : Job) (first second : SourceRun) (others text : List ℕ)
+made_of_file : (gives : List ℕ → List ℕ → Type 0) (job : Job) (first second : SourceRun) (others text : List ℕ)
     → HasText gives first text → (HasSecond job → ReadAll (2 ^ 30) second.before second.after others)
     → ((bytes : List ℕ) → gives bytes text → Writes job bytes others 0 text) → HasAnswer job first second 0 text
 made_of_file gives job first second others text has read is = record {
@@ -216,29 +238,90 @@ made_of_file gives job first second others text has read is = record {
   writes = is has.bytes has.is;
 }
 
+-- a source that is absent, or works, has not failed
+pub none_failed : {B : Type 0} (failures : B → ℕ) (o : Option B) → IfSome o (λ b. failures b ≡ 0) → option_map_or failures o 0 ≡ 0
+none_failed failures None works = refl
+none_failed failures (Some b) works = works
+
+-- what comes of the text of a job over one file
+pub made_of_text : {X : Type 0} (make : X → Made) (items : X → List ℕ) (gives : List ℕ → List ℕ → Type 0) (refuses : List ℕ → Fault → Type 0)
+    (job : Job) (first second : SourceRun) (r : Result X Fault) (m : Result Made Refusal)
+    → ((x : X) → (made_status (make x) ≡ 0) × (made_text (make x) ≡ items x)) → second.failures ≡ 0 → ¬ HasSecond job
+    → ((bytes text : List ℕ) → gives bytes text → Writes job bytes [] 0 text)
+    → ((output : SinkRun) (refusal : Refusal) → OfFile (HasNoText refuses first) refusal → JobRefuses job first second output refusal)
+    → ComesOf items gives refuses first r → IfOk r (λ x. m ≡ Ok (make x)) → IfErr r (λ f. m ≡ Err (refusal_of f)) → MadeOf job first second m
+made_of_text make items gives refuses job first second (Ok x) m is works alone writes refused comes made failed =
+    let answer = made_of_file gives job first second [] (items x) comes.ok (λ has. absurd (alone has)) (λ bytes. writes bytes (items x)) in
+    let told = subst (HasAnswer job first second 0) (sym (is x).1) answer in
+    subst (MadeOf job first second) (sym made) (record {
+      ok = subst (λ n. HasAnswer job first second n (made_text (make x))) (sym (is x).0) told;
+      err = tt;
+      told = λ e. elim e [
+        | inl f ↦ absurd (comes.told f)
+        | inr f ↦ let bad : 0 ≡ 1 = sym works ∙ f in absurd cc
+      ];
+    })
+made_of_text make items gives refuses job first second (Err fault) m is works alone writes refused comes made failed =
+    subst (MadeOf job first second) (sym failed) (record {
+      ok = tt;
+      err = λ output. refused output (refusal_of fault) (refl, comes.err);
+      told = λ e. elim e [
+        | inl f ↦ comes.told f
+        | inr f ↦ let bad : 0 ≡ 1 = sym works ∙ f in absurd cc
+      ];
+    })
+
+-- of a comparison
+pub made_of_comparison : (form : Form) (first second : SourceRun) (r : Result Bool Fault) (m : Result Made Refusal)
+    → IfOk r (λ is_same. Makes (Same form) first second (Comparison is_same)) → IfErr r (AreUncompared form first second)
+    → ((first.failures ≡ 1) ⊎ (second.failures ≡ 1) → IsErrAnd r (λ fault. fault.kind ≡ ReadFault))
+    → IfOk r (λ is_same. m ≡ Ok (Comparison is_same)) → IfErr r (λ f. m ≡ Err (refusal_of f)) → MadeOf (Same form) first second m
+made_of_comparison form first second (Ok is_same) m makes refuses told made failed =
+    subst (MadeOf (Same form) first second) (sym made) (record { ok = makes; err = tt; told = λ e. absurd (told e) })
+made_of_comparison form first second (Err fault) m makes refuses told made failed =
+    subst (MadeOf (Same form) first second) (sym failed) (record { ok = tt; err = λ output. (refl, by_comparing refuses); told = told })
+
+-- of a step by a table
+pub made_of_step : {X : Type 0} (make : X → Made) (items : X → List ℕ) (first second : SourceRun) (r : Result X Refusal) (m : Result Made Refusal)
+    → ((x : X) → (made_status (make x) ≡ 0) × (made_text (make x) ≡ items x)) → IfOk r (λ x. HasTextByTable first second (items x))
+    → IfErr r (HasNoTextByTable first second)
+    → ((first.failures ≡ 1) ⊎ (second.failures ≡ 1) → IsErrAnd r (λ refusal. refusal.fault.kind ≡ ReadFault))
+    → IfOk r (λ x. m ≡ Ok (make x)) → IfErr r (λ refusal. m ≡ Err refusal) → MadeOf StepTable first second m
+made_of_step make items first second (Ok x) m is has refuses told made failed =
+    let answer = made_of_file (IsSteppedBy has.0) StepTable first second has.1.bytes (items x) has.2 (λ _. has.1.read)
+    (λ bytes stepped. (refl, (has.0, has.1.is, stepped))) in
+    let text = subst (HasAnswer StepTable first second 0) (sym (is x).1) answer in
+    subst (MadeOf StepTable first second) (sym made) (record {
+      ok = subst (λ n. HasAnswer StepTable first second n (made_text (make x))) (sym (is x).0) text;
+      err = tt;
+      told = λ e. absurd (told e);
+    })
+made_of_step make items first second (Err refusal) m is has refuses told made failed =
+    subst (MadeOf StepTable first second) (sym failed) (record { ok = tt; err = λ output. inl refuses; told = told })
+
 -- a test that answers no
 pub not_so : (answer : Bool) (P : Type 0) → IsTrue answer ↔ P → answer ≡ false → ¬ P
 not_so true P is fails holds = absurd cc
 not_so false P is fails holds = let bad : false ≡ true = is.1 holds in absurd cc
 
 -- what was made is written: the job is done
-pub worked : (job : Job) (first second : SourceRun) (output : SinkRun) (made : Made) → Makes job first second made
+worked : (job : Job) (first second : SourceRun) (output : SinkRun) (made : Made) → Makes job first second made
     → Appends output.before output.after (made_text made) → Worked job (made_status made) first second output
 worked job first second output made makes written = record { text = made_text made; answer = makes; written = written }
 
 -- it could not be written
 broken_text : (gives : List ℕ → List ℕ → Type 0) (refuses : List ℕ → Fault → Type 0) (source : SourceRun) (output : SinkRun) (bytes text : List ℕ)
-    (fault : Fault) → ReadAll (2 ^ 30) source.before source.after bytes → gives bytes text → Breaks output text fault
+    (fault : Fault) → ReadAll (2 ^ 30) source.before source.after bytes → gives bytes text → BreaksOff output text fault
     → FileRefuses gives refuses source output fault
 broken_text gives refuses source output bytes text fault read is broken = by_writing text (record { bytes = bytes; read = read; is = is }) broken
 
-pub unwritten : (job : Job) (first second : SourceRun) (output : SinkRun) (made : Made) (refusal : Refusal) → ¬ WritesCanonical job
-    → Makes job first second made → OfFile (Breaks output (made_text made)) refusal → JobRefuses job first second output refusal
+unwritten : (job : Job) (first second : SourceRun) (output : SinkRun) (made : Made) (refusal : Refusal) → ¬ WritesPlacedText job
+    → Makes job first second made → OfFile (BreaksOff output (made_text made)) refusal → JobRefuses job first second output refusal
 unwritten (Canon Placed) first second output made refusal other makes broken = absurd (other tt)
 unwritten (Canon Moved) first second output made refusal other makes broken =
-    (broken.0, broken_text (IsTextIn Moved MAX_LEVEL) (RefusesIn Moved) first output _ _ refusal.fault makes.first_read makes.writes.1 broken.1)
+    (broken.0, broken_text (IsTextIn Moved MAX_LEVEL) (RefusesInForm Moved) first output _ _ refusal.fault makes.first_read makes.writes.1 broken.1)
 unwritten (Canon Turned) first second output made refusal other makes broken =
-    (broken.0, broken_text (IsTextIn Turned MAX_LEVEL) (RefusesIn Turned) first output _ _ refusal.fault makes.first_read makes.writes.1 broken.1)
+    (broken.0, broken_text (IsTextIn Turned MAX_LEVEL) (RefusesInForm Turned) first output _ _ refusal.fault makes.first_read makes.writes.1 broken.1)
 unwritten (Convert Rle) first second output made refusal other makes broken =
     (broken.0, broken_text (IsRleOf MAX_LEVEL (2 ^ 20)) RefusesMany first output _ _ refusal.fault makes.first_read makes.writes.1 broken.1)
 unwritten (Convert Mc) first second output made refusal other makes broken = absurd (other tt)
@@ -255,14 +338,14 @@ unwritten StepTable first second output made refusal other makes broken =
     inr (broken.0, (made_text made, (table, has, stepped), broken.1))
 
 -- nothing comes of a pattern in a form
-pub refused_form : (form : Form) (first second : SourceRun) (output : SinkRun) (refusal : Refusal) → ¬ WritesCanonical (Canon form)
-    → OfFile (HasNoText (RefusesIn form) first) refusal → JobRefuses (Canon form) first second output refusal
+pub refused_form : (form : Form) (first second : SourceRun) (output : SinkRun) (refusal : Refusal) → ¬ WritesPlacedText (Canon form)
+    → OfFile (HasNoText (RefusesInForm form) first) refusal → JobRefuses (Canon form) first second output refusal
 refused_form Placed first second output refusal other h = absurd (other tt)
 refused_form Moved first second output refusal other h = (h.0, by_reading h.1)
 refused_form Turned first second output refusal other h = (h.0, by_reading h.1)
 
 -- a job that writes the canonical text of its file's pattern as that lies
-canonical_as : (job : Job) (first second : SourceRun) (output : SinkRun) → WritesCanonical job → Worked (Canon Placed) 0 first second output
+canonical_as : (job : Job) (first second : SourceRun) (output : SinkRun) → WritesPlacedText job → Worked (Canon Placed) 0 first second output
     → Worked job 0 first second output
 canonical_as (Canon Placed) first second output is done = done
 canonical_as (Canon Moved) first second output is done = absurd is
@@ -284,9 +367,141 @@ canonical_as Show first second output is done = absurd is
 canonical_as Step first second output is done = absurd is
 canonical_as StepTable first second output is done = absurd is
 
-pub worked_canonical : (job : Job) (first second : SourceRun) (output : SinkRun) (r : Result ℕ Refusal) → WritesCanonical job
+worked_canonical : (job : Job) (first second : SourceRun) (output : SinkRun) (r : Result ℕ Refusal) → WritesPlacedText job
     → IfOk r (λ status. status ≡ 0) → OnOk r ((second : SourceRun) → Worked (Canon Placed) 0 first second output)
     → IfOk r (λ status. Worked job status first second output)
 worked_canonical job first second output (Ok status) is zero done =
     let P : ℕ → Type 0 = λ n. Worked job n first second output in subst P (sym zero) (canonical_as job first second output is (done second))
 worked_canonical job first second output (Err refusal) is zero done = tt
+
+-- and its refusal
+canonical_refused : (job : Job) (first second : SourceRun) (output : SinkRun) (refusal : Refusal) → WritesPlacedText job
+    → OfFile (CanonRefuses first output) refusal → JobRefuses job first second output refusal
+canonical_refused (Canon Placed) first second output refusal is refused = refused
+canonical_refused (Canon Moved) first second output refusal is refused = absurd is
+canonical_refused (Canon Turned) first second output refusal is refused = absurd is
+canonical_refused (Convert Rle) first second output refusal is refused = absurd is
+canonical_refused (Convert Mc) first second output refusal is refused = refused
+canonical_refused (Same form) first second output refusal is refused = absurd is
+canonical_refused Show first second output refusal is refused = absurd is
+canonical_refused Step first second output refusal is refused = absurd is
+canonical_refused StepTable first second output refusal is refused = absurd is
+
+small_status : (made : Made) → made_status made < 2
+small_status (Text text) = omega arith
+small_status (Comparison true) = omega arith
+small_status (Comparison false) = omega arith
+
+-- what became of a job that writes that text
+pub ran_canonical : (job : Job) (first second : SourceRun) (output : SinkRun) (r : Result ℕ Refusal) → WritesPlacedText job → second.failures ≡ 0
+    → IfOk r (λ status. status ≡ 0) → OnOk r ((second : SourceRun) → Worked (Canon Placed) 0 first second output)
+    → IfErr r (OfFile (CanonRefuses first output)) → (first.failures ≡ 1 → IsErrAnd r (λ refusal. refusal.fault.kind ≡ ReadFault))
+    → ((output.failures ≡ 1) ⊎ (output.stalled ≡ true) → IsErrAnd r (λ refusal. refusal.fault.kind ≡ WriteFault))
+    → JobRan job first second output r
+ran_canonical job first second output (Ok status) is works zero done refused told broken = record {
+  done = (omega (arith, zero), worked_canonical job first second output (Ok status) is zero done);
+  refused = tt;
+  read_told = λ e. elim e [
+    | inl f ↦ absurd (told f)
+    | inr f ↦ let bad : 0 ≡ 1 = sym works ∙ f in absurd cc
+  ];
+  write_told = broken;
+}
+ran_canonical job first second output (Err refusal) is works zero done refused told broken = record {
+  done = tt;
+  refused = canonical_refused job first second output refusal is refused;
+  read_told = λ e. elim e [
+    | inl f ↦ told f
+    | inr f ↦ let bad : 0 ≡ 1 = sym works ∙ f in absurd cc
+  ];
+  write_told = broken;
+}
+
+-- of one that made nothing
+pub ran_unmade : (job : Job) (first second : SourceRun) (output : SinkRun) (refusal : Refusal) → MadeOf job first second (Err refusal)
+    → output.failures ≡ 0 → output.stalled ≡ false → JobRan job first second output (Err refusal)
+ran_unmade job first second output refusal makes works takes = record {
+  done = tt;
+  refused = makes.err output;
+  read_told = makes.told;
+  write_told = λ e. elim e [
+    | inl f ↦ let bad : 0 ≡ 1 = sym works ∙ f in absurd cc
+    | inr f ↦ let bad : false ≡ true = sym takes ∙ f in absurd cc
+  ];
+}
+
+-- of one whose text could not be written
+pub ran_unwritten : (job : Job) (first second : SourceRun) (output : SinkRun) (made : Made) (refusal : Refusal) → ¬ WritesPlacedText job
+    → MadeOf job first second (Ok made) → OfFile (BreaksOff output (made_text made)) refusal → JobRan job first second output (Err refusal)
+ran_unwritten job first second output made refusal other makes broken = record {
+  done = tt;
+  refused = unwritten job first second output made refusal other makes.ok broken;
+  read_told = λ e. absurd (makes.told e);
+  write_told = λ e. ap (λ (fault : Fault). fault.kind) broken.1.is;
+}
+
+-- of one that was done
+pub ran_done : (job : Job) (first second : SourceRun) (output : SinkRun) (made : Made) → MadeOf job first second (Ok made)
+    → Appends output.before output.after (made_text made) → ((output.failures ≡ 1) ⊎ (output.stalled ≡ true) → ⊥)
+    → JobRan job first second output (Ok (made_status made))
+ran_done job first second output made makes written works = record {
+  done = (small_status made, worked job first second output made makes.ok written);
+  refused = tt;
+  read_told = λ e. absurd (makes.told e);
+  write_told = works;
+}
+
+-- what is told of a source is told of one that may be absent
+pub some_told : {B : Type 0} (failures : B → ℕ) (o : Option B) (P : Type 0) → (option_map_or failures o 0 ≡ 1 → P) → IfSome o (λ b. failures b ≡ 1 → P)
+some_told failures None P told = tt
+some_told failures (Some b) P told = told
+
+-- the status of a fault
+pub fault_status : (kind : Kind) → (status_of kind ≡ 2) ⊎ ((status_of kind ≡ 3) ⊎ (status_of kind ≡ 4))
+fault_status kinds.NoHeader = inl refl
+fault_status kinds.BadHeader = inl refl
+fault_status kinds.BadRule = inl refl
+fault_status kinds.BoundedGrid = inl refl
+fault_status kinds.UnsupportedRule = inl refl
+fault_status kinds.BirthOnZero = inl refl
+fault_status kinds.BadNumber = inl refl
+fault_status kinds.TooLarge = inl refl
+fault_status kinds.BadItem = inl refl
+fault_status kinds.ZeroCount = inl refl
+fault_status kinds.StateRange = inl refl
+fault_status kinds.OutOfPlane = inl refl
+fault_status kinds.LateHeader = inl refl
+fault_status kinds.SecondHeader = inl refl
+fault_status kinds.BadNode = inl refl
+fault_status kinds.BadLevel = inl refl
+fault_status kinds.BadChild = inl refl
+fault_status kinds.BadLeaf = inl refl
+fault_status kinds.Timeline = inl refl
+fault_status kinds.LineTooLong = inl refl
+fault_status kinds.Full = inr (inr refl)
+fault_status kinds.Memory = inr (inr refl)
+fault_status kinds.Spent = inl refl
+fault_status kinds.NoRuleLine = inl refl
+fault_status kinds.NoTable = inl refl
+fault_status kinds.BadDescriptor = inl refl
+fault_status kinds.UnsupportedNeighborhood = inl refl
+fault_status kinds.UnsupportedSymmetry = inl refl
+fault_status kinds.BadVariable = inl refl
+fault_status kinds.BadTransition = inl refl
+fault_status kinds.UnboundOutput = inl refl
+fault_status kinds.NotQuiet = inl refl
+fault_status kinds.RuleMismatch = inl refl
+fault_status kinds.NeedsTable = inl refl
+fault_status kinds.Ambiguous = inl refl
+fault_status kinds.TooManyCells = inl refl
+fault_status kinds.GenerationTooLarge = inl refl
+fault_status kinds.StateBeyondTable = inl refl
+fault_status kinds.ReadFault = inr (inl refl)
+fault_status kinds.WriteFault = inr (inl refl)
+fault_status kinds.InputTooLong = inl refl
+
+pub fault_above : (kind : Kind) → 1 < status_of kind
+fault_above kind = elim (fault_status kind) [
+  | inl is ↦ omega (arith, is)
+  | inr other ↦ elim other [ inl is ↦ omega (arith, is) | inr is ↦ omega (arith, is) ]
+]

@@ -1,7 +1,8 @@
 -- The program's command line, as `clap` reads it.
 use Rattle.std.specs.Prelude.{◌≡◌, true, false, codes, Some}
-use Rattle.clap.specs.Words.{App, Rule, Text, app_of, new_app, new_rule, with_rule, with_subcommand}
+use Rattle.clap.specs.Words.{App, Rule, Text, app_of, new_app, new_rule, rule_of, with_rule, with_subcommand}
 use Rattle.clap.specs.declared.builder.ArgAction.TheVariants.{Append, Set, SetTrue}
+use Rattle.clap.specs.declared.builder.arg.Arg.{Arg}
 use Rattle.clap.specs.declared.builder.command.Command.{Command}
 use Rattle.clap.specs.declared.builder.command.Command.TheViews.{out-Command}
 
@@ -72,6 +73,11 @@ program = with_subcommand (with_subcommand (with_subcommand (with_subcommand (wi
     (one_file_line (codes "show")).top)
     step_line.top)
     keys_line.top
+
+-- the argument has this rule, and isn't global
+pub record HasRule (rule : Rule) (argument : Arg) : Type 0 where
+  pub rule_is : rule_of argument ≡ rule
+  pub local : argument.global ≡ false
 
 -- the command is read as this one, and none of its arguments is global
 pub record ReadsAs (line : App) (command : Command) : Type 0 where

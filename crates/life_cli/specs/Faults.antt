@@ -7,7 +7,7 @@ use Rattle.life_base.specs.Writing.{WritesPrefix}
 use Rattle.life_base.specs.declared.fault.Fault.{Fault}
 use Rattle.life_base.specs.declared.kind.Kind.{Kind}
 use Rattle.life_table.specs.Reading.{is_table_kind}
-use Rattle.life_cli.specs.declared.telling.Refusal.{Refusal}
+use Rattle.life_cli.specs.declared.refusals.Refusal.{Refusal}
 use Rattle.life_base.specs.declared.kind.Kind.TheVariants as kinds
 
 -- A line of this kind of fault is one of a rule table: the kinds that only tables have, and a line that is too long where the table was

@@ -1,5 +1,5 @@
 -- What a job writes, by the bytes of its files, and why it is refused.
-use Rattle.std.specs.Prelude.{◌≡◌, ◌⊎◌, ◌^◌, ℕ, true, false, List, Some, Result, IfOk, IfErr, codes, if◌then◌else◌}
+use Rattle.std.specs.Prelude.{◌≡◌, ◌⊎◌, ◌<◌, ◌^◌, ℕ, true, false, List, Some, Result, IfOk, IfErr, IsErrAnd, codes, if◌then◌else◌}
 use Rattle.std.specs.Io.KnownBytes.{Appends}
 use Rattle.life_base.specs.DeviceRuns.{SourceRun, SinkRun}
 use Rattle.life_base.specs.Inputs.{ReadAll, CameBeyond}
@@ -29,9 +29,9 @@ use Rattle.life_cli.specs.declared.plans.Form.TheVariants.{Placed, Moved, Turned
 use Rattle.life_cli.specs.declared.plans.Job.{Job}
 use Rattle.life_cli.specs.declared.plans.Job.TheVariants.{Canon, Convert, Same, Show, Step, StepTable}
 use Rattle.life_cli.specs.declared.plans.Target.TheVariants.{Rle, Mc}
-use Rattle.life_cli.specs.declared.telling.Refusal.{Refusal}
-use Rattle.life_cli.specs.declared.working.Made.{Made}
-use Rattle.life_cli.specs.declared.working.Made.TheVariants.{Text, Comparison}
+use Rattle.life_cli.specs.declared.refusals.Refusal.{Refusal}
+use Rattle.life_cli.specs.declared.jobs.Made.{Made}
+use Rattle.life_cli.specs.declared.jobs.Made.TheVariants.{Text, Comparison}
 
 -- the status and the line of two files that are compared in a form
 abbrev pub Compares : Form → List ℕ → List ℕ → ℕ → List ℕ → Type 0
@@ -91,7 +91,7 @@ abbrev pub Wants : SourceRun → Fault → Type 0
 Wants source fault = (fault ≡ fault_of Memory) ⊎ ((store : Nodes) × (store.limit ≡ 2 ^ 31) × IsWantFor source store fault)
 
 -- a prefix of the text was written, and the sink failed or took no bytes
-pub record Breaks (output : SinkRun) (text : List ℕ) (fault : Fault) : Type 0 where
+pub record BreaksOff (output : SinkRun) (text : List ℕ) (fault : Fault) : Type 0 where
   pub is : fault ≡ fault_of WriteFault
   pub written : WritesPrefix output.before output.after text
   pub cause : (output.failures ≡ 1) ⊎ (output.stalled ≡ true)
@@ -108,18 +108,25 @@ pub data HasNoText (refuses : List ℕ → Fault → Type 0) (source : SourceRun
   by_file : (bytes : List ℕ) → ReadAll (2 ^ 30) source.before source.after bytes → refuses bytes fault → HasNoText refuses source fault
   by_want : Wants source fault → HasNoText refuses source fault
 
+-- what comes of a file: what `gives` relates to its bytes, or why there is nothing; and where its source failed, that is told
+pub record ComesOf {A : Type 0} (items : A → List ℕ) (gives : List ℕ → List ℕ → Type 0) (refuses : List ℕ → Fault → Type 0) (source : SourceRun)
+    (result : Result A Fault) : Type 0 where
+  pub ok : IfOk result (λ a. HasText gives source (items a))
+  pub err : IfErr result (HasNoText refuses source)
+  pub told : source.failures ≡ 1 → IsErrAnd result (λ fault. fault.kind ≡ ReadFault)
+
 -- why a job of one file is refused: nothing comes of it, or its text could not be written
 pub data FileRefuses (gives : List ℕ → List ℕ → Type 0) (refuses : List ℕ → Fault → Type 0) (source : SourceRun) (output : SinkRun)
     (fault : Fault) : Type 0 where
   by_reading : HasNoText refuses source fault → FileRefuses gives refuses source output fault
-  by_writing : (text : List ℕ) → HasText gives source text → Breaks output text fault → FileRefuses gives refuses source output fault
+  by_writing : (text : List ℕ) → HasText gives source text → BreaksOff output text fault → FileRefuses gives refuses source output fault
 
 -- all of a file was read, and the store has its pattern; or this is the fault of the file
-pub record IsHeld (store : Nodes) (source : SourceRun) (held : Result Pattern Fault) : Type 0 where
+pub record IsPatternIn (store : Nodes) (source : SourceRun) (found : Result Pattern Fault) : Type 0 where
   pub bytes : List ℕ
   pub read : ReadAll (2 ^ 30) source.before source.after bytes
-  pub pattern : IfOk held (IsRead MAX_LEVEL bytes store)
-  pub fault : IfErr held (Refuses MAX_LEVEL bytes)
+  pub pattern : IfOk found (IsRead MAX_LEVEL bytes store)
+  pub fault : IfErr found (Refuses MAX_LEVEL bytes)
 
 -- a call found that a store of 2^31 squares holds its limit and lacks what the call needs, or a growth of memory was refused to it
 abbrev pub WantsFor : (Nodes → Type 0) → Fault → Type 0
@@ -152,7 +159,7 @@ pub data AreUncompared (form : Form) (first second : SourceRun) (fault : Fault) 
 -- why the comparison of two files is refused: there is none, or its line could not be written
 pub data SameRefuses (form : Form) (first second : SourceRun) (output : SinkRun) (fault : Fault) : Type 0 where
   by_comparing : AreUncompared form first second fault → SameRefuses form first second output fault
-  by_telling : (status : ℕ) (text : List ℕ) → HasAnswer (Same form) first second status text → Breaks output text fault
+  by_telling : (status : ℕ) (text : List ℕ) → HasAnswer (Same form) first second status text → BreaksOff output text fault
       → SameRefuses form first second output fault
 
 -- why bytes have no text that takes a list of cells: they are no file, or one with too many cells
@@ -160,10 +167,10 @@ abbrev pub RefusesMany : List ℕ → Fault → Type 0
 RefusesMany bytes fault = Refuses MAX_LEVEL bytes fault ⊎ ((fault ≡ fault_of TooManyCells) × HasMoreCells MAX_LEVEL bytes (2 ^ 20))
 
 -- why bytes have no text in a form
-abbrev pub RefusesIn : Form → List ℕ → Fault → Type 0
-RefusesIn Placed bytes fault = Refuses MAX_LEVEL bytes fault
-RefusesIn Moved bytes fault = RefusesMany bytes fault ⊎ WantsFor (LacksToMove bytes) fault
-RefusesIn Turned bytes fault = RefusesMany bytes fault
+abbrev pub RefusesInForm : Form → List ℕ → Fault → Type 0
+RefusesInForm Placed bytes fault = Refuses MAX_LEVEL bytes fault
+RefusesInForm Moved bytes fault = RefusesMany bytes fault ⊎ WantsFor (LacksToMove bytes) fault
+RefusesInForm Turned bytes fault = RefusesMany bytes fault
 
 -- why a run of `run_canon` in a store of 2^31 squares is refused
 abbrev pub CanonRefuses : SourceRun → SinkRun → Fault → Type 0
@@ -219,11 +226,25 @@ HasNoTextByTable first second refusal = (OfTable (HasNoTable second) refusal × 
 -- why a job is refused with this fault, and what it left of its files and the output
 abbrev pub JobRefuses : Job → (first second : SourceRun) → SinkRun → Refusal → Type 0
 JobRefuses (Canon Placed) first second output refusal = OfFile (CanonRefuses first output) refusal
-JobRefuses (Canon form) first second output refusal = OfFile (FileRefuses (IsTextIn form MAX_LEVEL) (RefusesIn form) first output) refusal
+JobRefuses (Canon form) first second output refusal = OfFile (FileRefuses (IsTextIn form MAX_LEVEL) (RefusesInForm form) first output) refusal
 JobRefuses (Convert Rle) first second output refusal = OfFile (FileRefuses (IsRleOf MAX_LEVEL (2 ^ 20)) RefusesMany first output) refusal
 JobRefuses (Convert Mc) first second output refusal = OfFile (CanonRefuses first output) refusal
 JobRefuses (Same form) first second output refusal = OfFile (SameRefuses form first second output) refusal
 JobRefuses Show first second output refusal = OfFile (FileRefuses (IsShown MAX_LEVEL) (Refuses MAX_LEVEL) first output) refusal
 JobRefuses Step first second output refusal = OfFile (FileRefuses IsStepped RefusesStep first output) refusal
 JobRefuses StepTable first second output refusal = HasNoTextByTable first second refusal
-    ⊎ OfFile (λ fault. (text : List ℕ) × HasTextByTable first second text × Breaks output text fault) refusal
+    ⊎ OfFile (λ fault. (text : List ℕ) × HasTextByTable first second text × BreaksOff output text fault) refusal
+
+-- what comes of a job before anything is written: what it makes of its files, or why it is refused, whatever the output; and where a source
+-- failed, that is told
+pub record MadeOf (job : Job) (first second : SourceRun) (result : Result Made Refusal) : Type 0 where
+  pub ok : IfOk result (Makes job first second)
+  pub err : IfErr result (λ refusal. (output : SinkRun) → JobRefuses job first second output refusal)
+  pub told : (first.failures ≡ 1) ⊎ (second.failures ≡ 1) → IsErrAnd result (λ refusal. refusal.fault.kind ≡ ReadFault)
+
+-- what became of a job: it was done, with its status; or why it was refused; and a device that failed, or took no bytes, is told
+pub record JobRan (job : Job) (first second : SourceRun) (output : SinkRun) (result : Result ℕ Refusal) : Type 0 where
+  pub done : IfOk result (λ status. (status < 2) × Worked job status first second output)
+  pub refused : IfErr result (JobRefuses job first second output)
+  pub read_told : (first.failures ≡ 1) ⊎ (second.failures ≡ 1) → IsErrAnd result (λ refusal. refusal.fault.kind ≡ ReadFault)
+  pub write_told : (output.failures ≡ 1) ⊎ (output.stalled ≡ true) → IsErrAnd result (λ refusal. refusal.fault.kind ≡ WriteFault)

@@ -1,5 +1,5 @@
 -- What a run of the command `keys` comes to, file by file, and what it writes of that. The project's own.
-use Rattle.std.specs.Prelude.{◌≡◌, ◌⊎◌, ◌^◌, ℕ, Bool, true, false, not, max, List, [], ◌∷◌, ◌++◌, map, filter, flat_map, option_map, Option, Some, None, Result, Ok, Err, IsUtf8}
+use Rattle.std.specs.Prelude.{◌≡◌, ◌⊎◌, ◌^◌, ℕ, Bool, true, false, not, max, List, [], ◌∷◌, ◌++◌, map, filter, flat_map, option_map, Option, Some, None, Result, Ok, Err, OnOk, IsUtf8}
 use Rattle.std.specs.List.{FoldsTo}
 use Rattle.std.specs.IoError.{error_kind}
 use Rattle.std.specs.Io.KnownBytes.{Appends}
@@ -14,15 +14,15 @@ use Rattle.life_base.specs.declared.cell.TheConstants.{MAX_LEVEL}
 use Rattle.life_base.specs.declared.kind.Kind.{Kind}
 use Rattle.life_base.specs.declared.kind.Kind.TheVariants as kinds
 use Rattle.life_cli.specs.Faults.{fault_line, refusal_of, status_of, Tells}
-use Rattle.life_cli.specs.Jobs.{HasNoText, HasText, InputRefuses, RefusesIn}
+use Rattle.life_cli.specs.Jobs.{HasNoText, HasText, InputRefuses, RefusesInForm}
 use Rattle.life_cli.specs.Keys.{end_of, IsKeyIn, key_line, pieces_of, refused_line, unopened_line}
-use Rattle.life_cli.specs.Opening.{Gives, IsOriginOf}
+use Rattle.life_cli.specs.Origins.{Gives, IsOriginOf}
 use Rattle.life_cli.specs.declared.keys.outputs.Outputs.{Outputs}
 use Rattle.life_cli.specs.declared.keys.outcome.Outcome.{Outcome}
 use Rattle.life_cli.specs.declared.keys.outcome.Outcome.TheVariants.{Key, Refused, Unopened}
-use Rattle.life_cli.specs.declared.opening.Opened.{Opened}
-use Rattle.life_cli.specs.declared.opening.Origin.{Origin}
-use Rattle.life_cli.specs.declared.opening.Origin.TheVariants.{Standard, File}
+use Rattle.life_cli.specs.declared.origins.Opened.{Opened}
+use Rattle.life_cli.specs.declared.origins.Origin.{Origin}
+use Rattle.life_cli.specs.declared.origins.Origin.TheVariants.{Standard, File}
 use Rattle.life_cli.specs.declared.plans.Form.{Form}
 use Rattle.life_cli.specs.declared.plans.KeysPlan.{KeysPlan}
 
@@ -113,7 +113,7 @@ module _ {F R : Type 0} (step : F → Origin → Result (Opened R) IoError → F
   -- what comes of what an opener gave: a key in the form, or why there is none
   abbrev pub Comes : Result (Opened R) IoError → Outcome → Type 0
   Comes (Ok opened) (Key key) = (source : SourceRun) × (source.before ≡ remaining opened.input) × HasText (IsKeyIn form MAX_LEVEL) source key
-  Comes (Ok opened) (Refused fault) = (source : SourceRun) × (source.before ≡ remaining opened.input) × HasNoText (RefusesIn form) source fault
+  Comes (Ok opened) (Refused fault) = (source : SourceRun) × (source.before ≡ remaining opened.input) × HasNoText (RefusesInForm form) source fault
   Comes (Err error) (Unopened kind) = kind ≡ error_kind error
   Comes _ _ = ⊥
 
@@ -186,3 +186,9 @@ module _ {F R W E : Type 0} (step : F → Origin → Result (Opened R) IoError �
     pub takes : TakesAll step remaining form opener_old taken opener_new
     pub writes : Writes held contents failures stalled out_old out_new err_old err_new old new result (output_of old.zero taken) (errors_of taken)
         (greatest_status taken)
+
+  -- The same of all these names, or at a refusal of the first ones.
+  abbrev pub TakesNames : Form → List Name → (opener_old opener_new : F) (out_old out_new : W) (err_old err_new : E) (old new : Outputs)
+      → Result (Unit {0}) Kind → Type 0
+  TakesNames form names opener_old opener_new out_old out_new err_old err_new old new result =
+      (rest : List Name) × OnOk result (rest ≡ []) × TakesFiles form names rest opener_old opener_new out_old out_new err_old err_new old new result

@@ -3,7 +3,7 @@ pub mod Forms
 pub mod Jobs
 pub mod CommandLine
 pub mod Plans
-pub mod Opening
+pub mod Origins
 pub mod Usages
 pub mod Sentences
 pub mod Keys

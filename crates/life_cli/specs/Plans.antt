@@ -45,10 +45,10 @@ HasSecond StepTable = Unit {0}
 HasSecond _ = ⊥
 
 -- the job writes the canonical text of its file's pattern as that lies
-abbrev pub WritesCanonical : Job → Type 0
-WritesCanonical (Canon Placed) = Unit {0}
-WritesCanonical (Convert Mc) = Unit {0}
-WritesCanonical _ = ⊥
+abbrev pub WritesPlacedText : Job → Type 0
+WritesPlacedText (Canon Placed) = Unit {0}
+WritesPlacedText (Convert Mc) = Unit {0}
+WritesPlacedText _ = ⊥
 
 -- the only file is FILE
 abbrev pub HoldsFile : List Row → Plan → Type 0
@@ -146,19 +146,16 @@ HasNoFormat rows = (word : Text) × (first_of (codes "to") rows ≡ Some word) �
 abbrev pub HasNoForm : List Row → Type 0
 HasNoForm rows = (word : Text) × (first_of (codes "form") rows ≡ Some word) × ((f : Form) → word ≢ form_word f)
 
--- the refusal of such a word, or for want of memory
-abbrev pub RefusesWord : Type 0 → Usage → Type 0
-RefusesWord is_such (Words error) = is_such × (kind_of error ≡ InvalidValue)
-RefusesWord is_such TwoInputs = ⊥
-RefusesWord is_such NoText = ⊥
-RefusesWord is_such Memory = Unit {0}
-
 -- the refusal of words of which this holds, as this kind, or for want of memory
 abbrev pub RefusesAs : ErrorKind → Type 0 → Usage → Type 0
 RefusesAs kind is_such (Words error) = is_such × (kind_of error ≡ kind)
 RefusesAs kind is_such TwoInputs = ⊥
 RefusesAs kind is_such NoText = ⊥
 RefusesAs kind is_such Memory = Unit {0}
+
+-- the refusal of such a word, or for want of memory
+abbrev pub RefusesWord : Type 0 → Usage → Type 0
+RefusesWord is_such usage = RefusesAs InvalidValue is_such usage
 
 -- why what was found for `keys` has no plan: neither a file nor a list was found, or the word behind --form is that of no form
 abbrev pub RefusesKeys : List Row → Usage → Type 0

@@ -1,16 +1,16 @@
 //! The key of a pattern: the SHA-256 of its canonical text in a form.
 
-ghost use Rattle.std.specs.Prelude.{◌≡◌, IfOk, IfErr, IsErrAnd};
+ghost use Rattle.std.specs.Prelude.{◌≡◌};
 ghost use Rattle.life_base.specs.DeviceRuns.{source_run};
-ghost use Rattle.life_cli.specs.Jobs.{HasNoText, HasText, RefusesIn};
+ghost use Rattle.life_cli.specs.Jobs.{ComesOf, RefusesInForm};
 ghost use Rattle.life_cli.specs.Keys.{IsKeyIn};
 
-use crate::forming::text_of_source;
+use crate::forms::text_of_source;
+use crate::jobs::MOST_SQUARES;
 use crate::plans::Form;
 use crate::seeds::Seeds;
-use crate::working::MOST_SQUARES;
 use key_sink::KeySink;
-use life_base::{Fault, Kind, MAX_LEVEL, Source};
+use life_base::{Fault, MAX_LEVEL, Source};
 use life_canon::run_canon;
 use life_quad::Shared;
 use sha2::{Digest, Sha256};
@@ -18,22 +18,18 @@ use std::alloc::Global;
 
 mod files;
 mod lines;
-mod listing;
+mod names;
 mod outcome;
 mod outputs;
-mod running;
+mod runs;
 
-pub use running::write_keys;
+pub use runs::write_keys;
 
 /// The key of a source's pattern as it lies. Its text is hashed as it is made, and not held.
 fn placed_key<A: Source>(alloc: Global, seeds: &Seeds, source: &mut A) -> Result<[u8; 32], Fault>
     requires { A.failures source.old ≡ 0 }
-    ensures ok { IfOk result (HasText (IsKeyIn Form.Placed MAX_LEVEL)
-        (source_run A.remaining A.failures source.old source.new)) }
-    ensures err { IfErr result (HasNoText (RefusesIn Form.Placed)
-        (source_run A.remaining A.failures source.old source.new)) }
-    ensures told { A.failures source.new ≡ 1
-        → IsErrAnd result (λ fault. fault.kind ≡ Kind.ReadFault) }
+    ensures { ComesOf (λ key. key) (IsKeyIn Form.Placed MAX_LEVEL) (RefusesInForm Form.Placed)
+        (source_run A.remaining A.failures source.old source.new) result }
 {
     let mut store = Shared::new(alloc, seeds.squares, MOST_SQUARES);
     let mut sink = KeySink::new();
@@ -49,12 +45,8 @@ fn key_of_text<A: Source>(
     source: &mut A,
 ) -> Result<[u8; 32], Fault>
     requires { A.failures source.old ≡ 0 }
-    ensures ok { IfOk result (HasText (IsKeyIn form MAX_LEVEL)
-        (source_run A.remaining A.failures source.old source.new)) }
-    ensures err { IfErr result
-        (HasNoText (RefusesIn form) (source_run A.remaining A.failures source.old source.new)) }
-    ensures told { A.failures source.new ≡ 1
-        → IsErrAnd result (λ fault. fault.kind ≡ Kind.ReadFault) }
+    ensures { ComesOf (λ key. key) (IsKeyIn form MAX_LEVEL) (RefusesInForm form)
+        (source_run A.remaining A.failures source.old source.new) result }
 {
     match text_of_source(alloc, seeds, form, source) {
         Ok(text) => Ok(Sha256::digest(text.as_slice())),
@@ -70,12 +62,8 @@ pub(crate) fn key_of<A: Source>(
     source: &mut A,
 ) -> Result<[u8; 32], Fault>
     requires { A.failures source.old ≡ 0 }
-    ensures ok { IfOk result (HasText (IsKeyIn form MAX_LEVEL)
-        (source_run A.remaining A.failures source.old source.new)) }
-    ensures err { IfErr result
-        (HasNoText (RefusesIn form) (source_run A.remaining A.failures source.old source.new)) }
-    ensures told { A.failures source.new ≡ 1
-        → IsErrAnd result (λ fault. fault.kind ≡ Kind.ReadFault) }
+    ensures { ComesOf (λ key. key) (IsKeyIn form MAX_LEVEL) (RefusesInForm form)
+        (source_run A.remaining A.failures source.old source.new) result }
 {
     match form {
         Form::Placed => placed_key(alloc, seeds, source),

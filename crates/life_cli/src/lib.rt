@@ -1,21 +1,21 @@
 //! What the program `golly_canon` does, over any words, sources and sinks.
 #![tactic(auto)]
 
-mod forming;
+mod forms;
+mod jobs;
 mod keys;
-mod opening;
+mod origins;
 pub mod plans;
-mod reporting;
+mod refusals;
+mod reports;
 mod seeds;
 mod sentences;
-mod stepping;
-mod telling;
-mod working;
+mod steps;
 
+pub use jobs::work;
 pub use keys::write_keys;
-pub use opening::{Opened, Origin, open_files};
-pub use plans::planning::{plan, request};
-pub use reporting::{refuse, report};
+pub use origins::{Opened, Origin, open_files};
+pub use plans::requests::{plan, request};
+pub use refusals::{Refusal, status, tell};
+pub use reports::{refuse, report};
 pub use seeds::Seeds;
-pub use telling::{Refusal, status, tell};
-pub use working::work;

@@ -123,4 +123,4 @@ impl From<io::Error> for Usage {
 
 mod commands;
 mod help;
-pub(crate) mod planning;
+pub(crate) mod requests;

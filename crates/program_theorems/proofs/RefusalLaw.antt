@@ -29,7 +29,7 @@ use Rattle.life_cli.specs.declared.plans.Form.TheVariants.{Placed, Moved, Turned
 use Rattle.life_cli.specs.declared.plans.Job.{Job}
 use Rattle.life_cli.specs.declared.plans.Job.TheVariants as jobs
 use Rattle.life_cli.specs.declared.plans.Target.TheVariants.{Rle, Mc}
-use Rattle.life_cli.specs.declared.telling.Refusal.{Refusal}
+use Rattle.life_cli.specs.declared.refusals.Refusal.{Refusal}
 use Rattle.claims.specs.Pattern.{Pattern}
 use Rattle.claims.specs.Files.{pattern_of, fault_of, IsWant}
 use Rattle.claims.specs.Generation.{SaysMoreCells, IsUnstepped, IsFirstReason}
@@ -46,7 +46,7 @@ use Rattle.step_theorems.proofs.StepLaw.{unstepped_is}
 use Rattle.program_theorems.specs.Jobs.{HasSecond, IsShort, Refuses, RefusesMany, IsReason, of_files, of_want, of_length, of_source, of_sink, Holds}
 use Rattle.program_theorems.specs.Forms.{HasTooMany}
 use Rattle.program_theorems.specs.Layers.{LayersAgree}
-use Rattle.program_theorems.specs.Telling.{fault_line, status_of}
+use Rattle.program_theorems.specs.Faults.{fault_line, status_of}
 use Rattle.program_theorems.proofs.FormLaw.{many_to}
 
 -- ---- kinds
@@ -235,7 +235,7 @@ module _ (laws : LayersAgree) (first second : SourceRun) (output : SinkRun) (ref
         inr (m.0, subst (SaysMoreCells (2 ^ 20)) (all_read (2 ^ 30) first.before first.after file bytes read f) (says_more bytes m.1)),
       ))
 
-  of_moved : refusal.in_table ≡ false → (bytes : List ℕ) → ReadAll (2 ^ 30) first.before first.after bytes → layer.RefusesIn Moved bytes refusal.fault
+  of_moved : refusal.in_table ≡ false → (bytes : List ℕ) → ReadAll (2 ^ 30) first.before first.after bytes → layer.RefusesInForm Moved bytes refusal.fault
       → Origin (jobs.Canon Moved) first second output refusal
   of_moved e bytes read (inl h) = of_many (jobs.Canon Moved) (λ file other h. h) e bytes read h
   of_moved e bytes read (inr want) = from_want (want_as want.0 refusal.fault want.2)
@@ -392,10 +392,10 @@ origin_of laws (jobs.Convert Mc) first second output refusal h =
     of_canon laws (jobs.Convert Mc) first second output refusal (λ bytes other text c. (refl, c)) (λ has. has) h.0 (λ file other r. (r.0, refl, r.1)) h.1.0
     h.1.2
 origin_of laws (jobs.Canon Moved) first second output refusal h =
-    of_file laws (jobs.Canon Moved) first second output refusal (LayerTextIn Moved 62) (layer.RefusesIn Moved) (λ bytes other text is. (refl, is))
+    of_file laws (jobs.Canon Moved) first second output refusal (LayerTextIn Moved 62) (layer.RefusesInForm Moved) (λ bytes other text is. (refl, is))
     (λ has. has) (of_moved laws first second output refusal h.0) h.1
 origin_of laws (jobs.Canon Turned) first second output refusal h =
-    of_file laws (jobs.Canon Turned) first second output refusal (LayerTextIn Turned 62) (layer.RefusesIn Turned) (λ bytes other text is. (refl, is))
+    of_file laws (jobs.Canon Turned) first second output refusal (LayerTextIn Turned 62) (layer.RefusesInForm Turned) (λ bytes other text is. (refl, is))
     (λ has. has) (of_many laws first second output refusal (jobs.Canon Turned) (λ file other h. h) h.0) h.1
 origin_of laws (jobs.Convert Rle) first second output refusal h =
     of_file laws (jobs.Convert Rle) first second output refusal (IsRleOf 62 (2 ^ 20)) layer.RefusesMany (λ bytes other text is. (refl, is)) (λ has. has)

@@ -1,5 +1,5 @@
 -- What the program does with each of its jobs, by the bytes of its files. The jobs, their words and their limits are this project's own.
-use Rattle.std.specs.Prelude.{◌≡◌, ◌⊎◌, ℕ, ◌^◌, ◌≤◌, ◌<◌, Bool, true, false, List, ◌++◌, length, take, codes, Option, Some, Ok, Err, IsOk}
+use Rattle.std.specs.Prelude.{◌≡◌, ◌⊎◌, ◌↔◌, ℕ, ◌^◌, ◌≤◌, ◌<◌, Bool, true, false, List, ◌++◌, length, take, codes, Option, Some, IsSome, IfSome, Ok, Err, IsOk}
 use Rattle.life_base.specs.Text.{begins_with}
 use Rattle.life_base.specs.declared.fault.Fault.{Fault}
 use Rattle.life_base.specs.declared.kind.Kind.TheVariants.{ReadFault, WriteFault, InputTooLong, TooManyCells}
@@ -16,13 +16,24 @@ use Rattle.claims.specs.Generation.{SaysMoreCells, IsStepped, IsUnstepped}
 use Rattle.claims.specs.Table.{Table, table_of}
 use Rattle.claims.specs.ByTable.{IsSteppedBy, IsUnsteppedBy}
 use Rattle.program_theorems.specs.Forms.{SameIn, HasTooMany, IsTextIn}
-use Rattle.program_theorems.specs.Telling.{status_of, fault_line}
+use Rattle.program_theorems.specs.Faults.{status_of, fault_line}
 
 -- the job has a second file: the one that the first is compared with, or a rule table
 abbrev pub HasSecond : Job → Type 0
 HasSecond (jobs.Same form) = Unit {0}
 HasSecond jobs.StepTable = Unit {0}
 HasSecond _ = ⊥
+
+-- what a job is given: sources and sinks that have not failed, sinks that take bytes, and a second file exactly if the job has one
+pub record IsGiven {B : Type 0} (job : Job) (first : ℕ) (failures : B → ℕ) (second : Option B) (output : ℕ) (output_stalled : Bool)
+    (error : ℕ) (error_stalled : Bool) : Type 0 where
+  pub first_reads : first ≡ 0
+  pub second_reads : IfSome second (λ b. failures b ≡ 0)
+  pub second_given : IsSome second ↔ HasSecond job
+  pub writes : output ≡ 0
+  pub takes : output_stalled ≡ false
+  pub tells : error ≡ 0
+  pub hears : error_stalled ≡ false
 
 -- the job writes the canonical text of a pattern: of the file, in a form, or of its next one
 abbrev pub WritesCanonical : Job → Type 0

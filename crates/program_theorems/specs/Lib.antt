@@ -1,4 +1,4 @@
-pub mod Telling
+pub mod Faults
 pub mod Forms
 pub mod Jobs
 pub mod Layers

@@ -1,11 +1,11 @@
 //! What runs write.
 
-ghost use Rattle.std.specs.Prelude.{◌≡◌, ◌⊎◌, ◌↔◌, ◌<◌, ◌≤◌, ◌^◌, ◌++◌, ℕ, List, false, Some, Ok, IsSome, IfSome, IfOk};
+ghost use Rattle.std.specs.Prelude.{◌≡◌, ◌⊎◌, ◌↔◌, ◌<◌, ◌≤◌, ◌^◌, ◌++◌, ℕ, List, Some, Ok, IfOk};
 ghost use Rattle.claims.specs.Counting.{node_lines};
 ghost use Rattle.claims.specs.Files.{Same, pattern_of};
 ghost use Rattle.claims.specs.Pattern.{Pattern};
 ghost use Rattle.claims.specs.Shown.{IsShown};
-ghost use Rattle.program_theorems.specs.Jobs.{HasSecond, WritesCanonical};
+ghost use Rattle.program_theorems.specs.Jobs.{IsGiven, WritesCanonical};
 ghost use Rattle.life_cli.specs.declared.plans.Form.{Form as FormValue};
 ghost use Rattle.program_theorems.specs.Forms.{SameIn};
 
@@ -30,13 +30,8 @@ pub fn written_text_is_that_of_canon<A: Source, B: Source, O: Sink, E: Sink>(
     limit: u64,
     seed: Seed,
 ) -> (u8, Result<Vec<u8>, Fault>)
-    requires first_reads { A.failures first.old ≡ 0 }
-    requires second_reads { IfSome second.old (λ b. B.failures b ≡ 0) }
-    requires second_given { IsSome second.old ↔ HasSecond job.now }
-    requires writes { O.failures out.old ≡ 0 }
-    requires takes { O.stalled out.old ≡ false }
-    requires tells { E.failures err.old ≡ 0 }
-    requires hears { E.stalled err.old ≡ false }
+    requires given { IsGiven job.now (A.failures first.old) B.failures second.old
+        (O.failures out.old) (O.stalled out.old) (E.failures err.old) (E.stalled err.old) }
     requires limit { limit ≤ 2 ^ 62 }
     ensures { (held : List ℕ) → A.remaining first.old ≡ Some file.now
         → O.contents out.old ≡ Some held → result.0 < 2
@@ -67,20 +62,10 @@ pub fn outputs_of_two_runs<A: Source, B: Source, O: Sink, E: Sink>(
     other_out: &mut O,
     other_err: &mut E,
 ) -> (u8, u8)
-    requires first_reads { A.failures first.old ≡ 0 }
-    requires second_reads { IfSome second.old (λ b. B.failures b ≡ 0) }
-    requires second_given { IsSome second.old ↔ HasSecond job.now }
-    requires writes { O.failures out.old ≡ 0 }
-    requires takes { O.stalled out.old ≡ false }
-    requires tells { E.failures err.old ≡ 0 }
-    requires hears { E.stalled err.old ≡ false }
-    requires other_first_reads { A.failures other_first.old ≡ 0 }
-    requires other_second_reads { IfSome other_second.old (λ b. B.failures b ≡ 0) }
-    requires other_second_given { IsSome other_second.old ↔ HasSecond other_job.now }
-    requires other_writes { O.failures other_out.old ≡ 0 }
-    requires other_takes { O.stalled other_out.old ≡ false }
-    requires other_tells { E.failures other_err.old ≡ 0 }
-    requires other_hears { E.stalled other_err.old ≡ false }
+    requires given { IsGiven job.now (A.failures first.old) B.failures second.old
+        (O.failures out.old) (O.stalled out.old) (E.failures err.old) (E.stalled err.old) }
+    requires other_given { IsGiven other_job.now (A.failures other_first.old) B.failures other_second.old
+        (O.failures other_out.old) (O.stalled other_out.old) (E.failures other_err.old) (E.stalled other_err.old) }
     ensures equal { (held kept : List ℕ) → O.contents out.old ≡ Some held
         → O.contents other_out.old ≡ Some kept → result.0 < 2 → result.1 < 2
         → WritesCanonical job.now → WritesCanonical other_job.now

@@ -1,6 +1,6 @@
 //! The job `canon` over devices that fail.
 
-use super::devices::{WIDE, assert_one, assert_refused, assert_texts, source_of};
+use super::devices::{READ_FAULT, WIDE, assert_one, assert_refused, assert_texts, source_of};
 use super::{GLIDER, GLIDER_TEXT, TWINS, TWINS_IN_RLE, TWINS_TEXT, WIRES, WIRES_TEXT};
 use life_base::{Device, Source};
 use life_cli::plans::{Form, Job};
@@ -38,15 +38,8 @@ fn tells_what_is_wrong(rt: HostRuntime) {
 fn failing_source(rt: HostRuntime) {
     for input in [GLIDER, b"o!\n".as_slice()] {
         let mut reader = source_of(input, 3);
-        let wanted = (3, b"".as_slice(), b"ReadFault\n".as_slice());
-        assert_one(
-            &rt,
-            rt.alloc(),
-            &Job::Canon(Form::Placed),
-            &mut reader,
-            WIDE,
-            wanted,
-        );
+        let job = Job::Canon(Form::Placed);
+        assert_one(&rt, rt.alloc(), &job, &mut reader, WIDE, READ_FAULT);
         assert!(rt; reader.failed());
     }
 }

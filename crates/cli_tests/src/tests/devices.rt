@@ -8,7 +8,7 @@ ghost use Rattle.life_cli.specs.Plans.{HasSecond};
 
 use super::JOBS;
 use life_base::{Device, Kind, Sink, Source};
-use life_cli::plans::Job;
+use life_cli::plans::{Form, Job};
 use life_cli::{Seeds, work};
 use std::alloc::Global;
 use std::io::{self, Read, Write};
@@ -135,6 +135,9 @@ impl Sink for Limited {
 /// Room for every text that a test writes, in pieces of seven bytes.
 pub(super) const WIDE: (usize, usize) = (9999, 7);
 
+/// What a job leaves whose source fails: it is told so, and writes nothing.
+pub(super) const READ_FAULT: (u8, &[u8], &[u8]) = (3, b"", b"ReadFault\n");
+
 /// A sink with room for `room` bytes that takes `piece` bytes at a time.
 pub(super) fn sink_with(alloc: Global, room: usize, piece: usize) -> Limited
     ensures failed { result.failed ≡ false }
@@ -233,6 +236,22 @@ pub(super) fn assert_two<A: Source, B: Source + Drop>(
     requires second_reads { B.failures second ≡ 0 }
 {
     assert_job(rt, alloc, job, first, Some(second), sink, wanted);
+}
+
+/// Two files that are compared as they lie leave this.
+pub(super) fn assert_compared<A: Source, B: Source + Drop>(
+    rt: &impl Abort,
+    alloc: Global,
+    first: &mut A,
+    second: B,
+    sink: (usize, usize),
+    wanted: (u8, &[u8], &[u8]),
+)
+    requires first_reads { A.failures first.old ≡ 0 }
+    requires second_reads { B.failures second ≡ 0 }
+{
+    let job = Job::Same(Form::Placed);
+    assert_two(rt, alloc, &job, first, second, sink, wanted);
 }
 
 /// A job of two files that are given whole leaves this.

@@ -4,16 +4,15 @@ ghost use Rattle.std.specs.Prelude.{◌≡◌, ◌↔◌, IsSome, IfSome};
 ghost use Rattle.life_cli.specs.Plans.{HasSecond};
 
 use super::JOBS;
-use super::devices::{End, Limited, Narrow, WIDE, assert_job, assert_left, sink_with, source_of};
+use super::devices::{
+    End, Limited, Narrow, READ_FAULT, WIDE, assert_job, assert_left, sink_with, source_of,
+};
 use life_base::{Device, Source};
 use life_cli::plans::{Form, Job};
 use life_cli::{Seeds, work};
 use std::alloc::Global;
 use std::io::{self, Write};
 use std::process::Abort;
-
-/// What a job leaves whose source fails: it is told so, and writes nothing.
-const READ_FAULT: (u8, &[u8], &[u8]) = (3, b"", b"ReadFault\n");
 
 /// A job whose first file fails at any of its reads is told so.
 fn assert_reads_fail(rt: &impl Abort, alloc: Global, job: &Job, first: &[u8], second: Option<&[u8]>)

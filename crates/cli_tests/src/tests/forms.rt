@@ -1,6 +1,6 @@
 //! The jobs that take a pattern in a form. The texts were worked out by hand.
 
-use super::devices::{WIDE, assert_files, assert_one, assert_texts, source_of};
+use super::devices::{READ_FAULT, WIDE, assert_files, assert_one, assert_texts, source_of};
 use super::{EAST_GLIDER, GLIDER, TWINS, TWINS_IN_RLE};
 use life_base::Device;
 use life_cli::plans::{Form, Job};
@@ -134,15 +134,8 @@ fn failing_devices(rt: HostRuntime) {
     let alloc = rt.alloc();
     for form in [Form::Moved, Form::Turned] {
         let job = Job::Canon(form);
-        let fault = (3, b"".as_slice(), b"ReadFault\n".as_slice());
-        assert_one(
-            &rt,
-            alloc,
-            &job,
-            &mut source_of(TWINS_IN_RLE, 3),
-            WIDE,
-            fault,
-        );
+        let mut first = source_of(TWINS_IN_RLE, 3);
+        assert_one(&rt, alloc, &job, &mut first, WIDE, READ_FAULT);
         let mut first = Device::new(GLIDER);
         let taken = (3, b"[M2] ".as_slice(), b"WriteFault\n".as_slice());
         assert_one(&rt, alloc, &job, &mut first, (5, 2), taken);

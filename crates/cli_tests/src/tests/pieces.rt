@@ -1,7 +1,9 @@
 //! Sources that give and outputs that take a byte at a time, and sources that fail where their bytes end.
 
 use super::TWINS;
-use super::devices::{WIDE, assert_jobs, assert_one, assert_two, source_of};
+use super::devices::{
+    READ_FAULT, WIDE, assert_compared, assert_jobs, assert_one, assert_two, source_of,
+};
 use super::steps::SPREAD;
 use life_base::Device;
 use life_cli::plans::{Form, Job, Target};
@@ -20,25 +22,17 @@ fn taken_byte_after_byte(rt: HostRuntime) {
 #[test]
 fn failing_behind_the_last_byte(rt: HostRuntime) {
     let alloc = rt.alloc();
-    let fault = (3, b"".as_slice(), b"ReadFault\n".as_slice());
     for input in [TWINS, b"o!\n".as_slice()] {
         let good = input.len();
         for job in [Job::Show, Job::Convert(Target::Rle), Job::Step] {
-            assert_one(&rt, alloc, &job, &mut source_of(input, good), WIDE, fault);
+            let mut first = source_of(input, good);
+            assert_one(&rt, alloc, &job, &mut first, WIDE, READ_FAULT);
         }
         for (job, whole) in [(Job::Same(Form::Placed), TWINS), (Job::StepTable, SPREAD)] {
             let (mut first, second) = (source_of(input, good), Device::new(whole));
-            assert_two(&rt, alloc, &job, &mut first, second, WIDE, fault);
+            assert_two(&rt, alloc, &job, &mut first, second, WIDE, READ_FAULT);
         }
         let (mut first, second) = (Device::new(TWINS), source_of(input, good));
-        assert_two(
-            &rt,
-            alloc,
-            &Job::Same(Form::Placed),
-            &mut first,
-            second,
-            WIDE,
-            fault,
-        );
+        assert_compared(&rt, alloc, &mut first, second, WIDE, READ_FAULT);
     }
 }

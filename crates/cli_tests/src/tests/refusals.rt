@@ -1,7 +1,7 @@
 //! What the jobs other than `canon` are refused for, in which order.
 
 use super::TWINS;
-use super::devices::{WIDE, assert_files, assert_one, assert_two, source_of};
+use super::devices::{READ_FAULT, WIDE, assert_compared, assert_files, assert_one, source_of};
 use life_base::Device;
 use life_cli::plans::{Form, Job, Target};
 
@@ -49,32 +49,15 @@ fn refused_texts(rt: HostRuntime) {
 #[test]
 fn failing_sources(rt: HostRuntime) {
     let alloc = rt.alloc();
-    let fault = (3, b"".as_slice(), b"ReadFault\n".as_slice());
     for job in [Job::Show, Job::Convert(Target::Rle)] {
-        assert_one(&rt, alloc, &job, &mut source_of(TWINS, 2), WIDE, fault);
+        let mut first = source_of(TWINS, 2);
+        assert_one(&rt, alloc, &job, &mut first, WIDE, READ_FAULT);
     }
-    let second = Device::new(TWINS);
-    let mut first = source_of(TWINS, 2);
-    assert_two(
-        &rt,
-        alloc,
-        &Job::Same(Form::Placed),
-        &mut first,
-        second,
-        WIDE,
-        fault,
-    );
+    let (mut first, second) = (source_of(TWINS, 2), Device::new(TWINS));
+    assert_compared(&rt, alloc, &mut first, second, WIDE, READ_FAULT);
     let mut first = Device::new(b"o!\n".as_slice());
     let second = source_of(TWINS, 2);
-    assert_two(
-        &rt,
-        alloc,
-        &Job::Same(Form::Placed),
-        &mut first,
-        second,
-        WIDE,
-        fault,
-    );
+    assert_compared(&rt, alloc, &mut first, second, WIDE, READ_FAULT);
 }
 
 /// What a sink took before it failed, or took no more, is a prefix of the text.
@@ -86,15 +69,7 @@ fn failing_sinks(rt: HostRuntime) {
         let mut first = Device::new(TWINS);
         let second = Device::new(b"[M2]\n".as_slice());
         let wanted = (3, taken, fault);
-        assert_two(
-            &rt,
-            alloc,
-            &Job::Same(Form::Placed),
-            &mut first,
-            second,
-            (room, piece),
-            wanted,
-        );
+        assert_compared(&rt, alloc, &mut first, second, (room, piece), wanted);
     }
     for (job, room, taken) in [
         (Job::Show, 13, b"rule B3/S23\ng".as_slice()),

@@ -5,7 +5,7 @@ ghost use Rattle.life_cli.specs.KeyRuns.{Comes, LacksList, Listed, ReadsList, Ta
 
 use super::key_of;
 use super::outcome::Outcome;
-use crate::opening::{Opened, Origin, origin_of};
+use crate::origins::{Opened, Origin, origin_of};
 use crate::plans::Form;
 use crate::seeds::Seeds;
 use life_base::{Device, Kind, read_within};

@@ -3,7 +3,7 @@
 ghost use Rattle.std.specs.Prelude.{◌≡◌};
 ghost use Rattle.life_cli.specs.KeyRuns.{outcome_status};
 
-use crate::telling::status;
+use crate::refusals::status;
 use life_base::Fault;
 use std::io::ErrorKind;
 

@@ -9,8 +9,8 @@ ghost use Rattle.life_cli.specs.KeyRuns.{error_line, IsToldAs, outcome_status, o
 
 use super::lines::{append_key_line, write_error_line};
 use super::outcome::Outcome;
-use crate::reporting::refuse;
-use crate::telling::status;
+use crate::refusals::status;
+use crate::reports::refuse;
 use life_base::{Fault, Kind, Sink, write_text};
 use std::alloc::Global;
 
@@ -44,7 +44,7 @@ fn make_line(room: &mut Vec<u8>, name: &[u8], outcome: Outcome, zero: bool) -> O
 }
 
 /// Tells why a file has no key, if `tells`, and answers whether `err` takes more.
-fn tell<E: Sink>(tells: bool, err: &mut E, name: &[u8], outcome: &Outcome) -> bool
+fn tell_outcome<E: Sink>(tells: bool, err: &mut E, name: &[u8], outcome: &Outcome) -> bool
     requires { tells ≡ true → E.failures err.old ≡ 0 }
     ensures { TellsOn E.contents E.failures E.stalled tells result err.old err.new
         (error_line name.now outcome.now) }
@@ -89,7 +89,7 @@ impl Outputs {
         ensures zero { self.new.zero ≡ self.old.zero }
     {
         let told = make_line(&mut self.room, name, outcome, self.zero);
-        self.tells = tell(self.tells, err, name, &told);
+        self.tells = tell_outcome(self.tells, err, name, &told);
         let status = told.status();
         if status > self.status {
             self.status = status;

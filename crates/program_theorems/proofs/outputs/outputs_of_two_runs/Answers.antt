@@ -4,14 +4,14 @@ use Rattle.program_theorems.proofs.outputs.outputs_of_two_runs.Goals as goal
 
 pub work-status-requires-clause-second_given : goal.work-status-requires-clause-second_given
 work-status-requires-clause-second_given g c = (
-  λ is. to_layer c.args.job.now (c.requires.second_given.0 is),
-  λ has. c.requires.second_given.1 (from_layer c.args.job.now has),
+  λ is. to_layer c.args.job.now (c.requires.given.second_given.0 is),
+  λ has. c.requires.given.second_given.1 (from_layer c.args.job.now has),
 )
 
 pub work-other-requires-clause-second_given : goal.work-other-requires-clause-second_given
 work-other-requires-clause-second_given g c = (
-  λ is. to_layer c.args.other_job.now (c.requires.other_second_given.0 is),
-  λ has. c.requires.other_second_given.1 (from_layer c.args.other_job.now has),
+  λ is. to_layer c.args.other_job.now (c.requires.other_given.second_given.0 is),
+  λ has. c.requires.other_given.second_given.1 (from_layer c.args.other_job.now has),
 )
 
 pub returns-clause-equal : goal.returns-clause-equal

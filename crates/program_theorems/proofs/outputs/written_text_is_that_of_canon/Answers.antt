@@ -7,8 +7,8 @@ use Rattle.program_theorems.proofs.outputs.written_text_is_that_of_canon.Goals a
 
 pub work-status-requires-clause-second_given : goal.work-status-requires-clause-second_given
 work-status-requires-clause-second_given g c = (
-  λ is. to_layer c.args.job.now (c.requires.second_given.0 is),
-  λ has. c.requires.second_given.1 (from_layer c.args.job.now has),
+  λ is. to_layer c.args.job.now (c.requires.given.second_given.0 is),
+  λ has. c.requires.given.second_given.1 (from_layer c.args.job.now has),
 )
 
 pub returns : goal.returns

@@ -1,6 +1,7 @@
 use Rattle.std.proofs.Common.{subst}
 use Rattle.std.proofs.lemmas.Result.{IfOk-weaker}
 use Rattle.std.specs.Prelude.{IfOk}
+use Rattle.clap.specs.Words.{AddsSubcommand, with_subcommand}
 use Rattle.life_cli.specs.CommandLine.{ReadsAs}
 use Rattle.life_cli.proofs.LineLemmas.{reads-subcommand}
 use Rattle.life_cli.proofs.plans.commands.with_command.Goals as goal
@@ -8,4 +9,5 @@ use Rattle.life_cli.proofs.plans.commands.with_command.Goals as goal
 pub returns : goal.returns
 returns c = λ line added reads below.
     let made = subst (λ r. IfOk r (ReadsAs added)) c.in_ok-more.was below in
-    IfOk-weaker c.subcommand.result _ _ (λ new adds. reads-subcommand line added _ _ new reads adds made) c.subcommand.ensures
+    IfOk-weaker c.subcommand.result (AddsSubcommand c.args.command c.in_ok-more.more) (ReadsAs (with_subcommand line added.top))
+    (λ new adds. reads-subcommand line added c.args.command c.in_ok-more.more new reads adds made) c.subcommand.ensures

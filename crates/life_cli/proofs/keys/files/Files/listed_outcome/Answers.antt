@@ -1,5 +1,5 @@
 use Rattle.life_cli.specs.KeyRuns.{by_call}
-use Rattle.life_cli.specs.declared.opening.Origin.TheVariants.{File}
+use Rattle.life_cli.specs.declared.origins.Origin.TheVariants.{File}
 use Rattle.life_cli.proofs.keys.files.Files.listed_outcome.Goals as goal
 
 pub returns-in-Ok-clause-takes : goal.returns-in-Ok-clause-takes

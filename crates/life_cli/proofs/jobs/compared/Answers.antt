@@ -1,0 +1,94 @@
+use Rattle.std.proofs.Common.{◌≡◌, ◌∙◌, ℕ, inl, inr, sym}
+use Rattle.std.proofs.lemmas.Result.{err_from_is_err_and}
+use Rattle.life_cli.specs.Jobs.{by_files}
+use Rattle.life_cli.proofs.WorkLemmas.{compared_in, no_first_input, no_second_input, uncompared_in}
+use Rattle.life_cli.proofs.jobs.compared.Goals as goal
+
+pub returns-in_err-a-clause-err : goal.returns-in_err-a-clause-err
+returns-in_err-a-clause-err g c =
+    let p = err_from_is_err_and c.from_residual.result c.from_residual.ensures.1 in
+    rw (p.1, p.2) (no_first_input c.args.form _ _ c.pattern_in.new.store _ (c.pattern_in.ensures.keeps.limit ∙ c.new-store.ensures.most) c.in_err-a.ensures.err)
+
+pub returns-in_err-b-clause-err : goal.returns-in_err-b-clause-err
+returns-in_err-b-clause-err g c =
+    let p = err_from_is_err_and c.from_residual-in_err-b.result c.from_residual-in_err-b.ensures.1 in
+    let a = c.in_ok-a.ensures.pattern in
+    rw (p.1, p.2) (no_second_input c.args.form _ _ a.bytes c.pattern_in-2.new.store _ a.read
+    (c.pattern_in-2.ensures.keeps.limit ∙ c.pattern_in.ensures.keeps.limit ∙ c.new-store.ensures.most) c.in_err-b.ensures.err)
+
+pub returns-in_err-a-2-clause-err : goal.returns-in_err-a-2-clause-err
+returns-in_err-a-2-clause-err g c =
+    let p = err_from_is_err_and c.from_residual-in_err-a-2.result c.from_residual-in_err-a-2.ensures.1 in
+    let a = c.in_ok-a.ensures.pattern in
+    let b = c.in_ok-b.ensures.pattern in
+    rw (p.1, p.2) (by_files a.bytes b.bytes a.read b.read (inl (rw c.in_err-a-2.was at a.fault)))
+
+pub returns-in_err-b-2-clause-err : goal.returns-in_err-b-2-clause-err
+returns-in_err-b-2-clause-err g c =
+    let p = err_from_is_err_and c.from_residual-in_err-b-2.result c.from_residual-in_err-b-2.ensures.1 in
+    let a = c.in_ok-a.ensures.pattern in
+    let b = c.in_ok-b.ensures.pattern in
+    let r = rw c.in_ok-a-2.was at a.pattern in
+    rw (p.1, p.2) (by_files a.bytes b.bytes a.read b.read (inr ((r.universe, r.reads), rw c.in_err-b-2.was at b.fault)))
+
+pub are_same_in-requires-clause-a : goal.are_same_in-requires-clause-a
+are_same_in-requires-clause-a g c =
+    let a = c.in_ok-a.ensures.pattern in
+    let r = rw c.in_ok-a-2.was at a.pattern in
+    (a.bytes, c.patterns_stay.ensures a.bytes _ _ _ c.pattern_in-2.ensures.keeps r)
+
+pub are_same_in-requires-clause-b : goal.are_same_in-requires-clause-b
+are_same_in-requires-clause-b g c =
+    let b = c.in_ok-b.ensures.pattern in
+    let q = rw c.in_ok-b-2.was at b.pattern in
+    (b.bytes, q)
+
+pub are_same_in-requires-clause-limit : goal.are_same_in-requires-clause-limit
+are_same_in-requires-clause-limit g c = c.pattern_in-2.ensures.keeps.limit ∙ c.pattern_in.ensures.keeps.limit ∙ c.new-store.ensures.most
+
+pub returns-clause-ok : goal.returns-clause-ok
+returns-clause-ok g c =
+    let a = c.in_ok-a.ensures.pattern in
+    let b = c.in_ok-b.ensures.pattern in
+    let r = rw c.in_ok-a-2.was at a.pattern in
+    let q = rw c.in_ok-b-2.was at b.pattern in
+    compared_in c.args.form _ _ c.pattern_in-2.new.store a.bytes b.bytes _ _ c.are_same_in.result a.read b.read
+    (c.patterns_stay.ensures a.bytes _ _ _ c.pattern_in-2.ensures.keeps r) q c.are_same_in.ensures.answer c.are_same_in.ensures.few
+
+pub returns-clause-err : goal.returns-clause-err
+returns-clause-err g c =
+    let a = c.in_ok-a.ensures.pattern in
+    let b = c.in_ok-b.ensures.pattern in
+    let r = rw c.in_ok-a-2.was at a.pattern in
+    let q = rw c.in_ok-b-2.was at b.pattern in
+    uncompared_in c.args.form _ _ c.pattern_in-2.new.store a.bytes b.bytes _ _ c.are_same_in.result a.read b.read
+    (c.patterns_stay.ensures a.bytes _ _ _ c.pattern_in-2.ensures.keeps r) q c.are_same_in.ensures.fault
+
+-- what has not failed has not failed once
+unfailed : (n : ℕ) → n ≡ 0 → n ≡ 1 → ⊥
+unfailed n works failed = let bad : 0 ≡ 1 = sym works ∙ failed in absurd cc
+
+pub returns-in_err-a-clause-told : goal.returns-in_err-a-clause-told
+returns-in_err-a-clause-told g c =
+    let p = err_from_is_err_and c.from_residual.result c.from_residual.ensures.1 in
+    rw (p.1, p.2) (λ e. elim e [
+      | inl failed ↦ c.in_err-a.ensures.told failed
+      | inr failed ↦ absurd (unfailed _ c.requires.other failed)
+    ])
+
+pub returns-in_err-b-clause-told : goal.returns-in_err-b-clause-told
+returns-in_err-b-clause-told g c =
+    let p = err_from_is_err_and c.from_residual-in_err-b.result c.from_residual-in_err-b.ensures.1 in
+    rw (p.1, p.2) (λ e. elim e [ inl failed ↦ absurd (c.in_ok-a.ensures.told failed) | inr failed ↦ c.in_err-b.ensures.told failed ])
+
+pub returns-in_err-a-2-clause-told : goal.returns-in_err-a-2-clause-told
+returns-in_err-a-2-clause-told g c =
+    λ e. elim e [ inl failed ↦ absurd (c.in_ok-a.ensures.told failed) | inr failed ↦ absurd (c.in_ok-b.ensures.told failed) ]
+
+pub returns-in_err-b-2-clause-told : goal.returns-in_err-b-2-clause-told
+returns-in_err-b-2-clause-told g c =
+    λ e. elim e [ inl failed ↦ absurd (c.in_ok-a.ensures.told failed) | inr failed ↦ absurd (c.in_ok-b.ensures.told failed) ]
+
+pub returns-clause-told : goal.returns-clause-told
+returns-clause-told g c =
+    λ e. elim e [ inl failed ↦ absurd (c.in_ok-a.ensures.told failed) | inr failed ↦ absurd (c.in_ok-b.ensures.told failed) ]

@@ -1,0 +1,23 @@
+use Rattle.std.proofs.Common.{◌∙◌}
+use Rattle.std.proofs.lemmas.Result.{err_from_is_err_and}
+use Rattle.life_base.specs.declared.cell.TheConstants.{MAX_LEVEL}
+use Rattle.life_canon.specs.Files.{Refuses}
+use Rattle.life_canon.specs.Texts.{IsShown}
+use Rattle.life_cli.proofs.WorkLemmas.{comes_of_pattern, nothing_comes, refused_lines}
+use Rattle.life_cli.proofs.jobs.five_lines_of_source.Goals as goal
+
+pub returns-in_err-pattern : goal.returns-in_err-pattern
+returns-in_err-pattern g c =
+    let p = err_from_is_err_and c.from_residual.result c.from_residual.ensures.1 in
+    rw (p.1, p.2) (nothing_comes _ (IsShown MAX_LEVEL) (Refuses MAX_LEVEL) _ c.read_from.new.store _
+    (c.read_from.ensures.keeps.limit ∙ c.new-store.ensures.most) (λ bytes refuses. refuses)
+    c.in_err-pattern.ensures.fault (λ e. c.in_err-pattern.ensures.needed (cc)) c.in_err-pattern.ensures.told)
+
+pub five_lines_of-requires : goal.five_lines_of-requires
+five_lines_of-requires g c = (c.in_ok-pattern.ensures.pattern.bytes, c.in_ok-pattern.ensures.pattern.is)
+
+pub returns : goal.returns
+returns g c =
+    comes_of_pattern _ (IsShown MAX_LEVEL) (Refuses MAX_LEVEL) _ c.read_from.new.store c.in_ok-pattern.pattern c.five_lines_of.result
+    c.in_ok-pattern.ensures.pattern c.in_ok-pattern.ensures.works c.five_lines_of.ensures.text
+    (refused_lines _ c.five_lines_of.result c.five_lines_of.ensures.memory)

@@ -1,0 +1,23 @@
+use Rattle.std.proofs.Common.{◌^◌, ◌∙◌, inl}
+use Rattle.std.proofs.lemmas.Result.{err_from_is_err_and}
+use Rattle.life_base.specs.declared.cell.TheConstants.{MAX_LEVEL}
+use Rattle.life_canon.specs.Texts.{IsRleOf}
+use Rattle.life_cli.specs.Jobs.{RefusesMany}
+use Rattle.life_cli.proofs.WorkLemmas.{comes_of_pattern, nothing_comes, refused_rle}
+use Rattle.life_cli.proofs.jobs.rle_of_source.Goals as goal
+
+pub returns-in_err-pattern : goal.returns-in_err-pattern
+returns-in_err-pattern g c =
+    let p = err_from_is_err_and c.from_residual.result c.from_residual.ensures.1 in
+    rw (p.1, p.2) (nothing_comes _ (IsRleOf MAX_LEVEL (2 ^ 20)) RefusesMany _ c.read_from.new.store _
+    (c.read_from.ensures.keeps.limit ∙ c.new-store.ensures.most) (λ bytes refuses. inl refuses)
+    c.in_err-pattern.ensures.fault (λ e. c.in_err-pattern.ensures.needed (cc)) c.in_err-pattern.ensures.told)
+
+pub rle_of-requires : goal.rle_of-requires
+rle_of-requires g c = (c.in_ok-pattern.ensures.pattern.bytes, c.in_ok-pattern.ensures.pattern.is)
+
+pub returns : goal.returns
+returns g c =
+    comes_of_pattern _ (IsRleOf MAX_LEVEL (2 ^ 20)) RefusesMany _ c.read_from.new.store c.in_ok-pattern.pattern c.rle_of.result
+    c.in_ok-pattern.ensures.pattern c.in_ok-pattern.ensures.works c.rle_of.ensures.text
+    (refused_rle _ c.read_from.new.store c.in_ok-pattern.pattern c.rle_of.result c.in_ok-pattern.ensures.pattern c.rle_of.ensures.fault)

@@ -1,0 +1,39 @@
+use Rattle.std.proofs.Common.{◌++◌, map}
+use Rattle.std.proofs.lemmas.Result.{err_from_is_err_and}
+use Rattle.life_cli.specs.Keys.{end_of}
+use Rattle.life_cli.specs.KeyRuns.{Listed, names_in}
+use Rattle.life_cli.proofs.KeyRunLemmas.{on_ok, takes_both, takes_err, takes_flushed, takes_longer, takes_ok}
+use Rattle.life_cli.proofs.keys.runs.Run.take_all.Goals as goal
+
+pub returns-in_err-take_words-clause-took : goal.returns-in_err-take_words-clause-took
+returns-in_err-take_words-clause-took g c =
+    let p = err_from_is_err_and c.from_residual.result c.from_residual.ensures.1 in
+    let first = c.in_err-take_words.ensures.took in
+    rw p.1 (
+      first.0 ++ map Listed (names_in (end_of c.args.self.now.outputs.zero) c.args.list.now),
+      tt,
+      takes_err _ _ _ _ _ _ _ _ _ _ _ _ _ _ _ _ _ _ _ (takes_longer _ _ _ _ _ _ _ _ _ _ _ _ _ _ _ _ _ _ _ first.2),
+    )
+
+pub returns-in_err-take_list-clause-took : goal.returns-in_err-take_list-clause-took
+returns-in_err-take_list-clause-took g c =
+    let p = err_from_is_err_and c.from_residual-in_err-take_list.result c.from_residual-in_err-take_list.ensures.1 in
+    let first = c.in_ok-take_words.ensures.took in
+    let second = c.in_err-take_list.ensures.took in
+    rw p.1 (
+      second.0,
+      tt,
+      takes_err _ _ _ _ _ _ _ _ _ _ _ _ _ _ _ _ _ _ _ (takes_both _ _ _ _ _ _ _ _ _ _ _ _ _ _ _ _ _ _ _ _ _ _ _ _ _ c.in_ok-take_words.ensures.form
+          c.in_ok-take_words.ensures.zero first.1 (takes_ok _ _ _ _ _ _ _ _ _ _ _ _ _ _ _ _ _ _ _ first.2) second.2),
+    )
+
+pub returns-clause-took : goal.returns-clause-took
+returns-clause-took g c =
+    let first = c.in_ok-take_words.ensures.took in
+    let second = c.in_ok-take_list.ensures.took in (
+      second.0,
+      on_ok _ c.flush.result second.1,
+      takes_flushed _ _ _ _ _ _ _ _ _ _ _ _ _ _ _ _ _ _ _ (takes_both _ _ _ _ _ _ _ _ _ _ _ _ _ _ _ _ _ _ _ _ _ _ _ _ _ c.in_ok-take_words.ensures.form
+          c.in_ok-take_words.ensures.zero first.1 (takes_ok _ _ _ _ _ _ _ _ _ _ _ _ _ _ _ _ _ _ _ first.2)
+          (takes_ok _ _ _ _ _ _ _ _ _ _ _ _ _ _ _ _ _ _ _ second.2)) c.flush.ensures.bytes,
+    )

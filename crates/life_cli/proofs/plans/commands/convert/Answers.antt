@@ -1,0 +1,6 @@
+use Rattle.std.proofs.Common.{codes}
+use Rattle.life_cli.specs.CommandLine.{one_file_line, required_option}
+use Rattle.life_cli.proofs.plans.commands.convert.Goals as goal
+
+pub returns : goal.returns
+returns c = c.with_argument.ensures (one_file_line (codes "convert")) (required_option (codes "to")) c.in_ok-command.ensures c.needed_option.ensures

@@ -1,0 +1,6 @@
+use Rattle.std.proofs.Common.{codes}
+use Rattle.life_cli.specs.CommandLine.{one_file_line, option}
+use Rattle.life_cli.proofs.plans.commands.step.Goals as goal
+
+pub returns : goal.returns
+returns c = c.with_argument.ensures (one_file_line (codes "step")) (option (codes "table")) c.in_ok-command.ensures c.option.ensures

@@ -1,0 +1,107 @@
+//! The work of the jobs that take a pattern in a form.
+
+ghost use Rattle.std.specs.Prelude.{◌≡◌, ◌⊎◌, ◌↔◌, ◌^◌, ◌<◌, ◌≤◌, Err, IfOk, IfErr, OnOk, IsTrue, List, ℕ};
+ghost use Rattle.life_base.specs.DeviceRuns.{source_run};
+ghost use Rattle.life_base.specs.Refusal.{fault_of};
+ghost use Rattle.life_quad.specs.Cells.{population};
+ghost use Rattle.life_canon.specs.Store.{IsOfFile, IsRead, IsTrimmed, IsWant, Keeps, content, universe_in};
+ghost use Rattle.life_forms.specs.Needed.{LacksForMoved};
+ghost use Rattle.life_cli.specs.Forms.{AreSameIn, HasTooMany, IsMovedText, IsTextIn};
+ghost use Rattle.life_cli.specs.Jobs.{ComesOf, RefusesInForm, RefusesSame};
+
+use crate::jobs::MOST_SQUARES;
+use crate::plans::Form;
+use crate::seeds::Seeds;
+use life_base::{Fault, Kind, MAX_LEVEL, Source};
+use life_canon::laws::{files_are_on_plane, files_are_unique, patterns_fit, patterns_tell_files};
+use life_canon::{Pattern, are_same, read_from, text_of};
+use life_forms::{are_shifts, are_turns, moved_of, turned_text};
+use life_quad::Shared;
+use std::alloc::Global;
+
+/// The canonical text of a pattern's moved form.
+fn moved_text(alloc: Global, store: &mut Shared, pattern: &Pattern) -> Result<Vec<u8>, Fault>
+    requires { IsTrimmed store.old pattern.now }
+    ensures text { IfOk result
+        (λ text. IsMovedText MAX_LEVEL (universe_in store.old pattern.now) text.items) }
+    ensures few { OnOk result (population (content store.old pattern.now.root) ≤ 2 ^ 20) }
+    ensures fault { IfErr result (λ fault. ((fault ≡ fault_of Kind.TooManyCells)
+        × (2 ^ 20 < population (content store.old pattern.now.root))) ⊎ IsWant store.new fault) }
+    ensures needed { result ≡ Err (fault_of Kind.Full)
+        → LacksForMoved (universe_in store.old pattern.now) store.new }
+    ensures keeps { Keeps store.old store.new }
+{
+    let moved = moved_of(alloc, store, pattern)?;
+    text_of(alloc, store, &moved)
+}
+
+/// The text of a file's pattern in a form.
+fn text_in(
+    alloc: Global,
+    store: &mut Shared,
+    form: Form,
+    pattern: &Pattern,
+) -> Result<Vec<u8>, Fault>
+    requires read { IsOfFile MAX_LEVEL store.old pattern.now }
+    requires limit { store.old.limit ≡ 2 ^ 31 }
+    ensures text { IfOk result (λ text. (bytes : List ℕ)
+        → IsRead MAX_LEVEL bytes store.old pattern.now → IsTextIn form MAX_LEVEL bytes text.items) }
+    ensures fault { IfErr result (λ fault. (fault ≡ fault_of Kind.Memory)
+        ⊎ ((bytes : List ℕ) → IsRead MAX_LEVEL bytes store.old pattern.now
+        → RefusesInForm form bytes fault)) }
+{
+    patterns_fit();
+    files_are_unique();
+    match form {
+        Form::Placed => text_of(alloc, store, pattern),
+        Form::Moved => moved_text(alloc, store, pattern),
+        Form::Turned => turned_text(alloc, store, pattern),
+    }
+}
+
+/// The text of a source's pattern in a form.
+pub(crate) fn text_of_source<A: Source>(
+    alloc: Global,
+    seeds: &Seeds,
+    form: Form,
+    first: &mut A,
+) -> Result<Vec<u8>, Fault>
+    requires { A.failures first.old ≡ 0 }
+    ensures { ComesOf (λ text. text.items) (IsTextIn form MAX_LEVEL) (RefusesInForm form)
+        (source_run A.remaining A.failures first.old first.new) result }
+{
+    let mut store = Shared::new(alloc, seeds.squares, MOST_SQUARES);
+    let pattern = read_from(alloc, &mut store, first)?;
+    text_in(alloc, &mut store, form, &pattern)
+}
+
+/// Whether the patterns of two files are one in a form.
+pub(crate) fn are_same_in(
+    alloc: Global,
+    store: &mut Shared,
+    form: Form,
+    a: &Pattern,
+    b: &Pattern,
+) -> Result<bool, Fault>
+    requires a { IsOfFile MAX_LEVEL store.old a.now }
+    requires b { IsOfFile MAX_LEVEL store.old b.now }
+    requires limit { store.old.limit ≡ 2 ^ 31 }
+    ensures answer { IfOk result (λ answer. (first second : List ℕ)
+        → IsRead MAX_LEVEL first store.old a.now → IsRead MAX_LEVEL second store.old b.now
+        → IsTrue answer ↔ AreSameIn form MAX_LEVEL first second) }
+    ensures few { OnOk result ((first second : List ℕ) → IsRead MAX_LEVEL first store.old a.now
+        → IsRead MAX_LEVEL second store.old b.now → ¬ HasTooMany form MAX_LEVEL first second) }
+    ensures fault { IfErr result (λ fault. (fault ≡ fault_of Kind.Memory)
+        ⊎ ((first second : List ℕ) → IsRead MAX_LEVEL first store.old a.now
+        → IsRead MAX_LEVEL second store.old b.now → RefusesSame form first second fault)) }
+{
+    patterns_fit();
+    patterns_tell_files();
+    files_are_unique();
+    files_are_on_plane();
+    match form {
+        Form::Placed => Ok(are_same(a, b)),
+        Form::Moved => are_shifts(alloc, store, a, b),
+        Form::Turned => are_turns(alloc, store, a, b),
+    }
+}

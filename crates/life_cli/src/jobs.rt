@@ -1,0 +1,341 @@
+//! The work of a job.
+
+ghost use Rattle.std.specs.Prelude.{◌≡◌, ◌≢◌, ◌⊎◌, ◌<◌, ◌↔◌, ◌^◌, IsSome, IfSome, IfOk, IfErr, OnOk, IsErrAnd, IsTrue, Ok, Err, true, false};
+ghost use Rattle.std.specs.Io.KnownBytes.{Appends};
+ghost use Rattle.life_base.specs.DeviceRuns.{SinkRun, SourceRun, source_run, optional_source_run, sink_run};
+ghost use Rattle.life_cli.specs.declared.refusals.Refusal.{Refusal};
+ghost use Rattle.life_canon.specs.Files.{Refuses};
+ghost use Rattle.life_canon.specs.Store.{Keeps};
+ghost use Rattle.life_canon.specs.Texts.{IsRleOf, IsShown};
+ghost use Rattle.life_cli.specs.Faults.{fault_line, refusal_of, status_of, Tells};
+ghost use Rattle.life_cli.specs.Jobs.{made_status, made_text, MadeOf, Makes, Worked, OfFile, InputRefuses, BreaksOff, ComesOf, AreUncompared, CanonRefuses, IsPatternIn, IsWantFor, JobRan, JobRefuses, RefusesMany};
+ghost use Rattle.life_cli.specs.Plans.{HasSecond, WritesPlacedText};
+
+use crate::forms::{are_same_in, text_of_source};
+use crate::plans::{Form, Job, Target};
+use crate::refusals::{Refusal, status, tell};
+use crate::seeds::Seeds;
+use crate::steps::{next_by_table_of, next_of};
+use life_base::{Fault, Kind, MAX_LEVEL, Sink, Source, deliver};
+use life_canon::laws::{patterns_stay, refusals_have_kinds};
+use life_canon::{Pattern, five_lines_of, read_from, rle_of, run_canon};
+use life_quad::Shared;
+use std::alloc::Global;
+
+/// How many different squares a store of the program holds at most.
+pub(crate) const MOST_SQUARES: u64 = 1 << 31;
+
+/// What a job made of its files, before any of it is written.
+#[derive(Drop)]
+pub enum Made {
+    /// A text.
+    Text(Vec<u8>),
+    /// Whether the two files are the same pattern in the form.
+    Comparison(bool),
+}
+
+impl Made {
+    /// What is written.
+    fn text(&self) -> &[u8]
+        ensures { result.now ≡ made_text self.now }
+    {
+        match self {
+            Made::Text(text) => text.as_slice(),
+            Made::Comparison(true) => b"same\n",
+            Made::Comparison(false) => b"different\n",
+        }
+    }
+
+    /// The status of the job.
+    fn status(&self) -> u8
+        ensures { result ≡ made_status self.now }
+    {
+        match self {
+            Made::Text(_) | Made::Comparison(true) => 0,
+            Made::Comparison(false) => 1,
+        }
+    }
+}
+
+/// Writes the whole text and flushes.
+fn write_whole<W: Sink>(writer: &mut W, text: &[u8]) -> Result<(), Refusal>
+    requires works { W.failures writer.old ≡ 0 }
+    requires takes { W.stalled writer.old ≡ false }
+    ensures ok { OnOk result (Appends (W.contents writer.old) (W.contents writer.new) text.now) }
+    ensures flushed { OnOk result (W.flushed writer.new ≡ true) }
+    ensures err { IfErr result (OfFile
+        (BreaksOff (sink_run W.contents W.failures W.stalled writer.old writer.new) text.now)) }
+    ensures told { (W.failures writer.new ≡ 1) ⊎ (W.stalled writer.new ≡ true)
+        → IsErrAnd result (λ refusal. refusal.fault.kind ≡ Kind.WriteFault) }
+{
+    match deliver(writer, text) {
+        Ok(()) => Ok(()),
+        Err(kind) => Err(Fault::of(kind).into()),
+    }
+}
+
+/// The text in extended RLE of a source's pattern.
+fn rle_of_source<A: Source>(alloc: Global, seeds: &Seeds, first: &mut A) -> Result<Vec<u8>, Fault>
+    requires { A.failures first.old ≡ 0 }
+    ensures { ComesOf (λ text. text.items) (IsRleOf MAX_LEVEL (2 ^ 20)) RefusesMany
+        (source_run A.remaining A.failures first.old first.new) result }
+{
+    let mut store = Shared::new(alloc, seeds.squares, MOST_SQUARES);
+    let pattern = read_from(alloc, &mut store, first)?;
+    rle_of(alloc, &store, &pattern)
+}
+
+/// The five lines of a source's pattern.
+fn five_lines_of_source<A: Source>(
+    alloc: Global,
+    seeds: &Seeds,
+    first: &mut A,
+) -> Result<Vec<u8>, Fault>
+    requires { A.failures first.old ≡ 0 }
+    ensures { ComesOf (λ text. text.items) (IsShown MAX_LEVEL) (Refuses MAX_LEVEL)
+        (source_run A.remaining A.failures first.old first.new) result }
+{
+    let mut store = Shared::new(alloc, seeds.squares, MOST_SQUARES);
+    let pattern = read_from(alloc, &mut store, first)?;
+    five_lines_of(alloc, &store, &pattern)
+}
+
+/// Whether a fault of this kind is none of a file: the device failed, too much came, or room or memory is wanted.
+fn is_of_no_file(kind: Kind) -> bool
+    ensures { IsTrue result ↔ ((kind ≡ Kind.ReadFault)
+        ⊎ ((kind ≡ Kind.InputTooLong) ⊎ ((kind ≡ Kind.Full) ⊎ (kind ≡ Kind.Memory)))) }
+{
+    matches!(
+        kind,
+        Kind::ReadFault | Kind::InputTooLong | Kind::Full | Kind::Memory
+    )
+}
+
+/// The pattern of a source in the store, or the fault of its file.
+fn pattern_in<A: Source>(
+    alloc: Global,
+    store: &mut Shared,
+    source: &mut A,
+) -> Result<Result<Pattern, Fault>, Fault>
+    requires { A.failures source.old ≡ 0 }
+    ensures pattern { IfOk result
+        (IsPatternIn store.new (source_run A.remaining A.failures source.old source.new)) }
+    ensures err { IfErr result (λ fault. InputRefuses
+        (source_run A.remaining A.failures source.old source.new) fault
+        ⊎ IsWantFor (source_run A.remaining A.failures source.old source.new) store.new fault) }
+    ensures told { A.failures source.new ≡ 1
+        → IsErrAnd result (λ fault. fault.kind ≡ Kind.ReadFault) }
+    ensures keeps { Keeps store.old store.new }
+{
+    refusals_have_kinds();
+    match read_from(alloc, store, source) {
+        Ok(pattern) => Ok(Ok(pattern)),
+        Err(fault) if is_of_no_file(fault.kind) => Err(fault),
+        Err(fault) => Ok(Err(fault)),
+    }
+}
+
+/// Whether two sources have the same pattern in a form. What keeps `other` from being read is told before the fault of the file of `one`.
+fn compared<A: Source, B: Source>(
+    alloc: Global,
+    seeds: &Seeds,
+    form: Form,
+    one: &mut A,
+    other: &mut B,
+) -> Result<bool, Fault>
+    requires one { A.failures one.old ≡ 0 }
+    requires other { B.failures other.old ≡ 0 }
+    ensures ok { IfOk result (λ is_same. Makes (Job.Same form)
+        (source_run A.remaining A.failures one.old one.new)
+        (source_run B.remaining B.failures other.old other.new) (Made.Comparison is_same)) }
+    ensures err { IfErr result (AreUncompared form
+        (source_run A.remaining A.failures one.old one.new)
+        (source_run B.remaining B.failures other.old other.new)) }
+    ensures told { (A.failures one.new ≡ 1) ⊎ (B.failures other.new ≡ 1)
+        → IsErrAnd result (λ fault. fault.kind ≡ Kind.ReadFault) }
+{
+    patterns_stay();
+    let mut store = Shared::new(alloc, seeds.squares, MOST_SQUARES);
+    let a = pattern_in(alloc, &mut store, one)?;
+    let b = pattern_in(alloc, &mut store, other)?;
+    are_same_in(alloc, &mut store, form, &a?, &b?)
+}
+
+/// A text that was made, or the refusal with its fault, which is none of a table.
+fn made_from_text(text: Result<Vec<u8>, Fault>) -> Result<Made, Refusal>
+    ensures text { IfOk text (λ text. result ≡ Ok (Made.Text text)) }
+    ensures fault { IfErr text (λ fault. result ≡ Err (refusal_of fault)) }
+{
+    match text {
+        Ok(text) => Ok(Made::Text(text)),
+        Err(fault) => Err(fault.into()),
+    }
+}
+
+/// The same of a comparison.
+fn made_from_comparison(is_same: Result<bool, Fault>) -> Result<Made, Refusal>
+    ensures answer { IfOk is_same (λ is_same. result ≡ Ok (Made.Comparison is_same)) }
+    ensures fault { IfErr is_same (λ fault. result ≡ Err (refusal_of fault)) }
+{
+    match is_same {
+        Ok(is_same) => Ok(Made::Comparison(is_same)),
+        Err(fault) => Err(fault.into()),
+    }
+}
+
+/// A text that was made by a table, or the refusal.
+fn made_from_step(text: Result<Vec<u8>, Refusal>) -> Result<Made, Refusal>
+    ensures text { IfOk text (λ text. result ≡ Ok (Made.Text text)) }
+    ensures refusal { IfErr text (λ refusal. result ≡ Err refusal) }
+{
+    match text {
+        Ok(text) => Ok(Made::Text(text)),
+        Err(refusal) => Err(refusal),
+    }
+}
+
+/// What is written for a job, of those that don't write the canonical text of a file's pattern as that lies.
+fn make<A: Source, B: Source>(
+    alloc: Global,
+    seeds: &Seeds,
+    job: &Job,
+    first: &mut A,
+    second: &mut Option<B>,
+) -> Result<Made, Refusal>
+    requires first_reads { A.failures first.old ≡ 0 }
+    requires second_reads { IfSome second.old (λ b. B.failures b ≡ 0) }
+    requires second_given { IsSome second.old ↔ HasSecond job.now }
+    requires other { ¬ WritesPlacedText job.now }
+    ensures { MadeOf job.now (source_run A.remaining A.failures first.old first.new)
+        (optional_source_run B.remaining B.failures second.old second.new) result }
+{
+    match (job, second) {
+        (Job::Canon(form), _) => made_from_text(text_of_source(alloc, seeds, *form, first)),
+        (Job::Convert(Target::Rle), _) => made_from_text(rle_of_source(alloc, seeds, first)),
+        (Job::Same(form), Some(second)) => {
+            made_from_comparison(compared(alloc, seeds, *form, first, second))
+        }
+        (Job::Show, _) => made_from_text(five_lines_of_source(alloc, seeds, first)),
+        (Job::Step, _) => made_from_text(next_of(alloc, seeds, first)),
+        (Job::StepTable, Some(second)) => {
+            made_from_step(next_by_table_of(alloc, seeds, first, second))
+        }
+        (Job::Same(_), None) | (Job::StepTable, None) => unreachable!(),
+        (Job::Convert(Target::Mc), _) => unreachable!(),
+    }
+}
+
+/// Whether the job writes the canonical text of its file's pattern as that lies.
+fn writes_placed_text(job: &Job) -> bool
+    ensures { IsTrue result ↔ WritesPlacedText job.now }
+{
+    matches!(job, Job::Canon(Form::Placed) | Job::Convert(Target::Mc))
+}
+
+/// Writes the canonical text of the first file.
+fn run_canonical<A: Source, O: Sink>(
+    alloc: Global,
+    seeds: &Seeds,
+    first: &mut A,
+    out: &mut O,
+) -> Result<u8, Refusal>
+    requires reads { A.failures first.old ≡ 0 }
+    requires writes { O.failures out.old ≡ 0 }
+    requires takes { O.stalled out.old ≡ false }
+    ensures done { IfOk result (λ status. status ≡ 0) }
+    ensures canon { OnOk result ((second : SourceRun)
+        → Worked (Job.Canon Form.Placed) 0
+        (source_run A.remaining A.failures first.old first.new) second
+        (sink_run O.contents O.failures O.stalled out.old out.new)) }
+    ensures flushed { OnOk result (O.flushed out.new ≡ true) }
+    ensures refused { IfErr result (OfFile (CanonRefuses
+        (source_run A.remaining A.failures first.old first.new)
+        (sink_run O.contents O.failures O.stalled out.old out.new))) }
+    ensures unwritten { IfErr result
+        (λ refusal. refusal.fault.kind ≢ Kind.WriteFault → out.new ≡ out.old) }
+    ensures read_told { A.failures first.new ≡ 1
+        → IsErrAnd result (λ refusal. refusal.fault.kind ≡ Kind.ReadFault) }
+    ensures write_told { (O.failures out.new ≡ 1) ⊎ (O.stalled out.new ≡ true)
+        → IsErrAnd result (λ refusal. refusal.fault.kind ≡ Kind.WriteFault) }
+{
+    let mut store = Shared::new(alloc, seeds.squares, MOST_SQUARES);
+    run_canon(alloc, &mut store, first, out)?;
+    Ok(0)
+}
+
+/// Does the job, and answers the status of one that is done.
+fn run<A: Source, B: Source, O: Sink>(
+    alloc: Global,
+    seeds: &Seeds,
+    job: &Job,
+    first: &mut A,
+    second: &mut Option<B>,
+    out: &mut O,
+) -> Result<u8, Refusal>
+    requires first_reads { A.failures first.old ≡ 0 }
+    requires second_reads { IfSome second.old (λ b. B.failures b ≡ 0) }
+    requires second_given { IsSome second.old ↔ HasSecond job.now }
+    requires writes { O.failures out.old ≡ 0 }
+    requires takes { O.stalled out.old ≡ false }
+    ensures ran { JobRan job.now (source_run A.remaining A.failures first.old first.new)
+        (optional_source_run B.remaining B.failures second.old second.new)
+        (sink_run O.contents O.failures O.stalled out.old out.new) result }
+    ensures flushed { OnOk result (O.flushed out.new ≡ true) }
+    ensures unwritten { IfErr result
+        (λ refusal. refusal.fault.kind ≢ Kind.WriteFault → out.new ≡ out.old) }
+{
+    if writes_placed_text(job) {
+        return run_canonical(alloc, seeds, first, out);
+    }
+    let made = make(alloc, seeds, job, first, second)?;
+    write_whole(out, made.text())?;
+    Ok(made.status())
+}
+
+/// Does the job, and answers the status that the program ends with. `second` is the second file of a job that has one. The seeds decide time alone.
+pub fn work<A: Source, B: Source, O: Sink, E: Sink>(
+    alloc: Global,
+    seeds: &Seeds,
+    job: &Job,
+    first: &mut A,
+    second: &mut Option<B>,
+    out: &mut O,
+    err: &mut E,
+) -> u8
+    requires first_reads { A.failures first.old ≡ 0 }
+    requires second_reads { IfSome second.old (λ b. B.failures b ≡ 0) }
+    requires second_given { IsSome second.old ↔ HasSecond job.now }
+    requires writes { O.failures out.old ≡ 0 }
+    requires takes { O.stalled out.old ≡ false }
+    requires tells { E.failures err.old ≡ 0 }
+    requires hears { E.stalled err.old ≡ false }
+    ensures done { result < 2 → Worked job.now result
+        (source_run A.remaining A.failures first.old first.new)
+        (optional_source_run B.remaining B.failures second.old second.new)
+        (sink_run O.contents O.failures O.stalled out.old out.new) }
+    ensures flushed { result < 2 → O.flushed out.new ≡ true }
+    ensures quiet { result < 2 → err.new ≡ err.old }
+    ensures refused { 1 < result → (refusal : Refusal) × (result ≡ status_of refusal.fault.kind)
+        × JobRefuses job.now (source_run A.remaining A.failures first.old first.new)
+        (optional_source_run B.remaining B.failures second.old second.new)
+        (sink_run O.contents O.failures O.stalled out.old out.new) refusal
+        × (refusal.fault.kind ≢ Kind.WriteFault → out.new ≡ out.old)
+        × (A.failures first.new ≡ 1 → refusal.fault.kind ≡ Kind.ReadFault)
+        × IfSome second.new (λ b. B.failures b ≡ 1 → refusal.fault.kind ≡ Kind.ReadFault)
+        × ((O.failures out.new ≡ 1) ⊎ (O.stalled out.new ≡ true)
+        → refusal.fault.kind ≡ Kind.WriteFault)
+        × Tells (sink_run E.contents E.failures E.stalled err.old err.new) (fault_line refusal) }
+    ensures first_told { A.failures first.new ≡ 1 → result ≡ status_of Kind.ReadFault }
+    ensures second_told { IfSome second.new
+        (λ b. B.failures b ≡ 1 → result ≡ status_of Kind.ReadFault) }
+    ensures write_told { (O.failures out.new ≡ 1) ⊎ (O.stalled out.new ≡ true)
+        → result ≡ status_of Kind.WriteFault }
+{
+    match run(alloc, seeds, job, first, second, out) {
+        Ok(status) => status,
+        Err(refusal) => {
+            tell(err, &refusal);
+            status(refusal.fault.kind)
+        }
+    }
+}

@@ -1,0 +1,403 @@
+//! The plan that the words ask for.
+
+ghost use Rattle.std.specs.Prelude.{◌≡◌, ◌≢◌, ◌↔◌, ◌<◌, ◌^◌, [], IfOk, IfErr, OnOk, Some, IsSome, IsTrue, MatchOption, map, option_map, string_bytes, codes, count_by};
+ghost use Rattle.std.specs.Str.{bytes_eq};
+ghost use Rattle.clap.specs.Words.{fault_of, found_of, first_of, rows_of, subcommand_of, subcommand_rows_of};
+ghost use Rattle.life_cli.specs.CommandLine.{program};
+ghost use Rattle.life_cli.specs.Plans.{AreOfJob, AreWhole, IfWork, IsFound, IsPlanOf, IsRequestOf, HasNoForm, HasNoFormat, HasSecond, HoldsFile, HoldsFiles, HoldsFlag, HoldsForm, HoldsKeys, NamesInputTwice, Explains, ExplainsPlan, RefusesAs, RefusesKeys, RefusesWord, form_word, input_count, input_count_under, target_word, values_of};
+ghost use Rattle.life_cli.specs.declared.plans.Form.{Form as FormValue};
+ghost use Rattle.life_cli.specs.declared.plans.Target.{Target as TargetValue};
+
+use super::commands::parse;
+use super::{Form, Job, KeysPlan, Plan, Request, Target, Usage};
+use clap::error::ErrorKind;
+use clap::{ArgMatches, Command};
+use std::alloc::Global;
+use std::convert::AsStr;
+
+/// How a command is called.
+const CALL: &str = "golly_canon <COMMAND>";
+
+/// The refusal of words as this kind, with how the command is called and a message.
+fn refusal_as(alloc: Global, kind: ErrorKind, call: &str, message: &str) -> Usage
+    ensures { RefusesAs kind (Unit {0}) result }
+{
+    let mut command = Command::new(alloc, "golly_canon").override_usage(call);
+    match command.error(kind, message) {
+        Ok(error) => Usage::Words(error),
+        Err(_) => Usage::Memory,
+    }
+}
+
+/// The refusal of a word behind an option, with the message that says what stands there.
+fn refusal(alloc: Global, message: &str) -> Usage
+    ensures { RefusesWord (Unit {0}) result }
+{
+    refusal_as(alloc, ErrorKind::InvalidValue, CALL, message)
+}
+
+/// The first value of an option or a file.
+fn value<'a>(found: &ArgMatches<'a>, id: &str) -> Option<&'a str>
+    ensures { option_map (λ text. text.now) result
+        ≡ first_of id.now (rows_of (found_of found.now)) }
+{
+    found.get_str(id)
+}
+
+fn required(alloc: Global, found: &ArgMatches<'_>, id: &str) -> Result<String, Usage>
+    requires { IsFound id.now (rows_of (found_of found.now)) }
+    ensures ok { IfOk result
+        (λ s. first_of id.now (rows_of (found_of found.now)) ≡ Some (string_bytes s)) }
+    ensures err { IfErr result (λ usage. usage ≡ Usage.Memory) }
+{
+    match value(found, id) {
+        Some(text) => Ok(String::from_str(alloc, text)?),
+        None => unreachable!(),
+    }
+}
+
+/// The format of a word.
+fn target_named(word: &str) -> Option<Target>
+    ensures { MatchOption result ((t : TargetValue) → word.now ≢ target_word t)
+        (λ t. word.now ≡ target_word t) }
+{
+    match word {
+        "rle" => Some(Target::Rle),
+        "mc" => Some(Target::Mc),
+        _ => None,
+    }
+}
+
+/// The format that `--to` names.
+fn target(alloc: Global, found: &ArgMatches<'_>) -> Result<Target, Usage>
+    requires { IsFound (codes "to") (rows_of (found_of found.now)) }
+    ensures ok { IfOk result
+        (λ t. first_of (codes "to") (rows_of (found_of found.now)) ≡ Some (target_word t)) }
+    ensures err { IfErr result (RefusesWord (HasNoFormat (rows_of (found_of found.now)))) }
+{
+    match value(found, "to") {
+        Some(word) => match target_named(word) {
+            Some(target) => Ok(target),
+            None => Err(refusal(alloc, "the value of --to is rle or mc")),
+        },
+        None => unreachable!(),
+    }
+}
+
+/// The form of a word.
+fn form_named(word: &str) -> Option<Form>
+    ensures { MatchOption result ((f : FormValue) → word.now ≢ form_word f)
+        (λ f. word.now ≡ form_word f) }
+{
+    match word {
+        "placed" => Some(Form::Placed),
+        "moved" => Some(Form::Moved),
+        "turned" => Some(Form::Turned),
+        _ => None,
+    }
+}
+
+/// The form that `--form` names, or that of a pattern as it lies.
+fn form(alloc: Global, found: &ArgMatches<'_>) -> Result<Form, Usage>
+    ensures ok { IfOk result (HoldsForm (rows_of (found_of found.now))) }
+    ensures err { IfErr result (RefusesWord (HasNoForm (rows_of (found_of found.now)))) }
+{
+    match value(found, "form") {
+        Some(word) => match form_named(word) {
+            Some(form) => Ok(form),
+            None => Err(refusal(alloc, "the value of --form is placed, moved or turned")),
+        },
+        None => Ok(Form::Placed),
+    }
+}
+
+/// The plan of a job over one file.
+fn over_file(alloc: Global, found: &ArgMatches<'_>, job: Job) -> Result<Plan, Usage>
+    requires { IsFound (codes "FILE") (rows_of (found_of found.now)) }
+    ensures ok { IfOk result (λ p. (p.job ≡ job) × HoldsFile (rows_of (found_of found.now)) p) }
+    ensures err { IfErr result (λ usage. usage ≡ Usage.Memory) }
+{
+    let first = required(alloc, found, "FILE")?;
+    Ok(Plan {
+        job,
+        first,
+        second: None,
+    })
+}
+
+/// The plan of a job over the files of these names.
+fn over_files(
+    alloc: Global,
+    found: &ArgMatches<'_>,
+    job: Job,
+    first: &str,
+    second: &str,
+) -> Result<Plan, Usage>
+    requires first { IsFound first.now (rows_of (found_of found.now)) }
+    requires second { IsFound second.now (rows_of (found_of found.now)) }
+    ensures ok { IfOk result
+        (λ p. (p.job ≡ job) × HoldsFiles first.now second.now (rows_of (found_of found.now)) p) }
+    ensures err { IfErr result (λ usage. usage ≡ Usage.Memory) }
+{
+    let first = required(alloc, found, first)?;
+    let second = required(alloc, found, second)?;
+    Ok(Plan {
+        job,
+        first,
+        second: Some(second),
+    })
+}
+
+fn canon(alloc: Global, found: &ArgMatches<'_>) -> Result<Plan, Usage>
+    requires { IsFound (codes "FILE") (rows_of (found_of found.now)) }
+    ensures ok { IfOk result (IsPlanOf (Some (codes "canon", rows_of (found_of found.now)))) }
+    ensures err { IfErr result (RefusesWord (HasNoForm (rows_of (found_of found.now)))) }
+{
+    let form = form(alloc, found)?;
+    over_file(alloc, found, Job::Canon(form))
+}
+
+fn convert(alloc: Global, found: &ArgMatches<'_>) -> Result<Plan, Usage>
+    requires file { IsFound (codes "FILE") (rows_of (found_of found.now)) }
+    requires to { IsFound (codes "to") (rows_of (found_of found.now)) }
+    ensures ok { IfOk result (IsPlanOf (Some (codes "convert", rows_of (found_of found.now)))) }
+    ensures err { IfErr result (RefusesWord (HasNoFormat (rows_of (found_of found.now)))) }
+{
+    let target = target(alloc, found)?;
+    over_file(alloc, found, Job::Convert(target))
+}
+
+fn same(alloc: Global, found: &ArgMatches<'_>) -> Result<Plan, Usage>
+    requires first { IsFound (codes "A") (rows_of (found_of found.now)) }
+    requires second { IsFound (codes "B") (rows_of (found_of found.now)) }
+    ensures ok { IfOk result (IsPlanOf (Some (codes "same", rows_of (found_of found.now)))) }
+    ensures err { IfErr result (RefusesWord (HasNoForm (rows_of (found_of found.now)))) }
+{
+    let form = form(alloc, found)?;
+    over_files(alloc, found, Job::Same(form), "A", "B")
+}
+
+fn show(alloc: Global, found: &ArgMatches<'_>) -> Result<Plan, Usage>
+    requires { IsFound (codes "FILE") (rows_of (found_of found.now)) }
+    ensures ok { IfOk result (IsPlanOf (Some (codes "show", rows_of (found_of found.now)))) }
+    ensures err { IfErr result (λ usage. usage ≡ Usage.Memory) }
+{
+    over_file(alloc, found, Job::Show)
+}
+
+fn step(alloc: Global, found: &ArgMatches<'_>) -> Result<Plan, Usage>
+    requires { IsFound (codes "FILE") (rows_of (found_of found.now)) }
+    ensures ok { IfOk result (IsPlanOf (Some (codes "step", rows_of (found_of found.now)))) }
+    ensures err { IfErr result (λ usage. usage ≡ Usage.Memory) }
+{
+    match value(found, "table") {
+        Some(_) => over_files(alloc, found, Job::StepTable, "FILE", "table"),
+        None => over_file(alloc, found, Job::Step),
+    }
+}
+
+/// The refusal of a command that is no job over one file or two.
+fn no_job(alloc: Global) -> Usage
+    ensures { RefusesAs ErrorKind.InvalidSubcommand (Unit {0}) result }
+{
+    let message = "the command is none over one file or two";
+    refusal_as(alloc, ErrorKind::InvalidSubcommand, CALL, message)
+}
+
+/// The refusal of words that name no file.
+fn lacks_files(alloc: Global) -> Usage
+    ensures { RefusesAs ErrorKind.MissingRequiredArgument (Unit {0}) result }
+{
+    let call = "golly_canon keys [OPTIONS] [FILE]...";
+    let message = "a FILE or --from LIST has to be given";
+    refusal_as(alloc, ErrorKind::MissingRequiredArgument, call, message)
+}
+
+/// Whether a flag was given.
+fn is_set(found: &ArgMatches<'_>, id: &str) -> bool
+    ensures { HoldsFlag id.now (rows_of (found_of found.now)) result }
+{
+    found.get_flag(id)
+}
+
+/// A copy of a list of names.
+fn copied<'a>(alloc: Global, names: &[&'a str]) -> Result<Vec<&'a str>, Usage>
+    ensures ok { IfOk result (λ copy. copy.items ≡ names.now) }
+    ensures err { IfErr result (λ usage. usage ≡ Usage.Memory) }
+{
+    let mut copy = Vec::new(alloc);
+    copy.extend_from_slice(names)?;
+    Ok(copy)
+}
+
+/// All values of an option or of files.
+fn values<'a>(alloc: Global, found: &ArgMatches<'a>, id: &str) -> Result<Vec<&'a str>, Usage>
+    ensures ok { IfOk result (λ values. map (λ value. value.now) values.items
+        ≡ values_of id.now (rows_of (found_of found.now))) }
+    ensures err { IfErr result (λ usage. usage ≡ Usage.Memory) }
+{
+    match found.get_strs(id) {
+        Some(names) => copied(alloc, names),
+        None => Ok(Vec::new(alloc)),
+    }
+}
+
+fn keys<'a>(alloc: Global, found: &ArgMatches<'a>) -> Result<KeysPlan<'a>, Usage>
+    ensures ok { IfOk result (HoldsKeys (rows_of (found_of found.now))) }
+    ensures err { IfErr result (RefusesKeys (rows_of (found_of found.now))) }
+{
+    let files = match values(alloc, found, "FILE") {
+        Ok(files) => files,
+        Err(usage) => return Err(usage),
+    };
+    let from = value(found, "from");
+    if files.is_empty() && from.is_none() {
+        return Err(lacks_files(alloc));
+    }
+    let form = match form(alloc, found) {
+        Ok(form) => form,
+        Err(usage) => return Err(usage),
+    };
+    let zero = is_set(found, "zero");
+    Ok(KeysPlan {
+        form,
+        zero,
+        from,
+        files,
+    })
+}
+
+/// How many of these names are standard input.
+fn inputs_among(names: &[&str]) -> u64
+    ensures { result ≡ count_by (λ name. bytes_eq name.now (codes "-")) names.now }
+{
+    let mut count = 0;
+    for name in names {
+        if *name == "-" {
+            count += 1;
+        }
+    }
+    count
+}
+
+/// How many of the values under a name are standard input.
+fn inputs(found: &ArgMatches<'_>, id: &str) -> u64
+    ensures { result ≡ input_count_under id.now (rows_of (found_of found.now)) }
+{
+    match found.get_strs(id) {
+        Some(names) => inputs_among(names),
+        None => 0,
+    }
+}
+
+/// Whether standard input is named twice.
+fn names_input_twice(found: &ArgMatches<'_>) -> bool
+    ensures { IsTrue result ↔ (1 < input_count (rows_of (found_of found.now))) }
+{
+    let files = u128::from(inputs(found, "FILE"));
+    let pair = u128::from(inputs(found, "A")) + u128::from(inputs(found, "B"));
+    let table = u128::from(inputs(found, "table"));
+    let list = u128::from(inputs(found, "from"));
+    files + pair + table + list > 1
+}
+
+/// The plan of matches that name standard input once at most.
+fn from_command(alloc: Global, matches: &ArgMatches<'_>) -> Result<Plan, Usage>
+    requires job { AreOfJob (subcommand_rows_of matches.now) }
+    requires once { ¬ NamesInputTwice (subcommand_rows_of matches.now) }
+    ensures ok { IfOk result (IsPlanOf (subcommand_rows_of matches.now)) }
+    ensures refused { IfErr result (Explains [] (subcommand_rows_of matches.now)) }
+{
+    if let Some(found) = matches.subcommand_matches("canon") {
+        return canon(alloc, found);
+    }
+    if let Some(found) = matches.subcommand_matches("convert") {
+        return convert(alloc, found);
+    }
+    if let Some(found) = matches.subcommand_matches("same") {
+        return same(alloc, found);
+    }
+    if let Some(found) = matches.subcommand_matches("show") {
+        return show(alloc, found);
+    }
+    if let Some(found) = matches.subcommand_matches("step") {
+        return step(alloc, found);
+    }
+    unreachable!()
+}
+
+/// What matches ask for that name standard input once at most.
+fn request_of<'a>(alloc: Global, matches: &ArgMatches<'a>) -> Result<Request<'a>, Usage>
+    requires whole { AreWhole (subcommand_rows_of matches.now) }
+    requires once { ¬ NamesInputTwice (subcommand_rows_of matches.now) }
+    ensures ok { IfOk result (IsRequestOf (subcommand_rows_of matches.now)) }
+    ensures refused { IfErr result (Explains [] (subcommand_rows_of matches.now)) }
+{
+    if let Some(found) = matches.subcommand_matches("keys") {
+        return match keys(alloc, found) {
+            Ok(plan) => Ok(Request::Keys(plan)),
+            Err(usage) => Err(usage),
+        };
+    }
+    match from_command(alloc, matches) {
+        Ok(plan) => Ok(Request::Work(plan)),
+        Err(usage) => Err(usage),
+    }
+}
+
+/// What matches ask for that have what their command wants.
+fn from_matches<'a>(alloc: Global, matches: &ArgMatches<'a>) -> Result<Request<'a>, Usage>
+    requires { AreWhole (subcommand_rows_of matches.now) }
+    ensures ok { IfOk result (IsRequestOf (subcommand_rows_of matches.now)) }
+    ensures once { OnOk result (¬ NamesInputTwice (subcommand_rows_of matches.now)) }
+    ensures refused { IfErr result (Explains [] (subcommand_rows_of matches.now)) }
+{
+    if let Some((_, found)) = matches.subcommand() {
+        if names_input_twice(found) {
+            return Err(Usage::TwoInputs);
+        }
+    }
+    request_of(alloc, matches)
+}
+
+/// What the words ask for. They begin with the program's own name.
+///
+/// # Errors
+///
+/// `Words` with the text to show, where `clap` finds a fault in the words, as which `--help` and `--version` count too, by its kind; where the
+/// word behind `--to` is that of no format or the one behind `--form` that of no form, as `InvalidValue`; and where `keys` is given neither a
+/// file nor a list, as `MissingRequiredArgument`. `TwoInputs` where words without a fault name `-` for two files, whatever stands behind these
+/// options; `Memory`.
+pub fn request<'a, S: AsStr>(alloc: Global, words: &'a [S]) -> Result<Request<'a>, Usage>
+    ensures faultless { OnOk result (fault_of program (map S.text words.entry.now) ≡ []) }
+    ensures ok { IfOk result (IsRequestOf (subcommand_of program (map S.text words.entry.now))) }
+    ensures files { IfOk result (IfWork (λ p. IsSome p.second ↔ HasSecond p.job)) }
+    ensures once { OnOk result
+        (¬ NamesInputTwice (subcommand_of program (map S.text words.entry.now))) }
+    ensures refused { IfErr result (Explains (fault_of program (map S.text words.entry.now))
+        (subcommand_of program (map S.text words.entry.now))) }
+{
+    let matches = parse(alloc, words)?;
+    from_matches(alloc, &matches)
+}
+
+/// The plan of words that ask for a job over one file or two, as `request` has it.
+///
+/// # Errors
+///
+/// Those of `request`, and `Words` of words that ask for keys, as `InvalidSubcommand`.
+pub fn plan<S: AsStr>(alloc: Global, words: &[S]) -> Result<Plan, Usage>
+    ensures faultless { OnOk result (fault_of program (map S.text words.entry.now) ≡ []) }
+    ensures ok { IfOk result (IsPlanOf (subcommand_of program (map S.text words.entry.now))) }
+    ensures files { IfOk result (λ p. IsSome p.second ↔ HasSecond p.job) }
+    ensures once { OnOk result
+        (¬ NamesInputTwice (subcommand_of program (map S.text words.entry.now))) }
+    ensures refused { IfErr result (ExplainsPlan (fault_of program (map S.text words.entry.now))
+        (subcommand_of program (map S.text words.entry.now))) }
+{
+    match request(alloc, words) {
+        Ok(Request::Work(plan)) => Ok(plan),
+        Ok(Request::Keys(_)) => Err(no_job(alloc)),
+        Err(usage) => Err(usage),
+    }
+}

@@ -1,0 +1,75 @@
+//! What is said of words that ask for nothing that can be done.
+
+ghost use Rattle.std.specs.Prelude.{◌≡◌};
+ghost use Rattle.life_base.specs.DeviceRuns.{sink_run};
+ghost use Rattle.life_base.specs.Refusal.{fault_of};
+ghost use Rattle.life_cli.specs.Faults.{fault_line, refusal_of, status_of, Tells};
+ghost use Rattle.life_cli.specs.Usages.{is_asked, usage_line, usage_status, words_line, words_status};
+
+use crate::plans::Usage;
+use crate::refusals::{Refusal, status, tell};
+use clap::error::ErrorKind;
+use life_base::{Fault, Kind, Sink, write_text};
+
+/// Writes the line of a fault that is none of a file's text, and answers its status.
+pub fn refuse<E: Sink>(err: &mut E, kind: Kind) -> u8
+    requires { E.failures err.old ≡ 0 }
+    ensures told { Tells (sink_run E.contents E.failures E.stalled err.old err.new)
+        (fault_line (refusal_of (fault_of kind))) }
+    ensures status { result ≡ status_of kind }
+{
+    tell(err, &Refusal::from(Fault::of(kind)));
+    status(kind)
+}
+
+/// Writes the line of words that are at fault, and answers the status.
+fn misuse<E: Sink>(err: &mut E, line: &[u8]) -> u8
+    requires { E.failures err.old ≡ 0 }
+    ensures told { Tells (sink_run E.contents E.failures E.stalled err.old err.new) line.now }
+    ensures status { result ≡ 5 }
+{
+    let _ = write_text(err, line);
+    5
+}
+
+/// Whether a text of this kind was asked for.
+fn is_asked(kind: ErrorKind) -> bool
+    ensures { result ≡ is_asked kind }
+{
+    match kind {
+        ErrorKind::DisplayHelp | ErrorKind::DisplayVersion => true,
+        _ => false,
+    }
+}
+
+/// Writes what is to be told behind the text of `clap`, and answers the status.
+fn report_words<E: Sink>(err: &mut E, kind: ErrorKind, is_printed: bool) -> u8
+    requires { E.failures err.old ≡ 0 }
+    ensures told { Tells (sink_run E.contents E.failures E.stalled err.old err.new)
+        (words_line kind is_printed) }
+    ensures status { result ≡ words_status kind is_printed }
+{
+    if !is_asked(kind) {
+        return 5;
+    }
+    if is_printed {
+        return 0;
+    }
+    refuse(err, Kind::WriteFault)
+}
+
+/// Writes what standard error gets of words that ask for nothing that can be done, besides the text that `clap` has for them, and answers
+/// the status that the program ends with. `is_printed` tells whether all of that text was printed, where it has one.
+pub fn report<E: Sink>(err: &mut E, usage: &Usage, is_printed: bool) -> u8
+    requires { E.failures err.old ≡ 0 }
+    ensures told { Tells (sink_run E.contents E.failures E.stalled err.old err.new)
+        (usage_line usage.now is_printed) }
+    ensures status { result ≡ usage_status usage.now is_printed }
+{
+    match usage {
+        Usage::Words(error) => report_words(err, error.kind(), is_printed),
+        Usage::TwoInputs => misuse(err, b"TwoInputs\n"),
+        Usage::NoText => misuse(err, b"error: a word of the command line is no UTF-8 text\n"),
+        Usage::Memory => refuse(err, Kind::Memory),
+    }
+}

@@ -1,0 +1,119 @@
+//! The work of the jobs that step a pattern.
+
+ghost use Rattle.std.specs.Prelude.{◌≡◌, ◌⊎◌, ◌^◌, IfOk, IfErr, IsErrAnd};
+ghost use Rattle.life_base.specs.DeviceRuns.{source_run};
+ghost use Rattle.life_base.specs.Inputs.{ReadAll};
+ghost use Rattle.life_base.specs.Refusal.{fault_of};
+ghost use Rattle.life_step.specs.Stepped.{IsStepped, IsSteppedBy};
+ghost use Rattle.life_cli.specs.Jobs.{InputRefuses, OfTable, ComesOf, RefusesStep, RefusesStepBy, HasTable, HasNoTable, HasTextByTable, HasNoTextByTable};
+
+use crate::jobs::MOST_SQUARES;
+use crate::refusals::Refusal;
+use crate::seeds::Seeds;
+use life_base::{Fault, Kind, Source, read_within};
+use life_canon::read_from;
+use life_quad::Shared;
+use life_step::{next_by_rule, next_by_table};
+use life_table::{Table, read_table};
+use std::alloc::Global;
+
+/// The most bytes of a rule table.
+const LONGEST_TABLE: u64 = 1 << 30;
+
+/// The text of the next generation of a source's pattern, under its B/S rule.
+pub(crate) fn next_of<A: Source>(
+    alloc: Global,
+    seeds: &Seeds,
+    first: &mut A,
+) -> Result<Vec<u8>, Fault>
+    requires { A.failures first.old ≡ 0 }
+    ensures { ComesOf (λ text. text.items) IsStepped RefusesStep
+        (source_run A.remaining A.failures first.old first.new) result }
+{
+    let mut store = Shared::new(alloc, seeds.squares, MOST_SQUARES);
+    let pattern = read_from(alloc, &mut store, first)?;
+    next_by_rule(alloc, &mut store, pattern)
+}
+
+/// The text of the next generation of a source's pattern, by a table.
+fn next_by<A: Source>(
+    alloc: Global,
+    seeds: &Seeds,
+    first: &mut A,
+    table: &Table,
+) -> Result<Vec<u8>, Fault>
+    requires { A.failures first.old ≡ 0 }
+    ensures { ComesOf (λ text. text.items) (IsSteppedBy table.now) (RefusesStepBy table.now)
+        (source_run A.remaining A.failures first.old first.new) result }
+{
+    let mut store = Shared::new(alloc, seeds.squares, MOST_SQUARES);
+    let pattern = read_from(alloc, &mut store, first)?;
+    next_by_table(alloc, &mut store, pattern, table)
+}
+
+/// The bytes of a source, read to its end.
+fn read_whole<R: Source>(alloc: Global, reader: &mut R) -> Result<Vec<u8>, Fault>
+    requires { R.failures reader.old ≡ 0 }
+    ensures ok { IfOk result
+        (λ bytes. ReadAll (2 ^ 30) (R.remaining reader.old) (R.remaining reader.new) bytes.items) }
+    ensures err { IfErr result (λ fault. InputRefuses
+        (source_run R.remaining R.failures reader.old reader.new) fault
+        ⊎ (fault ≡ fault_of Kind.Memory)) }
+    ensures told { R.failures reader.new ≡ 1
+        → IsErrAnd result (λ fault. fault.kind ≡ Kind.ReadFault) }
+{
+    Ok(read_within(alloc, reader, LONGEST_TABLE)?)
+}
+
+/// The rule table of a source.
+fn table_in<B: Source>(alloc: Global, seeds: &Seeds, source: &mut B) -> Result<Table, Fault>
+    requires { B.failures source.old ≡ 0 }
+    ensures ok { IfOk result (HasTable (source_run B.remaining B.failures source.old source.new)) }
+    ensures err { IfErr result
+        (HasNoTable (source_run B.remaining B.failures source.old source.new)) }
+    ensures told { B.failures source.new ≡ 1
+        → IsErrAnd result (λ fault. fault.kind ≡ Kind.ReadFault) }
+{
+    let bytes = read_whole(alloc, source)?;
+    read_table(alloc, seeds.names, bytes.as_slice())
+}
+
+/// The same, and a refusal that is the table's.
+fn table_of<B: Source>(alloc: Global, seeds: &Seeds, source: &mut B) -> Result<Table, Refusal>
+    requires { B.failures source.old ≡ 0 }
+    ensures ok { IfOk result (HasTable (source_run B.remaining B.failures source.old source.new)) }
+    ensures err { IfErr result
+        (OfTable (HasNoTable (source_run B.remaining B.failures source.old source.new))) }
+    ensures told { B.failures source.new ≡ 1
+        → IsErrAnd result (λ refusal. refusal.fault.kind ≡ Kind.ReadFault) }
+{
+    match table_in(alloc, seeds, source) {
+        Ok(table) => Ok(table),
+        Err(fault) => Err(Refusal {
+            fault,
+            in_table: true,
+        }),
+    }
+}
+
+/// The text of the next generation of the first source's pattern, by the rule table of the second one, which is read before.
+pub(crate) fn next_by_table_of<A: Source, B: Source>(
+    alloc: Global,
+    seeds: &Seeds,
+    first: &mut A,
+    second: &mut B,
+) -> Result<Vec<u8>, Refusal>
+    requires first_reads { A.failures first.old ≡ 0 }
+    requires second_reads { B.failures second.old ≡ 0 }
+    ensures ok { IfOk result (λ text. HasTextByTable
+        (source_run A.remaining A.failures first.old first.new)
+        (source_run B.remaining B.failures second.old second.new) text.items) }
+    ensures err { IfErr result (HasNoTextByTable
+        (source_run A.remaining A.failures first.old first.new)
+        (source_run B.remaining B.failures second.old second.new)) }
+    ensures told { (A.failures first.new ≡ 1) ⊎ (B.failures second.new ≡ 1)
+        → IsErrAnd result (λ refusal. refusal.fault.kind ≡ Kind.ReadFault) }
+{
+    let table = table_of(alloc, seeds, second)?;
+    Ok(next_by(alloc, seeds, first, &table)?)
+}
