@@ -1,4 +1,3 @@
-use Rattle.std.proofs.Common.{rules}
 use Rattle.life_canon.proofs.running.run_canon.Goals as goal
 
 pub returns-clause-runs : goal.returns-clause-runs
