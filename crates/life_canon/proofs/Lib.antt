@@ -31,6 +31,7 @@ mod PatternFacts
 pub mod Fits
 mod RefusalKinds
 mod Standing
+mod Stored
 mod CellFacts
 mod CallFacts
 mod PieceFacts

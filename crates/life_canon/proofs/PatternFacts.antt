@@ -122,6 +122,10 @@ pub undecided-lacks : (p : Progress) → p ≡ progress.Undecided → LacksHeade
 undecided-lacks p e = subst (λ (q : Progress). LacksHeader MAX_LEVEL (taken q) × (is_macrocell (taken q) ≡ false)) (sym e) ((default_position, refl), refl)
 
 -- what holds of an answer by two facts
+pub on-ok : {T E P Q : Type 0} (r : Result T E) → OnOk r P → (P → Q) → OnOk r Q
+on-ok (Ok x) p f = f p
+on-ok (Err e) p f = tt
+
 pub both-ok : {T E P Q R : Type 0} (r : Result T E) → OnOk r P → OnOk r Q → (P → Q → R) → OnOk r R
 both-ok (Ok x) p q f = f p q
 both-ok (Err e) p q f = tt

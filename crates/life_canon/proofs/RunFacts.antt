@@ -85,10 +85,10 @@ read-all most before mid after bytes a b e l = record {
 
 -- ---- faults of a line, and want of room or of memory
 
-front-kind : (bytes : List ℕ) (fault : Fault) → RefusesFront MAX_LEVEL bytes fault → is_file_kind fault.kind ≡ true
+pub front-kind : (bytes : List ℕ) (fault : Fault) → RefusesFront MAX_LEVEL bytes fault → is_file_kind fault.kind ≡ true
 front-kind bytes fault r = refusal-kinds MAX_LEVEL (broken_kind MAX_LEVEL) Breaks-kind (lines_of bytes) fault r.refuses
 
-full-not : (kind : Kind) → is_file_kind kind ≡ true → kind ≡ Full → ⊥
+pub full-not : (kind : Kind) → is_file_kind kind ≡ true → kind ≡ Full → ⊥
 full-not kind h e = let k : is_file_kind Full ≡ true = subst (λ (k : Kind). is_file_kind k ≡ true) e h in cc
 
 memory-not : (kind : Kind) → is_file_kind kind ≡ true → kind ≡ Memory → ⊥

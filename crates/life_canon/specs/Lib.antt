@@ -10,8 +10,10 @@ pub mod Filling
 pub mod Building
 pub mod Needs
 pub mod Room
+pub mod Calls
 pub mod Taking
 pub mod Feeding
+pub mod Fronts
 pub mod Running
 pub mod Pieces
 pub mod PieceLaws

@@ -1,18 +1,19 @@
 -- What a run over a source and a sink may leave, by its outcome. Of a device that doesn't tell its bytes these say nothing about bytes:
 -- `bytes` is then any list.
-use Rattle.std.specs.Prelude.{◌≡◌, ◌⊎◌, ◌+◌, ◌<◌, ◌≤◌, ℕ, true, List, Option, length}
+use Rattle.std.specs.Prelude.{◌≡◌, ◌⊎◌, ◌+◌, ◌<◌, ◌≤◌, ℕ, true, List, Option, length, Result, Err, IfOk, IfErr, OnOk, IsErrAnd}
 use Rattle.std.specs.Io.KnownBytes.{Appends, Consumes}
 use Rattle.life_base.specs.DeviceRuns.{SourceRun, SinkRun}
 use Rattle.life_base.specs.Inputs.{ReadAll, CameBeyond}
 use Rattle.life_base.specs.Refusal.{fault_of}
 use Rattle.life_base.specs.Writing.{WritesPrefix}
+use Rattle.life_base.specs.declared.cell.TheConstants.{MAX_LEVEL}
 use Rattle.life_base.specs.declared.fault.Fault.{Fault}
-use Rattle.life_base.specs.declared.kind.Kind.TheVariants.{ReadFault, WriteFault, InputTooLong}
+use Rattle.life_base.specs.declared.kind.Kind.TheVariants.{Full, ReadFault, WriteFault, InputTooLong}
 use Rattle.life_quad.specs.Store.{Nodes, held}
 use Rattle.life_canon.specs.Files.{Refuses}
 use Rattle.life_canon.specs.Needs.{LacksFor, LacksForFront}
 use Rattle.life_canon.specs.Room.{AddsFile, room_for}
-use Rattle.life_canon.specs.Store.{IsRead, IsWant}
+use Rattle.life_canon.specs.Store.{Keeps, IsRead, IsWant}
 use Rattle.life_canon.specs.Texts.{IsCanonical}
 use Rattle.life_canon.specs.declared.pattern.Pattern.{Pattern}
 
@@ -72,3 +73,26 @@ pub record HasRead (top most : ℕ) (store : Nodes) (source : SourceRun) (patter
   pub bytes : List ℕ
   pub read : ReadAll most source.before source.after bytes
   pub is : IsRead top bytes store pattern
+
+-- What a call leaves that reads an input of at most so many bytes into the store: a store that gets full lacks a square which the bytes need that were
+-- read, and its limit left less than the room for them; and a failure of the source is told.
+pub record ReadsSource {A : Type 0} (most : ℕ) (old new : Nodes) (source : SourceRun) (result : Result A Fault) : Type 0 where
+  pub needed : result ≡ Err (fault_of Full) → LacksForRead MAX_LEVEL most new source
+  pub adds : AddsForRead source.before old new
+  pub room : result ≡ Err (fault_of Full) → IsTightForRead most old source
+  pub told : source.failures ≡ 1 → IsErrAnd result (λ fault. fault.kind ≡ ReadFault)
+  pub keeps : Keeps old new
+
+-- the call answers the pattern of the input
+pub record ReadsPattern (most : ℕ) (old new : Nodes) (source : SourceRun) (result : Result Pattern Fault) : Type 0 where
+  pub pattern : IfOk result (HasRead MAX_LEVEL most new source)
+  pub works : OnOk result (source.failures ≡ 0)
+  pub fault : IfErr result (ReadRefuses MAX_LEVEL most new source)
+  pub reads : ReadsSource most old new source result
+
+-- the call writes the canonical text of the input
+pub record RunsCanon {A : Type 0} (most : ℕ) (old new : Nodes) (source : SourceRun) (sink : SinkRun) (result : Result A Fault) : Type 0 where
+  pub ok : OnOk result (Ran MAX_LEVEL most source sink)
+  pub err : IfErr result (RunRefuses MAX_LEVEL most new source sink)
+  pub reads : ReadsSource most old new source result
+  pub write_told : (sink.failures ≡ 1) ⊎ (sink.stalled ≡ true) → IsErrAnd result (λ fault. fault.kind ≡ WriteFault)

@@ -1,6 +1,7 @@
 -- What calls do to a store that they are lent, and what patterns in it stand for.
 use Rattle.std.specs.Prelude.{◌≡◌, ℕ, ◌≤◌, ◌⊎◌, List}
 use Rattle.life_base.specs.Tree.{Tree, depth}
+use Rattle.life_base.specs.declared.cell.TheConstants.{MAX_LEVEL}
 use Rattle.life_base.specs.declared.fault.Fault.{Fault}
 use Rattle.life_mc.specs.Macrocell.{largest_state}
 use Rattle.life_mc.specs.Squares.{HasStatesUpTo}
@@ -48,6 +49,10 @@ pub record IsRead (top : ℕ) (bytes : List ℕ) (store : Nodes) (pattern : Patt
   pub universe : Universe
   pub reads : Reads top bytes universe
   pub is : IsPatternOf top (IsKnown store) (content store) universe pattern
+
+-- what holds of each file that the pattern in the store was read from
+abbrev pub ForEachFile : Nodes → Pattern → (List ℕ → Type 0) → Type 0
+ForEachFile store pattern Holds = (bytes : List ℕ) → IsRead MAX_LEVEL bytes store pattern → Holds bytes
 
 -- the pattern in the store is that of a file
 abbrev pub IsOfFile : ℕ → Nodes → Pattern → Type 0

@@ -1,14 +1,12 @@
 //! A file of either format as a text of one form.
 
-ghost use Rattle.std.specs.Prelude.{◌≡◌, ◌⊎◌, ◌+◌, ◌^◌, ◌<◌, List, ℕ, length, Err, IfOk, IfErr};
-ghost use Rattle.life_base.specs.declared.kind.Kind.TheVariants.{Full, Memory, TooManyCells};
+ghost use Rattle.std.specs.Prelude.{◌≡◌, ◌⊎◌, ◌^◌, IfOk, IfErr};
+ghost use Rattle.life_base.specs.declared.kind.Kind.TheVariants.{Memory, TooManyCells};
 ghost use Rattle.life_base.specs.Refusal.{fault_of};
+ghost use Rattle.life_canon.specs.Calls.{ReadsInto};
 ghost use Rattle.life_canon.specs.Files.{Same};
 ghost use Rattle.life_canon.specs.Least.{IsLeastText};
-ghost use Rattle.life_quad.specs.Store.{held};
-ghost use Rattle.life_canon.specs.Needs.{LacksFor};
-ghost use Rattle.life_canon.specs.Room.{AddsFile, room_for};
-ghost use Rattle.life_canon.specs.Store.{Keeps, RefusesIn, IsOfFile, IsRead};
+ghost use Rattle.life_canon.specs.Store.{ForEachFile, RefusesIn, IsOfFile};
 ghost use Rattle.life_canon.specs.Texts.{IsCanonical, IsRleOf, HasMoreCells};
 
 use crate::pattern::Pattern;
@@ -32,12 +30,8 @@ pub const MOST_CELLS: u64 = 1 << 20;
 pub fn canon(alloc: Global, store: &mut Shared, bytes: &[u8]) -> Result<Vec<u8>, Fault>
     ensures text { IfOk result (λ text. IsCanonical MAX_LEVEL bytes.now text.items) }
     ensures least { IfOk result (λ text. IsLeastText MAX_LEVEL bytes.now text.items) }
-    ensures fault { IfErr result (λ fault. RefusesIn MAX_LEVEL bytes.now store.new fault) }
-    ensures needed { result ≡ Err (fault_of Full) → LacksFor MAX_LEVEL bytes.now store.new }
-    ensures adds { AddsFile bytes.now store.old store.new }
-    ensures room { result ≡ Err (fault_of Full)
-        → store.old.limit < length (held store.old) + room_for (length bytes.now) }
-    ensures keeps { Keeps store.old store.new }
+    ensures fault { IfErr result (RefusesIn MAX_LEVEL bytes.now store.new) }
+    ensures reads { ReadsInto bytes.now store.old store.new result }
 {
     let pattern = read(alloc, store, bytes)?;
     text_of(alloc, store, &pattern)
@@ -50,15 +44,13 @@ pub fn canon(alloc: Global, store: &mut Shared, bytes: &[u8]) -> Result<Vec<u8>,
 /// `TooManyCells` where more than 2^20 cells aren't 0, and `Memory`, at no line.
 pub fn rle_of(alloc: Global, store: &Shared, pattern: &Pattern) -> Result<Vec<u8>, Fault>
     requires { IsOfFile MAX_LEVEL store.now pattern.now }
-    ensures text { IfOk result (λ text. (bytes : List ℕ)
-        → IsRead MAX_LEVEL bytes store.now pattern.now
-        → IsRleOf MAX_LEVEL (2 ^ 20) bytes text.items) }
-    ensures same { IfOk result (λ text. (bytes : List ℕ)
-        → IsRead MAX_LEVEL bytes store.now pattern.now → Same MAX_LEVEL bytes text.items) }
+    ensures text { IfOk result (λ text. ForEachFile store.now pattern.now
+        (λ bytes. IsRleOf MAX_LEVEL (2 ^ 20) bytes text.items)) }
+    ensures same { IfOk result
+        (λ text. ForEachFile store.now pattern.now (λ bytes. Same MAX_LEVEL bytes text.items)) }
     ensures fault { IfErr result (λ fault. (fault ≡ fault_of Memory)
-        ⊎ ((fault ≡ fault_of TooManyCells)
-        × ((bytes : List ℕ) → IsRead MAX_LEVEL bytes store.now pattern.now
-        → HasMoreCells MAX_LEVEL bytes (2 ^ 20)))) }
+        ⊎ ((fault ≡ fault_of TooManyCells) × ForEachFile store.now pattern.now
+        (λ bytes. HasMoreCells MAX_LEVEL bytes (2 ^ 20)))) }
 {
     let list = cells(alloc, store, pattern.root, MOST_CELLS)?;
     write_rle(alloc, &pattern.rule, pattern.generation, &list)
@@ -75,11 +67,7 @@ pub fn to_rle(alloc: Global, store: &mut Shared, bytes: &[u8]) -> Result<Vec<u8>
     ensures same { IfOk result (λ text. Same MAX_LEVEL bytes.now text.items) }
     ensures fault { IfErr result (λ fault. RefusesIn MAX_LEVEL bytes.now store.new fault
         ⊎ ((fault ≡ fault_of TooManyCells) × HasMoreCells MAX_LEVEL bytes.now (2 ^ 20))) }
-    ensures needed { result ≡ Err (fault_of Full) → LacksFor MAX_LEVEL bytes.now store.new }
-    ensures adds { AddsFile bytes.now store.old store.new }
-    ensures room { result ≡ Err (fault_of Full)
-        → store.old.limit < length (held store.old) + room_for (length bytes.now) }
-    ensures keeps { Keeps store.old store.new }
+    ensures reads { ReadsInto bytes.now store.old store.new result }
 {
     let pattern = read(alloc, store, bytes)?;
     rle_of(alloc, store, &pattern)

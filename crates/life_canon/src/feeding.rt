@@ -1,6 +1,6 @@
 //! The lines of a file of either format, put into a store as they come.
 
-ghost use Rattle.std.specs.Prelude.{◌≡◌, ◌↔◌, ◌⊎◌, ◌++◌, ◌∷◌, [], ◌<◌, ◌≤◌, ℤ, Some, IsTrue, false, Err, IfOk, IfErr, OnOk, max};
+ghost use Rattle.std.specs.Prelude.{◌≡◌, ◌↔◌, ◌⊎◌, ◌++◌, ◌∷◌, [], ◌<◌, ◌≤◌, ℤ, Some, IsTrue, false, IfOk, IfErr, OnOk, max};
 ghost use Rattle.life_base.specs.declared.kind.Kind.TheVariants.{Full, NoHeader};
 ghost use Rattle.life_base.specs.Refusal.{Prefix};
 ghost use Rattle.life_base.specs.Tree.{depth, tree_cell};
@@ -9,17 +9,18 @@ ghost use Rattle.life_mc.specs.Macrocell.{Macrocell, IsValid};
 ghost use Rattle.life_mc.specs.Reading.{Accepts, squares_of, broken};
 ghost use Rattle.life_quad.specs.Store.{Nodes, held};
 ghost use Rattle.life_quad.specs.Grows.{Grows};
-ghost use Rattle.life_quad.specs.Keeping.{KeepsSquares, AddsOnly, IsWantKind};
+ghost use Rattle.life_quad.specs.Keeping.{IsWantKind};
 ghost use Rattle.life_rle.specs.Decided.{LacksHeader};
 ghost use Rattle.life_rle.specs.File.{HasRuns};
 ghost use Rattle.life_rle.specs.Grammar.{Breaks as BreaksRle, IsSomeRle};
 ghost use Rattle.life_strip.specs.Filling.{IsFilling};
 ghost use Rattle.life_canon.specs.Building.{IsBuilt, AreNext};
+ghost use Rattle.life_canon.specs.Calls.{Stores, StoresIn};
 ghost use Rattle.life_canon.specs.Files.{Breaks, Says, is_macrocell};
-ghost use Rattle.life_canon.specs.Store.{IsKnown, content, Keeps, IsPatternOf};
-ghost use Rattle.life_canon.specs.Filling.{AreSquaresOf};
-ghost use Rattle.life_canon.specs.Needs.{IsNew, SomeAtEnd, SomeOfLines, SomeOfRuns, SomeRoot};
-ghost use Rattle.life_canon.specs.Room.{AddsLines};
+ghost use Rattle.life_canon.specs.Fronts.{IsOpenIn};
+ghost use Rattle.life_canon.specs.Store.{IsKnown, content, IsPatternOf};
+ghost use Rattle.life_canon.specs.Filling.{AreSquaresIn, ForMacrocell};
+ghost use Rattle.life_canon.specs.Needs.{SomeAtEnd, SomeOfLines, SomeOfRuns, SomeRoot};
 ghost use Rattle.life_canon.specs.Taking.{IsOpen, IsOver, IsReady, StandsFor, taken};
 ghost use Rattle.life_canon.specs.Universe.{Universe};
 
@@ -77,11 +78,8 @@ fn take_rle_line<S: Squares>(
         (HasRuns MAX_LEVEL lines.new.lines) builder.new) }
     ensures fault { IfErr result (λ kind. IsWantKind (S.stored squares.new) (S.most squares.new)
         kind ⊎ BreaksRle MAX_LEVEL lines.old.lines line.now kind) }
-    ensures keeps { KeepsSquares S.knows S.content S.stored S.most squares.old squares.new }
-    ensures needed { result ≡ Err Full
-        → SomeOfLines MAX_LEVEL (S.needs_node squares.new) (lines.old.lines ++ line.now ∷ []) }
-    ensures adds { AddsOnly S.stored
-        (λ P. SomeOfLines MAX_LEVEL P (lines.old.lines ++ line.now ∷ [])) squares.old squares.new }
+    ensures stores { StoresIn S.Squares squares.old squares.new result
+        (λ P. SomeOfLines MAX_LEVEL P (lines.old.lines ++ line.now ∷ [])) }
 {
     runs.clear();
     lines.line_into(line, runs)?;
@@ -96,20 +94,17 @@ fn take_macrocell_line<S: Squares>(
     line: &[u8],
 ) -> Result<(), Kind>
     requires begun { lines.old.refused ≡ false }
-    requires squares { AreSquaresOf (S.knows squares.old) (S.content squares.old)
-        (squares_of lines.old.lines) ids.old.items }
+    requires squares { AreSquaresIn S.Squares squares.old (squares_of lines.old.lines)
+        ids.old.items }
     ensures lines { OnOk result
         (lines.new ≡ record { lines = lines.old.lines ++ line.now ∷ []; refused = false }) }
     ensures front { OnOk result (Prefix (Accepts MAX_LEVEL) lines.new.lines) }
-    ensures squares { OnOk result (AreSquaresOf (S.knows squares.new) (S.content squares.new)
-        (squares_of lines.new.lines) ids.new.items) }
+    ensures squares { OnOk result
+        (AreSquaresIn S.Squares squares.new (squares_of lines.new.lines) ids.new.items) }
     ensures fault { IfErr result (λ kind. IsWantKind (S.stored squares.new) (S.most squares.new)
         kind ⊎ (broken MAX_LEVEL lines.old.lines line.now ≡ Some kind)) }
-    ensures keeps { KeepsSquares S.knows S.content S.stored S.most squares.old squares.new }
-    ensures needed { result ≡ Err Full
-        → SomeOfLines MAX_LEVEL (S.needs_node squares.new) (lines.old.lines ++ line.now ∷ []) }
-    ensures adds { AddsOnly S.stored
-        (λ P. SomeOfLines MAX_LEVEL P (lines.old.lines ++ line.now ∷ [])) squares.old squares.new }
+    ensures stores { StoresIn S.Squares squares.old squares.new result
+        (λ P. SomeOfLines MAX_LEVEL P (lines.old.lines ++ line.now ∷ [])) }
 {
     let Some(square) = lines.line(line)? else {
         return Ok(());
@@ -151,15 +146,13 @@ fn trimmed_pattern<S: Squares>(
 /// The square of the last node line, or a blank one.
 fn last_square<S: Squares>(squares: &S, ids: &[Id]) -> Id
     requires { (file : Macrocell) × IsValid MAX_LEVEL file
-        × AreSquaresOf (S.knows squares.now) (S.content squares.now) file.lines ids.now }
+        × AreSquaresIn S.Squares squares.now file.lines ids.now }
     ensures known { S.knows squares.now result }
     ensures high { 1 ≤ depth (S.content squares.now result) }
-    ensures level { (file : Macrocell) → IsValid MAX_LEVEL file
-        → AreSquaresOf (S.knows squares.now) (S.content squares.now) file.lines ids.now
-        → depth (S.content squares.now result) ≡ max 1 (root_level file.lines) }
-    ensures cells { (file : Macrocell) → IsValid MAX_LEVEL file
-        → AreSquaresOf (S.knows squares.now) (S.content squares.now) file.lines ids.now
-        → (x y : ℤ) → tree_cell (S.content squares.now result) x y ≡ cell file x y }
+    ensures level { ForMacrocell S.Squares squares.now ids.now
+        (λ file. depth (S.content squares.now result) ≡ max 1 (root_level file.lines)) }
+    ensures cells { ForMacrocell S.Squares squares.now ids.now
+        (λ file. (x y : ℤ) → tree_cell (S.content squares.now result) x y ≡ cell file x y) }
 {
     match ids.last() {
         Some(id) => *id,
@@ -212,17 +205,13 @@ impl Progress {
         store: &mut Shared,
         line: &[u8],
     ) -> Result<(), Kind>
-        requires begun { IsOpen self.old }
-        requires stands { StandsFor (IsKnown store.old) (content store.old) self.old }
+        requires { IsOpenIn store.old self.old }
         ensures lines { OnOk result (taken self.new ≡ taken self.old ++ line.now ∷ []) }
-        ensures begun { OnOk result (IsOpen self.new) }
-        ensures stands { OnOk result (StandsFor (IsKnown store.new) (content store.new) self.new) }
+        ensures progress { OnOk result (IsOpenIn store.new self.new) }
         ensures fault { IfErr result (λ kind. IsWantKind (held store.new) store.new.limit kind
             ⊎ Breaks MAX_LEVEL (taken self.old) line.now kind) }
-        ensures needed { result ≡ Err Full
-            → SomeOfLines MAX_LEVEL (IsNew store.new) (taken self.old ++ line.now ∷ []) }
-        ensures adds { AddsLines (taken self.old ++ line.now ∷ []) store.old store.new }
-        ensures keeps { Keeps store.old store.new }
+        ensures stores { Stores Full store.old store.new result
+            (λ P. SomeOfLines MAX_LEVEL P (taken self.old ++ line.now ∷ [])) }
     {
         self.begin(alloc, line);
         match self {
@@ -236,18 +225,15 @@ impl Progress {
 
     /// The pattern of the lines.
     pub(crate) fn end(self, store: &mut Shared) -> Result<Pattern, Kind>
-        requires begun { IsOpen self }
-        requires stands { StandsFor (IsKnown store.old) (content store.old) self }
+        requires { IsOpenIn store.old self }
         ensures pattern { IfOk result (λ pattern. (universe : Universe)
             × Says MAX_LEVEL (taken self) universe
             × IsPatternOf MAX_LEVEL (IsKnown store.new) (content store.new) universe pattern) }
         ensures fault { IfErr result (λ kind. IsWantKind (held store.new) store.new.limit kind
             ⊎ ((kind ≡ NoHeader) × LacksHeader MAX_LEVEL (taken self)
             × (is_macrocell (taken self) ≡ false))) }
-        ensures needed { result ≡ Err Full → SomeAtEnd MAX_LEVEL (IsNew store.new) (taken self) }
-        ensures adds { AddsOnly held (λ P. SomeAtEnd MAX_LEVEL P (taken self))
-            store.old store.new }
-        ensures keeps { Keeps store.old store.new }
+        ensures stores { Stores Full store.old store.new result
+            (λ P. SomeAtEnd MAX_LEVEL P (taken self)) }
     {
         match self {
             Progress::Undecided => Err(Kind::NoHeader),

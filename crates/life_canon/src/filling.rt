@@ -9,7 +9,7 @@ ghost use Rattle.life_mc.specs.Squares.{tree_at, tree_of, line_tree, leaf_tree};
 ghost use Rattle.life_mc.specs.declared.line.Line.{Line as LineValue};
 ghost use Rattle.life_quad.specs.Store.{two, four};
 ghost use Rattle.life_quad.specs.Refused.{SomePart};
-ghost use Rattle.life_canon.specs.Filling.{AreSquaresOf};
+ghost use Rattle.life_canon.specs.Filling.{AreSquaresIn, ForLines};
 ghost use Rattle.life_canon.specs.Needs.{SomeGrown, SomeOfLine};
 ghost use Rattle.std.specs.Prelude.{List, map, true, ℤ};
 ghost use Rattle.life_quad.specs.Grows.{GrowsOnly};
@@ -76,12 +76,12 @@ fn quarter<S: Squares>(squares: &S, ids: &[Id], level: u8, number: u64) -> Id
     requires level { level < MAX_LEVEL }
     requires quarter { (lines : List LineValue)
         × ((rule : RuleValue) × (is_quarter rule (map level_of lines) (level + 1) number ≡ true))
-        × AreSquaresOf (S.knows squares.now) (S.content squares.now) lines ids.now }
+        × AreSquaresIn S.Squares squares.now lines ids.now }
     ensures known { S.knows squares.now result }
     ensures level { depth (S.content squares.now result) ≡ level }
     ensures square { (lines : List LineValue) (rule : RuleValue)
         → is_quarter rule (map level_of lines) (level + 1) number ≡ true
-        → AreSquaresOf (S.knows squares.now) (S.content squares.now) lines ids.now
+        → AreSquaresIn S.Squares squares.now lines ids.now
         → S.content squares.now result ≡ tree_of lines level number }
 {
     if level == 0 {
@@ -97,18 +97,12 @@ fn quarter<S: Squares>(squares: &S, ids: &[Id], level: u8, number: u64) -> Id
 pub(crate) fn line_square<S: Squares>(squares: &mut S, ids: &[Id], line: Line) -> Result<Id, Kind>
     requires line { (lines : List LineValue)
         × ((rule : RuleValue) × IsSquare MAX_LEVEL rule (map level_of lines) line)
-        × AreSquaresOf (S.knows squares.old) (S.content squares.old) lines ids.now }
+        × AreSquaresIn S.Squares squares.old lines ids.now }
     ensures known { IfOk result (S.knows squares.new) }
-    ensures square { (lines : List LineValue) (rule : RuleValue)
-        → IsSquare MAX_LEVEL rule (map level_of lines) line
-        → AreSquaresOf (S.knows squares.old) (S.content squares.old) lines ids.now
-        → IfOk result
-        (λ id. S.content squares.new id ≡ line_tree (tree_of lines (level_of line - 1)) line) }
+    ensures square { ForLines S.Squares squares.old ids.now line (λ lines. IfOk result
+        (λ id. S.content squares.new id ≡ line_tree (tree_of lines (level_of line - 1)) line)) }
     ensures grows { GrowsOnly S.Squares squares.old squares.new result
-        (λ P. (lines : List LineValue) (rule : RuleValue)
-        → IsSquare MAX_LEVEL rule (map level_of lines) line
-        → AreSquaresOf (S.knows squares.old) (S.content squares.old) lines ids.now
-        → SomeOfLine P lines line) }
+        (λ P. ForLines S.Squares squares.old ids.now line (λ lines. SomeOfLine P lines line)) }
 {
     match line {
         Line::Leaf(rows) => leaf_square(squares, &rows),

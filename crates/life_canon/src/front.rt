@@ -1,18 +1,18 @@
 //! The front of a file, cut into lines.
 
-ghost use Rattle.std.specs.Prelude.{◌≡◌, ◌==◌, ◌⊎◌, ◌++◌, ◌∷◌, ◌<◌, ◌≤◌, ◌+◌, ◌-◌, ◌^◌, min, codes, true, ℕ, List, [], length, position, Some, None, Err, IfSome, IfOk, IfErr, OnOk};
+ghost use Rattle.std.specs.Prelude.{◌≡◌, ◌==◌, ◌⊎◌, ◌++◌, ◌<◌, ◌≤◌, ◌+◌, ◌-◌, ◌^◌, min, codes, true, ℕ, List, [], length, position, Some, None, IfSome, IfOk, IfErr, OnOk};
 ghost use Rattle.std.specs.Str.{byte};
 ghost use Rattle.life_base.specs.declared.kind.Kind.TheVariants.{Full, Memory};
 ghost use Rattle.life_base.specs.Lines.{has_no_feed};
 ghost use Rattle.life_base.specs.Refusal.{fault_at, fault_of};
-ghost use Rattle.life_quad.specs.Keeping.{AddsOnly};
-ghost use Rattle.life_quad.specs.Store.{Nodes, held};
+ghost use Rattle.life_quad.specs.Store.{Nodes};
+ghost use Rattle.life_canon.specs.Calls.{Stores, StoresFile, StoresLines};
 ghost use Rattle.life_canon.specs.Feeding.{RefusesFront};
+ghost use Rattle.life_canon.specs.Fronts.{HasBytes, IsFrontIn, IsOpenIn, TakesLine};
 ghost use Rattle.life_base.specs.Lines.{whole_lines};
-ghost use Rattle.life_canon.specs.Needs.{IsNew, LacksFor, LacksForFront, SomeOfLines};
-ghost use Rattle.life_canon.specs.Room.{AddsLines, AddsFile};
-ghost use Rattle.life_canon.specs.Store.{Keeps, IsKnown, IsRead, IsWant, RefusesIn, content};
-ghost use Rattle.life_canon.specs.Taking.{IsEnd, IsFrontOf, IsLineFault, IsOpen, IsOver, StandsFor, bytes_of, taken};
+ghost use Rattle.life_canon.specs.Needs.{SomeOfLines};
+ghost use Rattle.life_canon.specs.Store.{IsKnown, IsRead, IsWant, RefusesIn, content};
+ghost use Rattle.life_canon.specs.Taking.{IsEnd, IsFrontOf, IsOpen, IsOver, StandsFor, bytes_of};
 
 use crate::feeding::Progress;
 use crate::pattern::Pattern;
@@ -74,22 +74,10 @@ impl Front {
 
     /// Takes a whole line.
     fn take_line(&mut self, store: &mut Shared, line: &[u8]) -> Result<(), Fault>
-        requires begun { IsOpen self.old.progress }
-        requires stands { StandsFor (IsKnown store.old) (content store.old) self.old.progress }
-        ensures lines { OnOk result
-            (taken self.new.progress ≡ taken self.old.progress ++ line.now ∷ []) }
-        ensures begun { OnOk result (IsOpen self.new.progress) }
-        ensures stands { OnOk result
-            (StandsFor (IsKnown store.new) (content store.new) self.new.progress) }
-        ensures count { OnOk result (self.new.ended ≡ min (self.old.ended + 1) (2 ^ 64 - 1)) }
+        requires progress { IsOpenIn store.old self.old.progress }
+        ensures takes { TakesLine line.now store.old store.new self.old self.new result }
         ensures kept { self.new.kept ≡ self.old.kept }
         ensures pieces { self.new.pieces ≡ self.old.pieces }
-        ensures fault { IfErr result (λ fault. IsWant store.new fault
-            ⊎ IsLineFault MAX_LEVEL (taken self.old.progress) line.now self.old.ended fault) }
-        ensures needed { result ≡ Err (fault_of Full)
-            → SomeOfLines MAX_LEVEL (IsNew store.new) (taken self.old.progress ++ line.now ∷ []) }
-        ensures adds { AddsLines (taken self.old.progress ++ line.now ∷ []) store.old store.new }
-        ensures keeps { Keeps store.old store.new }
     {
         match self.progress.take_line(self.alloc, store, line) {
             Ok(()) => {
@@ -121,25 +109,10 @@ impl Front {
 
     /// Takes the line that is kept.
     fn take_kept(&mut self, store: &mut Shared) -> Result<(), Fault>
-        requires begun { IsOpen self.old.progress }
-        requires stands { StandsFor (IsKnown store.old) (content store.old) self.old.progress }
-        ensures lines { OnOk result
-            (taken self.new.progress ≡ taken self.old.progress ++ self.old.kept.items ∷ []) }
-        ensures begun { OnOk result (IsOpen self.new.progress) }
-        ensures stands { OnOk result
-            (StandsFor (IsKnown store.new) (content store.new) self.new.progress) }
-        ensures count { OnOk result (self.new.ended ≡ min (self.old.ended + 1) (2 ^ 64 - 1)) }
+        requires progress { IsOpenIn store.old self.old.progress }
+        ensures takes { TakesLine self.old.kept.items store.old store.new self.old self.new result }
         ensures kept { self.new.kept.items ≡ [] }
         ensures pieces { self.new.pieces ≡ self.old.pieces }
-        ensures fault { IfErr result (λ fault. IsWant store.new fault
-            ⊎ IsLineFault MAX_LEVEL (taken self.old.progress) self.old.kept.items self.old.ended
-            fault) }
-        ensures needed { result ≡ Err (fault_of Full)
-            → SomeOfLines MAX_LEVEL (IsNew store.new)
-            (taken self.old.progress ++ self.old.kept.items ∷ []) }
-        ensures adds { AddsLines (taken self.old.progress ++ self.old.kept.items ∷ []) store.old
-            store.new }
-        ensures keeps { Keeps store.old store.new }
     {
         let line = mem::replace(&mut self.kept, Vec::new(self.alloc));
         self.take_line(store, &line)
@@ -148,28 +121,13 @@ impl Front {
     /// Takes the line whose end this is: the bytes before its line feed.
     fn take_ended(&mut self, store: &mut Shared, end: &[u8]) -> Result<(), Fault>
         requires going { IsOver self.old.progress → ⊥ }
-        requires begun { IsOpen self.old.progress }
-        requires stands { StandsFor (IsKnown store.old) (content store.old) self.old.progress }
+        requires progress { IsOpenIn store.old self.old.progress }
         requires short { length self.old.kept.items ≤ 2 ^ 20 }
-        ensures lines { OnOk result (taken self.new.progress
-            ≡ taken self.old.progress ++ (self.old.kept.items ++ end.now) ∷ []) }
-        ensures begun { OnOk result (IsOpen self.new.progress) }
-        ensures stands { OnOk result
-            (StandsFor (IsKnown store.new) (content store.new) self.new.progress) }
-        ensures count { OnOk result (self.new.ended ≡ min (self.old.ended + 1) (2 ^ 64 - 1)) }
+        ensures takes { TakesLine (self.old.kept.items ++ end.now) store.old store.new self.old
+            self.new result }
         ensures kept { OnOk result (self.new.kept.items ≡ []) }
         ensures short { length self.new.kept.items ≤ 2 ^ 20 }
         ensures pieces { self.new.pieces ≡ self.old.pieces }
-        ensures fault { IfErr result (λ fault. IsWant store.new fault
-            ⊎ IsLineFault MAX_LEVEL (taken self.old.progress) (self.old.kept.items ++ end.now)
-            self.old.ended fault) }
-        ensures needed { result ≡ Err (fault_of Full)
-            → SomeOfLines MAX_LEVEL (IsNew store.new)
-            (taken self.old.progress ++ (self.old.kept.items ++ end.now) ∷ []) }
-        ensures adds { AddsLines
-            (taken self.old.progress ++ (self.old.kept.items ++ end.now) ∷ []) store.old
-            store.new }
-        ensures keeps { Keeps store.old store.new }
     {
         if self.kept.is_empty() {
             return self.take_line(store, end);
@@ -180,26 +138,18 @@ impl Front {
 
     /// Takes the end of a line, and its line feed.
     fn end_line(&mut self, store: &mut Shared, end: &[u8]) -> Result<(), Fault>
-        requires front { IsFrontOf self.old }
-        requires stands { StandsFor (IsKnown store.old) (content store.old) self.old.progress }
+        requires front { IsFrontIn store.old self.old }
         requires going { IsOver self.old.progress → ⊥ }
         requires no_feed { has_no_feed end.now ≡ true }
-        ensures front { OnOk result (IsFrontOf self.new) }
-        ensures bytes { OnOk result (bytes_of self.new.pieces.lines
-            ≡ bytes_of self.old.pieces.lines ++ end.now ++ codes "\n") }
-        ensures stands { OnOk result
-            (StandsFor (IsKnown store.new) (content store.new) self.new.progress) }
+        ensures bytes { OnOk result
+            (HasBytes (end.now ++ codes "\n") store.new self.old self.new) }
         ensures short { length self.new.kept.items ≤ 2 ^ 20 }
         ensures fault { IfErr result (λ fault. IsWant store.new fault
             ⊎ ((rest : List ℕ) → RefusesFront MAX_LEVEL
             (bytes_of self.old.pieces.lines ++ end.now ++ codes "\n" ++ rest) fault)) }
-        ensures needed { result ≡ Err (fault_of Full) → (rest : List ℕ)
-            → LacksForFront MAX_LEVEL
-            (bytes_of self.old.pieces.lines ++ end.now ++ codes "\n" ++ rest) store.new }
-        ensures adds { AddsOnly held (λ P. (rest : List ℕ) → SomeOfLines MAX_LEVEL P
-            (whole_lines (bytes_of self.old.pieces.lines ++ end.now ++ codes "\n" ++ rest)))
-            store.old store.new }
-        ensures keeps { Keeps store.old store.new }
+        ensures stores { Stores (fault_of Full) store.old store.new result
+            (λ P. (rest : List ℕ) → SomeOfLines MAX_LEVEL P
+            (whole_lines (bytes_of self.old.pieces.lines ++ end.now ++ codes "\n" ++ rest))) }
     {
         self.take_ended(store, end)?;
         self.pieces = self.pieces.then(end).then(b"\n");
@@ -227,21 +177,13 @@ impl Front {
 
     /// Takes the next piece.
     pub(crate) fn take_piece(&mut self, store: &mut Shared, piece: &[u8]) -> Result<(), Fault>
-        requires front { IsFrontOf self.old }
-        requires stands { StandsFor (IsKnown store.old) (content store.old) self.old.progress }
-        ensures front { OnOk result (IsFrontOf self.new) }
-        ensures bytes { OnOk result
-            (bytes_of self.new.pieces.lines ≡ bytes_of self.old.pieces.lines ++ piece.now) }
-        ensures stands { OnOk result
-            (StandsFor (IsKnown store.new) (content store.new) self.new.progress) }
+        requires front { IsFrontIn store.old self.old }
+        ensures bytes { OnOk result (HasBytes piece.now store.new self.old self.new) }
         ensures short { length self.new.kept.items ≤ 2 ^ 20 }
         ensures fault { IfErr result (λ fault. IsWant store.new fault
             ⊎ RefusesFront MAX_LEVEL (bytes_of self.old.pieces.lines ++ piece.now) fault) }
-        ensures needed { result ≡ Err (fault_of Full)
-            → LacksForFront MAX_LEVEL (bytes_of self.old.pieces.lines ++ piece.now) store.new }
-        ensures adds { AddsLines (whole_lines (bytes_of self.old.pieces.lines ++ piece.now))
-            store.old store.new }
-        ensures keeps { Keeps store.old store.new }
+        ensures stores { StoresLines (whole_lines (bytes_of self.old.pieces.lines ++ piece.now))
+            store.old store.new result }
     {
         let mut rest = piece;
         while let Some(end) = self.next_end(rest) {
@@ -253,18 +195,14 @@ impl Front {
 
     /// Takes the line that the end of the input ends, if there is one.
     fn take_rest(&mut self, store: &mut Shared) -> Result<(), Fault>
-        requires front { IsFrontOf self.old }
-        requires stands { StandsFor (IsKnown store.old) (content store.old) self.old.progress }
+        requires front { IsFrontIn store.old self.old }
         ensures end { OnOk result
             (IsEnd (bytes_of self.old.pieces.lines) self.new.ended self.new.progress) }
         ensures stands { OnOk result
             (StandsFor (IsKnown store.new) (content store.new) self.new.progress) }
         ensures fault { IfErr result
             (RefusesIn MAX_LEVEL (bytes_of self.old.pieces.lines) store.new) }
-        ensures needed { result ≡ Err (fault_of Full)
-            → LacksFor MAX_LEVEL (bytes_of self.old.pieces.lines) store.new }
-        ensures adds { AddsFile (bytes_of self.old.pieces.lines) store.old store.new }
-        ensures keeps { Keeps store.old store.new }
+        ensures stores { StoresFile (bytes_of self.old.pieces.lines) store.old store.new result }
     {
         if self.kept.is_empty() {
             return Ok(());
@@ -274,14 +212,10 @@ impl Front {
 
     /// The pattern of the file that came.
     pub(crate) fn finish(self, store: &mut Shared) -> Result<Pattern, Fault>
-        requires front { IsFrontOf self }
-        requires stands { StandsFor (IsKnown store.old) (content store.old) self.progress }
+        requires front { IsFrontIn store.old self }
         ensures pattern { IfOk result (IsRead MAX_LEVEL (bytes_of self.pieces.lines) store.new) }
         ensures fault { IfErr result (RefusesIn MAX_LEVEL (bytes_of self.pieces.lines) store.new) }
-        ensures needed { result ≡ Err (fault_of Full)
-            → LacksFor MAX_LEVEL (bytes_of self.pieces.lines) store.new }
-        ensures adds { AddsFile (bytes_of self.pieces.lines) store.old store.new }
-        ensures keeps { Keeps store.old store.new }
+        ensures stores { StoresFile (bytes_of self.pieces.lines) store.old store.new result }
     {
         let mut front = self;
         front.take_rest(store)?;

@@ -1,16 +1,13 @@
 //! A file of either format that comes in pieces.
 
-ghost use Rattle.std.specs.Prelude.{◌≡◌, ◌⊎◌, ◌++◌, ◌+◌, ◌<◌, [], List, length, true, false, Err, IfOk, IfErr, OnOk, OnErr};
-ghost use Rattle.life_base.specs.declared.kind.Kind.TheVariants.{Full, Spent};
+ghost use Rattle.std.specs.Prelude.{◌≡◌, ◌⊎◌, ◌++◌, [], true, false, IfOk, IfErr, OnOk, OnErr};
+ghost use Rattle.life_base.specs.declared.kind.Kind.TheVariants.{Spent};
 ghost use Rattle.life_base.specs.declared.fault.Fault.{Fault as FaultValue};
-ghost use Rattle.life_base.specs.Lines.{whole_lines};
 ghost use Rattle.life_base.specs.Refusal.{fault_of};
-ghost use Rattle.life_base.specs.Tree.{Tree};
 ghost use Rattle.life_quad.specs.Store.{Nodes};
+ghost use Rattle.life_canon.specs.Calls.{FeedsInto, EndsInto};
 ghost use Rattle.life_canon.specs.Feeding.{RefusesFront, IsOverAt, Stands};
-ghost use Rattle.life_canon.specs.Needs.{LacksFor, LacksForFront};
-ghost use Rattle.life_canon.specs.Room.{AddsLines, AddsFile, HoldsFront, HoldsOnly, room_for};
-ghost use Rattle.life_canon.specs.Store.{Keeps, IsRead, IsWant, RefusesIn};
+ghost use Rattle.life_canon.specs.Store.{IsRead, IsWant, RefusesIn};
 
 use crate::front::Front;
 use crate::pattern::Pattern;
@@ -76,20 +73,12 @@ impl Reader {
         ensures fault { self.old.spent ≡ false
             → IfErr result (λ fault. IsWant store.new fault
             ⊎ RefusesFront MAX_LEVEL (self.old.bytes ++ piece.now) fault) }
-        ensures needed { result ≡ Err (fault_of Full)
-            → LacksForFront MAX_LEVEL (self.old.bytes ++ piece.now) store.new }
-        ensures adds { AddsLines (whole_lines (self.old.bytes ++ piece.now)) store.old store.new }
-
-        // Whatever the store held before, it is full only where its limit is below that and the room for the bytes.
-        ensures room { result ≡ Err (fault_of Full) → (base : List Tree)
-            → HoldsFront base self.old.bytes store.old
-            → store.old.limit < length base + room_for (length (self.old.bytes ++ piece.now)) }
+        ensures feeds { FeedsInto self.old.bytes piece.now store.old store.new result }
         ensures refused { OnErr result (self.new.spent ≡ true) }
         ensures spent { self.old.spent ≡ true → IfErr result (λ fault. fault ≡ fault_of Spent) }
 
         // Behind the line that holds `!` no byte is kept.
         ensures over { OnOk result (IsOverAt MAX_LEVEL self.new.bytes → self.new.kept ≡ []) }
-        ensures keeps { Keeps store.old store.new }
     {
         if self.spent {
             return Err(Fault::of(Kind::Spent));
@@ -120,14 +109,9 @@ impl Reader {
         ensures pattern { IfOk result
             (λ pattern. (self.spent ≡ false) × IsRead MAX_LEVEL self.bytes store.new pattern) }
         ensures fault { self.spent ≡ false
-            → IfErr result (λ fault. RefusesIn MAX_LEVEL self.bytes store.new fault) }
-        ensures needed { result ≡ Err (fault_of Full) → LacksFor MAX_LEVEL self.bytes store.new }
-        ensures adds { AddsFile self.bytes store.old store.new }
-        ensures room { result ≡ Err (fault_of Full) → (base : List Tree)
-            → HoldsOnly base self.bytes store.old
-            → store.old.limit < length base + room_for (length self.bytes) }
+            → IfErr result (RefusesIn MAX_LEVEL self.bytes store.new) }
+        ensures ends { EndsInto self.bytes store.old store.new result }
         ensures spent { self.spent ≡ true → IfErr result (λ fault. fault ≡ fault_of Spent) }
-        ensures keeps { Keeps store.old store.new }
     {
         let Reader { front, spent } = self;
         if spent {

@@ -1,9 +1,9 @@
 //! From a source to a sink.
 
-ghost use Rattle.std.specs.Prelude.{◌≡◌, ◌≢◌, ◌⊎◌, ◌+◌, ◌<◌, ◌≤◌, ◌^◌, ℕ, List, length, true, false, IsTrue, ◌↔◌, IfOk, IfErr, OnOk, IfSome, IsErrAnd, Some, None, Err, ◌++◌};
+ghost use Rattle.std.specs.Prelude.{◌≡◌, ◌≢◌, ◌⊎◌, ◌+◌, ◌<◌, ◌≤◌, ◌^◌, ℕ, List, length, true, false, IsTrue, ◌↔◌, IfOk, IfErr, OnOk, IfSome, Some, None, Err, ◌++◌};
 ghost use Rattle.life_base.specs.DeviceRuns.{source_run, sink_run};
 ghost use Rattle.life_base.specs.Refusal.{fault_of};
-ghost use Rattle.life_canon.specs.Running.{Ran, RunRefuses, ReadRefuses, HasRead, LacksForRead, AddsForRead, IsTightForRead};
+ghost use Rattle.life_canon.specs.Running.{ReadsPattern, RunsCanon};
 ghost use Rattle.life_canon.specs.Feeding.{RefusesFront, Stands};
 ghost use Rattle.life_base.specs.Lines.{whole_lines};
 ghost use Rattle.life_base.specs.Tree.{Tree};
@@ -72,20 +72,8 @@ fn read_source<R: Source>(
 ) -> Result<Pattern, Fault>
     requires working { R.failures source.old ≡ 0 }
     requires bound { most ≤ 2 ^ 30 }
-    ensures pattern { IfOk result (λ pattern. HasRead MAX_LEVEL most store.new
-        (source_run R.remaining R.failures source.old source.new) pattern) }
-    ensures works { OnOk result (R.failures source.new ≡ 0) }
-    ensures fault { IfErr result (λ fault. ReadRefuses MAX_LEVEL most store.new
-        (source_run R.remaining R.failures source.old source.new) fault) }
-    ensures needed { result ≡ Err (fault_of Kind.Full)
-        → LacksForRead MAX_LEVEL most store.new
-        (source_run R.remaining R.failures source.old source.new) }
-    ensures adds { AddsForRead (R.remaining source.old) store.old store.new }
-    ensures room { result ≡ Err (fault_of Kind.Full)
-        → IsTightForRead most store.old (source_run R.remaining R.failures source.old source.new) }
-    ensures told { R.failures source.new ≡ 1
-        → IsErrAnd result (λ fault. fault.kind ≡ Kind.ReadFault) }
-    ensures keeps { Keeps store.old store.new }
+    ensures { ReadsPattern most store.old store.new
+        (source_run R.remaining R.failures source.old source.new) result }
 {
     let mut reader = Reader::new(alloc);
     let mut room = Room::new(store, source.expected());
@@ -129,21 +117,8 @@ pub fn read_from<R: Source>(
     source: &mut R,
 ) -> Result<Pattern, Fault>
     requires { R.failures source.old ≡ 0 }
-    ensures pattern { IfOk result (λ pattern. HasRead MAX_LEVEL (2 ^ 30) store.new
-        (source_run R.remaining R.failures source.old source.new) pattern) }
-    ensures works { OnOk result (R.failures source.new ≡ 0) }
-    ensures fault { IfErr result (λ fault. ReadRefuses MAX_LEVEL (2 ^ 30) store.new
-        (source_run R.remaining R.failures source.old source.new) fault) }
-    ensures needed { result ≡ Err (fault_of Kind.Full)
-        → LacksForRead MAX_LEVEL (2 ^ 30) store.new
-        (source_run R.remaining R.failures source.old source.new) }
-    ensures adds { AddsForRead (R.remaining source.old) store.old store.new }
-    ensures room { result ≡ Err (fault_of Kind.Full)
-        → IsTightForRead (2 ^ 30) store.old
-        (source_run R.remaining R.failures source.old source.new) }
-    ensures told { R.failures source.new ≡ 1
-        → IsErrAnd result (λ fault. fault.kind ≡ Kind.ReadFault) }
-    ensures keeps { Keeps store.old store.new }
+    ensures { ReadsPattern (2 ^ 30) store.old store.new
+        (source_run R.remaining R.failures source.old source.new) result }
 {
     read_source(alloc, store, source, LONGEST_INPUT)
 }
@@ -168,26 +143,12 @@ pub fn run_canon_within<R: Source, W: Sink>(
     requires writes { W.failures writer.old ≡ 0 }
     requires takes { W.stalled writer.old ≡ false }
     requires bound { most ≤ 2 ^ 30 }
-    ensures ok { OnOk result (Ran MAX_LEVEL most
+    ensures runs { RunsCanon most store.old store.new
         (source_run R.remaining R.failures reader.old reader.new)
-        (sink_run W.contents W.failures W.stalled writer.old writer.new)) }
+        (sink_run W.contents W.failures W.stalled writer.old writer.new) result }
     ensures flushed { OnOk result (W.flushed writer.new ≡ true) }
-    ensures err { IfErr result (RunRefuses MAX_LEVEL most store.new
-        (source_run R.remaining R.failures reader.old reader.new)
-        (sink_run W.contents W.failures W.stalled writer.old writer.new)) }
-    ensures needed { result ≡ Err (fault_of Kind.Full)
-        → LacksForRead MAX_LEVEL most store.new
-        (source_run R.remaining R.failures reader.old reader.new) }
-    ensures adds { AddsForRead (R.remaining reader.old) store.old store.new }
-    ensures room { result ≡ Err (fault_of Kind.Full)
-        → IsTightForRead most store.old (source_run R.remaining R.failures reader.old reader.new) }
     ensures unwritten { IfErr result
         (λ fault. fault.kind ≢ Kind.WriteFault → writer.new ≡ writer.old) }
-    ensures read_told { R.failures reader.new ≡ 1
-        → IsErrAnd result (λ fault. fault.kind ≡ Kind.ReadFault) }
-    ensures write_told { (W.failures writer.new ≡ 1) ⊎ (W.stalled writer.new ≡ true)
-        → IsErrAnd result (λ fault. fault.kind ≡ Kind.WriteFault) }
-    ensures keeps { Keeps store.old store.new }
 {
     let pattern = read_source(alloc, store, reader, most)?;
     let (numbers, front) = begin_text(alloc, store, &pattern)?;
@@ -210,27 +171,12 @@ pub fn run_canon<R: Source, W: Sink>(
     requires reads { R.failures reader.old ≡ 0 }
     requires writes { W.failures writer.old ≡ 0 }
     requires takes { W.stalled writer.old ≡ false }
-    ensures ok { OnOk result (Ran MAX_LEVEL (2 ^ 30)
+    ensures runs { RunsCanon (2 ^ 30) store.old store.new
         (source_run R.remaining R.failures reader.old reader.new)
-        (sink_run W.contents W.failures W.stalled writer.old writer.new)) }
+        (sink_run W.contents W.failures W.stalled writer.old writer.new) result }
     ensures flushed { OnOk result (W.flushed writer.new ≡ true) }
-    ensures err { IfErr result (RunRefuses MAX_LEVEL (2 ^ 30) store.new
-        (source_run R.remaining R.failures reader.old reader.new)
-        (sink_run W.contents W.failures W.stalled writer.old writer.new)) }
-    ensures needed { result ≡ Err (fault_of Kind.Full)
-        → LacksForRead MAX_LEVEL (2 ^ 30) store.new
-        (source_run R.remaining R.failures reader.old reader.new) }
-    ensures adds { AddsForRead (R.remaining reader.old) store.old store.new }
-    ensures room { result ≡ Err (fault_of Kind.Full)
-        → IsTightForRead (2 ^ 30) store.old
-        (source_run R.remaining R.failures reader.old reader.new) }
     ensures unwritten { IfErr result
         (λ fault. fault.kind ≢ Kind.WriteFault → writer.new ≡ writer.old) }
-    ensures read_told { R.failures reader.new ≡ 1
-        → IsErrAnd result (λ fault. fault.kind ≡ Kind.ReadFault) }
-    ensures write_told { (W.failures writer.new ≡ 1) ⊎ (W.stalled writer.new ≡ true)
-        → IsErrAnd result (λ fault. fault.kind ≡ Kind.WriteFault) }
-    ensures keeps { Keeps store.old store.new }
 {
     run_canon_within(alloc, store, reader, writer, LONGEST_INPUT)
 }

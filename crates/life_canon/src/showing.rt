@@ -1,21 +1,19 @@
 //! What a pattern is, in five lines.
 
-ghost use Rattle.std.specs.Prelude.{◌≡◌, ◌++◌, ◌≤◌, ◌<◌, ◌+◌, codes, decimal, Err, IfOk, IfErr, IfSome, OnOk, MatchOption};
+ghost use Rattle.std.specs.Prelude.{◌≡◌, ◌++◌, ◌≤◌, codes, decimal, IfOk, IfErr, IfSome, OnOk, MatchOption};
 ghost use Rattle.std.specs.Fmt.{signed_decimal};
 ghost use Rattle.life_base.specs.Refusal.{fault_of};
 ghost use Rattle.life_base.specs.Rules.{rule_text};
-ghost use Rattle.life_base.specs.declared.kind.Kind.TheVariants.{Full, Memory};
+ghost use Rattle.life_base.specs.declared.kind.Kind.TheVariants.{Memory};
 ghost use Rattle.life_base.specs.Tree.{depth, is_blank_tree};
 ghost use Rattle.life_quad.specs.Cells.{population, IsLeastBox};
 ghost use Rattle.life_base.specs.declared.bounds.Bounds.{Bounds as BoundsValue};
-ghost use Rattle.std.specs.Prelude.{Option, List, ℕ, length, true};
+ghost use Rattle.std.specs.Prelude.{Option, true};
 ghost use Rattle.life_rle.specs.Written.{span};
 ghost use Rattle.life_mc.specs.Cells.{node_lines};
 ghost use Rattle.life_canon.specs.Listing.{canonical_file};
-ghost use Rattle.life_quad.specs.Store.{held};
-ghost use Rattle.life_canon.specs.Needs.{LacksFor};
-ghost use Rattle.life_canon.specs.Room.{AddsFile, room_for};
-ghost use Rattle.life_canon.specs.Store.{Keeps, RefusesIn, IsOfFile, IsRead, IsTrimmed, universe_in, content};
+ghost use Rattle.life_canon.specs.Calls.{ReadsInto};
+ghost use Rattle.life_canon.specs.Store.{ForEachFile, RefusesIn, IsOfFile, IsTrimmed, universe_in, content};
 ghost use Rattle.life_canon.specs.Texts.{IsShown, IsOrdered, AreOrdered, box_text, show_text};
 
 use crate::counting::{Counts, count_all};
@@ -137,8 +135,8 @@ fn five_lines(alloc: Global, store: &Shared, pattern: &Pattern) -> Result<Vec<u8
 /// `Memory`, at no line.
 pub fn five_lines_of(alloc: Global, store: &Shared, pattern: &Pattern) -> Result<Vec<u8>, Fault>
     requires { IsOfFile MAX_LEVEL store.now pattern.now }
-    ensures text { IfOk result (λ text. (bytes : List ℕ)
-        → IsRead MAX_LEVEL bytes store.now pattern.now → IsShown MAX_LEVEL bytes text.items) }
+    ensures text { IfOk result
+        (λ text. ForEachFile store.now pattern.now (λ bytes. IsShown MAX_LEVEL bytes text.items)) }
     ensures memory { IfErr result (λ fault. fault ≡ fault_of Memory) }
 {
     Ok(five_lines(alloc, store, pattern)?)
@@ -152,12 +150,8 @@ pub fn five_lines_of(alloc: Global, store: &Shared, pattern: &Pattern) -> Result
 /// Those of `canon`. The store keeps what it has as there, and a limit of `14 * length + 264` squares more suffices.
 pub fn show(alloc: Global, store: &mut Shared, bytes: &[u8]) -> Result<Vec<u8>, Fault>
     ensures text { IfOk result (λ text. IsShown MAX_LEVEL bytes.now text.items) }
-    ensures fault { IfErr result (λ fault. RefusesIn MAX_LEVEL bytes.now store.new fault) }
-    ensures needed { result ≡ Err (fault_of Full) → LacksFor MAX_LEVEL bytes.now store.new }
-    ensures adds { AddsFile bytes.now store.old store.new }
-    ensures room { result ≡ Err (fault_of Full)
-        → store.old.limit < length (held store.old) + room_for (length bytes.now) }
-    ensures keeps { Keeps store.old store.new }
+    ensures fault { IfErr result (RefusesIn MAX_LEVEL bytes.now store.new) }
+    ensures reads { ReadsInto bytes.now store.old store.new result }
 {
     let pattern = read(alloc, store, bytes)?;
     five_lines_of(alloc, store, &pattern)

@@ -5,3 +5,4 @@ pub mod Cells
 pub mod Needed
 pub mod Trees
 pub mod Images
+pub mod Words

@@ -1,16 +1,22 @@
 -- The squares that a refused call had to store while cells were moved.
-use Rattle.std.specs.Prelude.{ℕ, ◌^◌, ◌≤◌, ◌⊎◌, ℤ, List, length}
+use Rattle.std.specs.Prelude.{◌≡◌, ℕ, ◌^◌, ◌<◌, ◌≤◌, ◌⊎◌, ℤ, List, length}
+use Rattle.life_base.specs.Refusal.{OrMemory, fault_of}
 use Rattle.life_base.specs.Tree.{Tree}
 use Rattle.life_base.specs.declared.cell.Cell.{Cell}
 use Rattle.life_base.specs.declared.cell.Run.{Run}
 use Rattle.life_base.specs.declared.cell.TheConstants.{MAX_LEVEL}
+use Rattle.life_base.specs.declared.fault.Fault.{Fault}
+use Rattle.life_base.specs.declared.kind.Kind.TheVariants.{TooManyCells}
+use Rattle.life_quad.specs.Cells.{population}
 use Rattle.life_quad.specs.Refused.{TrimmedTo}
 use Rattle.life_quad.specs.Store.{Nodes}
 use Rattle.life_strip.specs.Given.{state_by, by_columns}
 use Rattle.life_strip.specs.Needed.{SomeSquare}
 use Rattle.life_canon.specs.Needs.{IsNew, SomeOfRuns}
+use Rattle.life_canon.specs.Store.{content}
 use Rattle.life_canon.specs.Texts.{AreCellsOf}
 use Rattle.life_canon.specs.Universe.{Universe, least_level, square_universe}
+use Rattle.life_canon.specs.declared.pattern.Pattern.{Pattern}
 use Rattle.life_forms.specs.Forms.{IsMoved}
 use Rattle.life_forms.specs.Cells.{moved_runs, IsWay}
 
@@ -30,6 +36,18 @@ pub record SomeOfMoved (P : Tree → Type 0) (cell : ℤ → ℤ → ℕ) : Type
 -- at most 2^20 cells aren't 0
 abbrev pub HasFewCells : (ℤ → ℤ → ℕ) → Type 0
 HasFewCells cell = (cells : List Cell) × AreCellsOf cell cells × (length cells ≤ 2 ^ 20)
+
+-- so it is with the cells of a pattern in a store
+abbrev pub IsFew : Nodes → Pattern → Type 0
+IsFew store pattern = population (content store pattern.root) ≤ 2 ^ 20
+
+-- a pattern in a store has more cells than can be moved or turned
+abbrev pub IsMany : Nodes → Pattern → Type 0
+IsMany store pattern = 2 ^ 20 < population (content store pattern.root)
+
+-- memory was refused, or the pattern has too many cells
+abbrev pub RefusesTurning : Nodes → Pattern → Fault → Type 0
+RefusesTurning store pattern fault = OrMemory fault ((fault ≡ fault_of TooManyCells) × IsMany store pattern)
 
 -- the pattern has few enough cells, and the store lacks a square of its plane, moved, or the one to which that plane is trimmed
 abbrev pub LacksForMoved : Universe → Nodes → Type 0

@@ -1,13 +1,7 @@
 //! Two patterns, compared in a form.
 
-ghost use Rattle.std.specs.Prelude.{◌≡◌, ◌↔◌, ◌⊎◌, ◌^◌, ◌<◌, ◌≤◌, Err, IfOk, IfErr, OnOk, IsTrue};
-ghost use Rattle.life_base.specs.Refusal.{fault_of};
-ghost use Rattle.life_base.specs.Rules.{IsRule};
-ghost use Rattle.life_base.specs.declared.kind.Kind.TheVariants.{Full, Memory, TooManyCells};
-ghost use Rattle.life_quad.specs.Cells.{population};
-ghost use Rattle.life_canon.specs.Store.{Keeps, IsTrimmed, IsWant, content, universe_in};
-ghost use Rattle.life_forms.specs.Forms.{IsShift, IsTurnedShift};
-ghost use Rattle.life_forms.specs.Needed.{LacksForMoved};
+ghost use Rattle.life_forms.specs.Words.{◌≡◌, ◌↔◌, ◌⊎◌, Err, IfOk, IfErr, OnOk, IsTrue, OrMemory, fault_of, IsRule, Full, TooManyCells, IsTrimmed, IsWant, universe_in, IsShift, IsTurnedShift, IsFew, IsMany, LacksForMoved};
+ghost use Rattle.life_canon.specs.Store.{Keeps};
 
 use crate::images::turned_text;
 use crate::patterns::moved_of;
@@ -33,11 +27,9 @@ pub fn are_shifts(
     requires b { IsTrimmed store.old b.now }
     ensures answer { IfOk result (λ answer. IsTrue answer ↔ IsShift (universe_in store.old a.now)
         (universe_in store.old b.now)) }
-    ensures few { OnOk result ((population (content store.old a.now.root) ≤ 2 ^ 20)
-        × (population (content store.old b.now.root) ≤ 2 ^ 20)) }
+    ensures few { OnOk result (IsFew store.old a.now × IsFew store.old b.now) }
     ensures fault { IfErr result (λ fault. ((fault ≡ fault_of TooManyCells)
-        × ((2 ^ 20 < population (content store.old a.now.root))
-        ⊎ (2 ^ 20 < population (content store.old b.now.root)))) ⊎ IsWant store.new fault) }
+        × (IsMany store.old a.now ⊎ IsMany store.old b.now)) ⊎ IsWant store.new fault) }
     ensures needed { result ≡ Err (fault_of Full)
         → LacksForMoved (universe_in store.old a.now) store.new
         ⊎ LacksForMoved (universe_in store.old b.now) store.new }
@@ -70,12 +62,10 @@ pub fn are_turns(alloc: Global, store: &Shared, a: &Pattern, b: &Pattern) -> Res
     ensures answer { IfOk result (λ answer. IsTrue answer ↔ IsTurnedShift
         (universe_in store.now a.now) (universe_in store.now b.now)) }
     ensures few { OnOk result (a.now.generation ≡ b.now.generation
-        → (population (content store.now a.now.root) ≤ 2 ^ 20)
-        × (population (content store.now b.now.root) ≤ 2 ^ 20)) }
-    ensures fault { IfErr result (λ fault. (fault ≡ fault_of Memory)
-        ⊎ ((fault ≡ fault_of TooManyCells) × (a.now.generation ≡ b.now.generation)
-        × ((2 ^ 20 < population (content store.now a.now.root))
-        ⊎ (2 ^ 20 < population (content store.now b.now.root))))) }
+        → IsFew store.now a.now × IsFew store.now b.now) }
+    ensures fault { IfErr result (λ fault. OrMemory fault
+        ((fault ≡ fault_of TooManyCells) × (a.now.generation ≡ b.now.generation)
+        × (IsMany store.now a.now ⊎ IsMany store.now b.now))) }
 {
     if a.generation != b.generation {
         return Ok(false);

@@ -1,18 +1,7 @@
 //! Texts of a pattern's images.
 
-ghost use Rattle.std.specs.Prelude.{◌≡◌, ◌≢◌, ◌⊎◌, ◌^◌, ◌<◌, ◌≤◌, IfOk, IfErr, OnOk};
-ghost use Rattle.life_base.specs.Refusal.{fault_of};
-ghost use Rattle.life_base.specs.Tree.{depth};
-ghost use Rattle.life_base.specs.declared.cell.TheConstants.{MAX_LEVEL};
-ghost use Rattle.life_base.specs.declared.kind.Kind.TheVariants.{Memory, TooManyCells};
-ghost use Rattle.life_quad.specs.Cells.{population};
-ghost use Rattle.life_quad.specs.Keeping.{KeepsSquares, IsWantKind};
-ghost use Rattle.life_canon.specs.Store.{IsTrimmed, content, universe_in};
-ghost use Rattle.life_quad.specs.Store.{held};
-ghost use Rattle.life_forms.specs.Forms.{IsMoved, IsUpTo};
-ghost use Rattle.life_forms.specs.Images.{IsImageText, IsTurnedText, numbered};
-ghost use Rattle.life_forms.specs.Trees.{turned_tree};
-ghost use Rattle.life_forms.specs.Turns.{image};
+ghost use Rattle.life_forms.specs.Words.{◌≡◌, ◌≢◌, ◌⊎◌, IfOk, IfErr, OnOk, depth, MAX_LEVEL, Memory, TooManyCells, IsWantKind, IsTrimmed, universe_in, held, IsMoved, IsUpTo, IsImageText, IsTurnedText, numbered, IsFew, IsMany, RefusesTurning, turned_tree, image};
+ghost use Rattle.life_quad.specs.Grows.{Keeps};
 
 use crate::patterns::moved_pattern;
 use crate::turn::Turn;
@@ -44,7 +33,7 @@ fn image_of<S: Squares, T: Squares>(
     ensures level { IfOk result (λ image. depth (T.content to.new image) ≡ level) }
     ensures square { IfOk result
         (λ image. T.content to.new image ≡ turned_tree turn (S.content from.now id)) }
-    ensures keeps { KeepsSquares T.knows T.content T.stored T.most to.old to.new }
+    ensures keeps { Keeps T.Squares to.old to.new }
     ensures refusals { IfErr result (IsWantKind (T.stored to.new) (T.most to.new)) }
 {
     if let Some(state) = from.state(id) {
@@ -106,8 +95,7 @@ fn moved_image(
     ensures trimmed { IfOk result (IsTrimmed squares.new) }
     ensures moved { IfOk result (λ moved. IsMoved MAX_LEVEL
         (image turn (universe_in store.now pattern.now)) (universe_in squares.new moved)) }
-    ensures many { IfErr result
-        (λ kind. kind ≡ TooManyCells → 2 ^ 20 < population (content store.now pattern.now.root)) }
+    ensures many { IfErr result (λ kind. kind ≡ TooManyCells → IsMany store.now pattern.now) }
     ensures refusals { IfErr result
         (λ kind. (kind ≡ TooManyCells) ⊎ IsWantKind (held squares.new) squares.new.limit kind) }
 {
@@ -129,9 +117,7 @@ fn image_text(
     requires { IsTrimmed store.now pattern.now }
     ensures text { IfOk result
         (λ text. IsImageText MAX_LEVEL (universe_in store.now pattern.now) turn text.items) }
-    ensures fault { IfErr result (λ fault. (fault ≡ fault_of Memory)
-        ⊎ ((fault ≡ fault_of TooManyCells)
-        × (2 ^ 20 < population (content store.now pattern.now.root)))) }
+    ensures fault { IfErr result (RefusesTurning store.now pattern.now) }
 {
     let mut squares = Shared::new(alloc, store.seed(), MOST_SQUARES);
     match moved_image(alloc, &mut squares, store, pattern, turn) {
@@ -165,10 +151,8 @@ pub fn turned_text(alloc: Global, store: &Shared, pattern: &Pattern) -> Result<V
     requires { IsTrimmed store.now pattern.now }
     ensures text { IfOk result
         (λ text. IsTurnedText MAX_LEVEL (universe_in store.now pattern.now) text.items) }
-    ensures few { OnOk result (population (content store.now pattern.now.root) ≤ 2 ^ 20) }
-    ensures fault { IfErr result (λ fault. (fault ≡ fault_of Memory)
-        ⊎ ((fault ≡ fault_of TooManyCells)
-        × (2 ^ 20 < population (content store.now pattern.now.root)))) }
+    ensures few { OnOk result (IsFew store.now pattern.now) }
+    ensures fault { IfErr result (RefusesTurning store.now pattern.now) }
 {
     if population(alloc, store, pattern.root)? > u128::from(MOST_CELLS) {
         return Err(Fault::of(Kind::TooManyCells));

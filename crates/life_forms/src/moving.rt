@@ -1,19 +1,7 @@
 //! Cells, moved, as a square.
 
-ghost use Rattle.std.specs.Prelude.{◌≡◌, ◌⊎◌, ◌^◌, ◌<◌, ◌≤◌, ◌+ℤ◌, ℕ, ℤ, All, AllPairs, Err, IfOk, IfErr, OnOk};
-ghost use Rattle.life_base.specs.declared.cell.TheConstants.{MAX_LEVEL};
-ghost use Rattle.life_base.specs.declared.kind.Kind.TheVariants.{Full, Memory, TooManyCells};
-ghost use Rattle.life_base.specs.declared.rule.Rule.{Rule};
-ghost use Rattle.life_canon.specs.Texts.{IsOrdered};
-ghost use Rattle.life_canon.specs.Universe.{square_universe};
-ghost use Rattle.life_forms.specs.Forms.{IsInPlace, IsMoved};
-ghost use Rattle.life_base.specs.Tree.{depth, tree_cell};
-ghost use Rattle.life_base.specs.declared.cell.Run.{Run as RunValue};
-ghost use Rattle.life_quad.specs.Cells.{IsBefore, population};
-ghost use Rattle.life_quad.specs.Keeping.{KeepsSquares, IsWantKind};
-ghost use Rattle.life_strip.specs.Given.{state_by};
-ghost use Rattle.life_forms.specs.Cells.{moved_run, moved_runs, LiesOnPlane, IsWay};
-ghost use Rattle.life_forms.specs.Needed.{SomeOfPlane, SomeOfMoved};
+ghost use Rattle.life_forms.specs.Words.{◌≡◌, ◌⊎◌, ◌^◌, ◌<◌, ◌≤◌, ◌+ℤ◌, ℕ, ℤ, All, AllPairs, Err, IfOk, IfErr, OnOk, MAX_LEVEL, Full, Memory, TooManyCells, Rule, IsOrdered, square_universe, IsInPlace, IsMoved, depth, tree_cell, RunValue, IsBefore, population, IsWantKind, state_by, moved_run, moved_runs, LiesOnPlane, IsWay, SomeOfPlane, SomeOfMoved};
+ghost use Rattle.life_quad.specs.Grows.{Keeps};
 
 use life_base::{Cell, Kind, MAX_LEVEL, Run};
 use life_canon::MOST_CELLS;
@@ -95,7 +83,7 @@ fn moved_square<S: Squares>(
     ensures cells { IfOk result (λ id. (x y : ℤ)
         → tree_cell (S.content squares.new id) x y
         ≡ state_by (moved_runs columns rows cells.now) x y) }
-    ensures keeps { KeepsSquares S.knows S.content S.stored S.most squares.old squares.new }
+    ensures keeps { Keeps S.Squares squares.old squares.new }
     ensures refusals { IfErr result (IsWantKind (S.stored squares.new) (S.most squares.new)) }
     ensures needed { result ≡ Err Full
         → SomeOfPlane (S.needs_node squares.new) (moved_runs columns rows cells.now) }
@@ -133,7 +121,7 @@ pub(crate) fn moved_plane<S: SharedSquares>(
     ensures room { result ≡ Err Full → population (S.content squares.old root) ≤ 2 ^ 20 }
     ensures needed { result ≡ Err Full
         → SomeOfMoved (S.needs_node squares.new) (tree_cell (S.content squares.old root)) }
-    ensures keeps { KeepsSquares S.knows S.content S.stored S.most squares.old squares.new }
+    ensures keeps { Keeps S.Squares squares.old squares.new }
 {
     let list = cells(alloc, squares, root, MOST_CELLS)?;
     let way = way_of(alloc, squares, root)?;

@@ -1,18 +1,7 @@
 //! Patterns, moved.
 
-ghost use Rattle.std.specs.Prelude.{◌≡◌, ◌⊎◌, ◌^◌, ◌<◌, ◌≤◌, ℤ, Err, IfOk, IfErr, OnOk};
-ghost use Rattle.life_base.specs.Refusal.{fault_of};
-ghost use Rattle.life_base.specs.Tree.{depth, tree_cell};
-ghost use Rattle.life_base.specs.declared.cell.TheConstants.{MAX_LEVEL};
-ghost use Rattle.life_base.specs.declared.kind.Kind.TheVariants.{Full, TooManyCells};
-ghost use Rattle.life_mc.specs.Macrocell.{largest_state};
-ghost use Rattle.life_quad.specs.Cells.{population};
-ghost use Rattle.life_quad.specs.Keeping.{IsWantKind};
-ghost use Rattle.life_quad.specs.Store.{held};
-ghost use Rattle.life_canon.specs.Store.{Keeps, IsKnown, IsTrimmed, IsWant, content, universe_in};
-ghost use Rattle.life_canon.specs.Universe.{least_level, square_universe};
-ghost use Rattle.life_forms.specs.Forms.{IsMoved};
-ghost use Rattle.life_forms.specs.Needed.{LacksForMoved};
+ghost use Rattle.life_forms.specs.Words.{◌≡◌, ◌⊎◌, ◌^◌, ◌<◌, ◌≤◌, ℤ, Err, IfOk, IfErr, OnOk, fault_of, depth, tree_cell, MAX_LEVEL, Full, TooManyCells, largest_state, population, IsWantKind, held, IsKnown, IsTrimmed, IsWant, content, universe_in, least_level, square_universe, IsMoved, IsFew, IsMany, LacksForMoved};
+ghost use Rattle.life_canon.specs.Store.{Keeps};
 
 use crate::moving::moved_plane;
 use life_base::{Fault, Kind, Rule};
@@ -69,9 +58,9 @@ pub fn moved_of(alloc: Global, store: &mut Shared, pattern: &Pattern) -> Result<
     ensures trimmed { IfOk result (IsTrimmed store.new) }
     ensures moved { IfOk result (λ moved. IsMoved MAX_LEVEL (universe_in store.old pattern.now)
         (universe_in store.new moved)) }
-    ensures few { OnOk result (population (content store.old pattern.now.root) ≤ 2 ^ 20) }
+    ensures few { OnOk result (IsFew store.old pattern.now) }
     ensures fault { IfErr result (λ fault. ((fault ≡ fault_of TooManyCells)
-        × (2 ^ 20 < population (content store.old pattern.now.root))) ⊎ IsWant store.new fault) }
+        × IsMany store.old pattern.now) ⊎ IsWant store.new fault) }
     ensures needed { result ≡ Err (fault_of Full)
         → LacksForMoved (universe_in store.old pattern.now) store.new }
     ensures keeps { Keeps store.old store.new }

@@ -4,33 +4,17 @@ use Rattle.life_base.specs.declared.cell.TheConstants.{MAX_LEVEL}
 use Rattle.life_quad.proofs.KeepingLemmas.{keeps-then, adds-as, adds-then}
 use Rattle.life_canon.proofs.Adding.{file-few}
 use Rattle.life_canon.proofs.CallFacts.{read-stays, same-read, read-equal}
+use Rattle.life_canon.proofs.Stored.{err_again}
 use Rattle.life_canon.proofs.comparing.same.Goals as goal
-
-pub returns-in_err-b-clause-keeps : goal.returns-in_err-b-clause-keeps
-returns-in_err-b-clause-keeps c = keeps-then c.in_ok-a.ensures.keeps c.in_err-b.ensures.keeps
-
-pub returns-clause-keeps : goal.returns-clause-keeps
-returns-clause-keeps c = keeps-then c.in_ok-a.ensures.keeps c.in_ok-b.ensures.keeps
 
 pub returns-clause-answer : goal.returns-clause-answer
 returns-clause-answer c =
-    let p = read-stays MAX_LEVEL c.args.first.now _ _ c.in_ok-a.a c.in_ok-b.ensures.keeps c.in_ok-a.ensures.pattern in
+    let p = read-stays MAX_LEVEL c.args.first.now _ _ c.in_ok-a.a c.in_ok-b.ensures.reads.keeps c.in_ok-a.ensures.pattern in
     let q = c.in_ok-b.ensures.pattern in
     let test = c.are_same.ensures in (
       λ h. let e = test.0 h in same-read c.args.first.now c.args.second.now _ c.in_ok-a.a c.in_ok-b.b p q e.0 e.1 e.2,
       λ s. test.1 (read-equal c.args.first.now c.args.second.now _ c.in_ok-a.a c.in_ok-b.b p q s),
     )
-
-pub returns-in_err-a-clause-needed : goal.returns-in_err-a-clause-needed
-returns-in_err-a-clause-needed c =
-    let p = err_from_is_err_and c.from_residual.result c.from_residual.ensures.1 in
-    rw (p.1, p.2) (λ e. inl (c.in_err-a.ensures.needed (cc)))
-
-pub returns-in_err-b-clause-needed : goal.returns-in_err-b-clause-needed
-returns-in_err-b-clause-needed c =
-    let p = err_from_is_err_and c.from_residual-in_err-b.result c.from_residual-in_err-b.ensures.1 in
-    let read = c.in_ok-a.ensures.pattern in
-    rw (p.1, p.2) (λ e. inr ((read.universe, read.reads), c.in_err-b.ensures.needed (cc)))
 
 pub returns-clause-accepted : goal.returns-clause-accepted
 returns-clause-accepted c =
@@ -49,24 +33,39 @@ returns-in_err-b-clause-fault c =
     let read = c.in_ok-a.ensures.pattern in
     rw (p.1, p.2) (elim c.in_err-b.ensures.fault [ inl refuses ↦ inr (inl ((read.universe, read.reads), refuses)) | inr want ↦ inr (inr want) ])
 
-pub returns-in_err-a-clause-adds : goal.returns-in_err-a-clause-adds
-returns-in_err-a-clause-adds c = adds-as _ c.in_err-a.ensures.adds (λ P s. inl s)
-
-pub returns-in_err-b-clause-adds : goal.returns-in_err-b-clause-adds
-returns-in_err-b-clause-adds c = adds-then _ c.in_ok-a.ensures.adds c.in_err-b.ensures.adds (λ P s. inl s) (λ P s. inr s)
-
-pub returns-clause-adds : goal.returns-clause-adds
-returns-clause-adds c = adds-then _ c.in_ok-a.ensures.adds c.in_ok-b.ensures.adds (λ P s. inl s) (λ P s. inr s)
-
-pub returns-in_err-a-clause-room : goal.returns-in_err-a-clause-room
-returns-in_err-a-clause-room c =
+pub returns-in_err-a-clause-reads : goal.returns-in_err-a-clause-reads
+returns-in_err-a-clause-reads c =
     let p = err_from_is_err_and c.from_residual.result c.from_residual.ensures.1 in
-    rw (p.1, p.2) (λ e. let tight = c.in_err-a.ensures.room (cc) in omega (arith, tight))
+    let first = c.in_err-a.ensures.reads in
+    rw (p.1, p.2) (record {
+      needed = λ e. inl (first.needed (err_again e));
+      adds = adds-as _ first.adds (λ P s. inl s);
+      room = λ e. let tight = first.room (err_again e) in omega (arith, tight);
+      keeps = first.keeps;
+    })
 
-pub returns-in_err-b-clause-room : goal.returns-in_err-b-clause-room
-returns-in_err-b-clause-room c =
+pub returns-in_err-b-clause-reads : goal.returns-in_err-b-clause-reads
+returns-in_err-b-clause-reads c =
     let p = err_from_is_err_and c.from_residual-in_err-b.result c.from_residual-in_err-b.ensures.1 in
-    let few = file-few c.args.first.now c.args.store.now c.read.new.store c.len.ensures.distinct (λ t there. (c.len.ensures.only t there).0)
-    c.in_ok-a.ensures.adds in
-    let limit = c.in_ok-a.ensures.keeps.limit in
-    rw (p.1, p.2) (λ e. let tight = c.in_err-b.ensures.room (cc) in omega (arith, few, limit, tight))
+    let read = c.in_ok-a.ensures.pattern in
+    let first = c.in_ok-a.ensures.reads in
+    let second = c.in_err-b.ensures.reads in
+    let few = file-few c.args.first.now c.args.store.now c.read.new.store c.len.ensures.distinct (λ t there. (c.len.ensures.only t there).0) first.adds in
+    let limit = first.keeps.limit in
+    rw (p.1, p.2) (record {
+      needed = λ e. inr ((read.universe, read.reads), second.needed (err_again e));
+      adds = adds-then _ first.adds second.adds (λ P s. inl s) (λ P s. inr s);
+      room = λ e. let tight = second.room (err_again e) in omega (arith, few, limit, tight);
+      keeps = keeps-then first.keeps second.keeps;
+    })
+
+pub returns-clause-reads : goal.returns-clause-reads
+returns-clause-reads c =
+    let first = c.in_ok-a.ensures.reads in
+    let second = c.in_ok-b.ensures.reads in
+    record {
+      needed = λ e. absurd (cc);
+      adds = adds-then _ first.adds second.adds (λ P s. inl s) (λ P s. inr s);
+      room = λ e. absurd (cc);
+      keeps = keeps-then first.keeps second.keeps;
+    }

@@ -11,7 +11,7 @@ returns-in-Err-clause-want c =
     (c.ends_at_once.ensures.0 c.if-ends_at_once.true)
 
 pub returns-in-Err-clause-needed : goal.returns-in-Err-clause-needed
-returns-in-Err-clause-needed c = λ e. (c.in-None.is, c.in-Err.ensures.needed (cc))
+returns-in-Err-clause-needed c = λ e. (c.in-None.is, c.in-Err.ensures.feeds.needed (cc))
 
 pub returns-in-Some-clause-adds : goal.returns-in-Some-clause-adds
 returns-in-Some-clause-adds c = λ bytes is. adds-none _ c.args.store.now
@@ -19,17 +19,17 @@ returns-in-Some-clause-adds c = λ bytes is. adds-none _ c.args.store.now
 pub returns-in-Ok-clause-adds : goal.returns-in-Ok-clause-adds
 returns-in-Ok-clause-adds c = λ bytes is. subst (λ (b : List ℕ). AddsLines (whole_lines (b ++ c.args.piece.now)) c.args.store.now c.feed.new.store)
     (is c.in-None.is)
-    c.feed.ensures.adds
+    c.feed.ensures.feeds.adds
 
 pub returns-in-Err-clause-adds : goal.returns-in-Err-clause-adds
 returns-in-Err-clause-adds c = λ bytes is. subst (λ (b : List ℕ). AddsLines (whole_lines (b ++ c.args.piece.now)) c.args.store.now c.feed.new.store)
     (is c.in-None.is)
-    c.feed.ensures.adds
+    c.feed.ensures.feeds.adds
 
 pub returns-in-Err-2-clause-adds : goal.returns-in-Err-2-clause-adds
 returns-in-Err-2-clause-adds c = λ bytes is. subst (λ (b : List ℕ). AddsLines (whole_lines (b ++ c.args.piece.now)) c.args.store.now c.feed.new.store)
     (is c.in-None.is)
-    c.feed.ensures.adds
+    c.feed.ensures.feeds.adds
 
 pub returns-in-Err-clause-room : goal.returns-in-Err-clause-room
-returns-in-Err-clause-room c = λ e. c.in-Err.ensures.room (cc)
+returns-in-Err-clause-room c = λ e. c.in-Err.ensures.feeds.room (cc)

@@ -1,21 +1,10 @@
 use Rattle.std.proofs.Common.{rules, take}
 use Rattle.std.proofs.lemmas.Result.{err_from_is_err_and}
 use Rattle.life_quad.proofs.KeepingLemmas.{keeps-then}
-use Rattle.life_canon.specs.Running.{by_length}
+use Rattle.life_canon.specs.Running.{by_length, by_want}
 use Rattle.life_canon.proofs.RunFacts.{reading-on, reading-adds, piece-adds, piece-tight, beyond-most, ended-refused, ended-open, ended-lacks, ended-adds, ended-tight, lacks-front, refused-not-full}
+use Rattle.life_canon.proofs.Stored.{err_again}
 use Rattle.life_canon.proofs.running.read_source.Goals as goal
-
-pub returns-then-total-most-clause-fault : goal.returns-then-total-most-clause-fault
-returns-then-total-most-clause-fault g c =
-    by_length c.of.ensures
-    (beyond-most _ c.loop-reader.store (g.R.Source.remaining c.args.source.now) (g.R.Source.remaining c.loop-reader.source)
-    (g.R.Source.remaining c.read.new.self)
-    c.loop-reader.total c.in_ok-count.count
-    c.args.most c.loop-reader.refused c.loop-reader.reader (take c.in_ok-count.count c.read.new.buf) c.loop-reader.invariant.0 c.in_ok-count.ensures.bytes.0
-    (search rules) (search rules))
-
-pub returns-in_err-refused-clause-keeps : goal.returns-in_err-refused-clause-keeps
-returns-in_err-refused-clause-keeps g c = keeps-then c.loop-reader.invariant.3 c.feed_piece.ensures.keeps
 
 pub loop-reader-preserved : goal.loop-reader-preserved
 loop-reader-preserved g c = (
@@ -27,66 +16,106 @@ loop-reader-preserved g c = (
   rw c.make.ensures (keeps-then c.loop-reader.invariant.3 c.feed_piece.ensures.keeps),
 )
 
-pub returns-in-Some-clause-fault : goal.returns-in-Some-clause-fault
-returns-in-Some-clause-fault g c =
-    ended-refused _ _ _ _ _ _ _ _ _ _ _ _ _ c.loop-reader.invariant.0 (search rules) (search rules) c.in_ok-count.ensures.bytes c.loop-reader.invariant.2
-    c.in-Some.fault c.in-Some.is
+-- the source failed
+pub returns-in_err-count : goal.returns-in_err-count
+returns-in_err-count g c =
+    record {
+      pattern = search rules;
+      works = search rules;
+      fault = search rules;
+      reads = record {
+        needed = search rules;
+        adds = reading-adds _ _ _ _ _ _ _ c.loop-reader.invariant.0;
+        room = search rules;
+        told = search rules;
+        keeps = search rules;
+      };
+    }
 
-pub returns-in-None-clause-fault : goal.returns-in-None-clause-fault
-returns-in-None-clause-fault g c =
-    ended-open _ _ _ _ _ _ _ _ _ _ _ _ _ c.loop-reader.invariant.0 (search rules) (search rules) c.in_ok-count.ensures.bytes c.loop-reader.invariant.2
-    c.in-None.is _ c.finish.ensures.fault
+-- too much came
+pub returns-then-total-most : goal.returns-then-total-most
+returns-then-total-most g c =
+    record {
+      pattern = tt;
+      works = tt;
+      fault = by_length c.of.ensures
+          (beyond-most _ c.loop-reader.store (g.R.Source.remaining c.args.source.now) (g.R.Source.remaining c.loop-reader.source)
+          (g.R.Source.remaining c.read.new.self)
+          c.loop-reader.total c.in_ok-count.count
+          c.args.most c.loop-reader.refused c.loop-reader.reader (take c.in_ok-count.count c.read.new.buf) c.loop-reader.invariant.0
+          c.in_ok-count.ensures.bytes.0
+          (search rules) (search rules));
+      reads = record {
+        needed = search rules;
+        adds = reading-adds _ _ _ _ _ _ _ c.loop-reader.invariant.0;
+        room = search rules;
+        told = search rules;
+        keeps = search rules;
+      };
+    }
 
-pub returns-in-None-clause-keeps : goal.returns-in-None-clause-keeps
-returns-in-None-clause-keeps g c = keeps-then c.loop-reader.invariant.3 c.finish.ensures.keeps
-
-pub returns-in_err-refused-clause-needed : goal.returns-in_err-refused-clause-needed
-returns-in_err-refused-clause-needed g c =
+-- a piece found no room or no memory
+pub returns-in_err-refused : goal.returns-in_err-refused
+returns-in_err-refused g c =
     let p = err_from_is_err_and c.from_residual-in_err-refused.result c.from_residual-in_err-refused.ensures.1 in
-    rw (p.1, p.2) (λ e. lacks-front _ _ _ _ _ _ c.loop-reader.total c.in_ok-count.count c.args.most _ c.loop-reader.refused c.loop-reader.reader
-    (take c.in_ok-count.count c.read.new.buf)
-    c.loop-reader.invariant.0 c.in_ok-count.ensures.bytes.0 (search rules) (search rules) (c.in_err-refused.ensures.needed (cc)))
+    let piece = take c.in_ok-count.count c.read.new.buf in
+    let call = c.in_err-refused.ensures in
+    rw (p.1, p.2) (record {
+      pattern = tt;
+      works = tt;
+      fault = by_want call.want;
+      reads = record {
+        needed = λ e. lacks-front _ _ _ _ _ _ c.loop-reader.total c.in_ok-count.count c.args.most _ c.loop-reader.refused c.loop-reader.reader piece
+            c.loop-reader.invariant.0 c.in_ok-count.ensures.bytes.0 (search rules) (search rules) (call.needed (err_again e));
+        adds = piece-adds _ _ _ _ _ _ c.loop-reader.total c.in_ok-count.count c.args.most 0 c.loop-reader.refused c.loop-reader.reader piece
+            c.loop-reader.invariant.0 c.in_ok-count.ensures.bytes.0 c.feed_piece.ensures.adds;
+        room = λ e. piece-tight _ _ c.loop-reader.store _ _ _ c.loop-reader.total c.in_ok-count.count c.args.most _ c.loop-reader.refused
+            c.loop-reader.reader piece
+            c.loop-reader.invariant.0 c.in_ok-count.ensures.bytes.0 (search rules) (search rules) (call.needed (err_again e)).0
+            c.loop-reader.invariant.3.limit (call.room (err_again e));
+        told = search rules;
+        keeps = keeps-then c.loop-reader.invariant.3 c.feed_piece.ensures.keeps;
+      };
+    })
 
-pub returns-in-None-clause-needed : goal.returns-in-None-clause-needed
-returns-in-None-clause-needed g c =
-    λ e. ended-lacks _ _ _ _ _ _ _ _ _ _ _ _ _ c.loop-reader.invariant.0 (search rules) (search rules) c.in_ok-count.ensures.bytes c.loop-reader.invariant.2
-    c.in-None.is (c.finish.ensures.needed e)
+-- a line was refused
+pub returns-in-Some : goal.returns-in-Some
+returns-in-Some g c =
+    record {
+      pattern = tt;
+      works = tt;
+      fault = ended-refused _ _ _ _ _ _ _ _ _ _ _ _ _ c.loop-reader.invariant.0 (search rules) (search rules) c.in_ok-count.ensures.bytes
+          c.loop-reader.invariant.2
+          c.in-Some.fault c.in-Some.is;
+      reads = record {
+        needed = λ e. absurd (refused-not-full _ _ _ _ _ _ _ c.loop-reader.invariant.0 c.in-Some.fault c.in-Some.is (cc));
+        adds = reading-adds _ _ _ _ _ _ _ c.loop-reader.invariant.0;
+        room = λ e. absurd (refused-not-full _ _ _ _ _ _ _ c.loop-reader.invariant.0 c.in-Some.fault c.in-Some.is (cc));
+        told = search rules;
+        keeps = c.loop-reader.invariant.3;
+      };
+    }
 
-pub returns-in-Some-clause-needed : goal.returns-in-Some-clause-needed
-returns-in-Some-clause-needed g c = λ e. absurd (refused-not-full _ _ _ _ _ _ _ c.loop-reader.invariant.0 c.in-Some.fault c.in-Some.is (cc))
-
-pub returns-in_err-count-clause-adds : goal.returns-in_err-count-clause-adds
-returns-in_err-count-clause-adds g c = reading-adds _ _ _ _ _ _ _ c.loop-reader.invariant.0
-
-pub returns-then-total-most-clause-adds : goal.returns-then-total-most-clause-adds
-returns-then-total-most-clause-adds g c = reading-adds _ _ _ _ _ _ _ c.loop-reader.invariant.0
-
-pub returns-in-Some-clause-adds : goal.returns-in-Some-clause-adds
-returns-in-Some-clause-adds g c = reading-adds _ _ _ _ _ _ _ c.loop-reader.invariant.0
-
-pub returns-in_err-refused-clause-adds : goal.returns-in_err-refused-clause-adds
-returns-in_err-refused-clause-adds g c =
-    piece-adds _ _ _ _ _ _ c.loop-reader.total c.in_ok-count.count c.args.most 0 c.loop-reader.refused c.loop-reader.reader
-    (take c.in_ok-count.count c.read.new.buf)
-    c.loop-reader.invariant.0 c.in_ok-count.ensures.bytes.0 c.feed_piece.ensures.adds
-
-pub returns-in_err-refused-clause-room : goal.returns-in_err-refused-clause-room
-returns-in_err-refused-clause-room g c =
-    let p = err_from_is_err_and c.from_residual-in_err-refused.result c.from_residual-in_err-refused.ensures.1 in
-    rw (p.1, p.2) (λ e. piece-tight _ _ c.loop-reader.store _ _ _ c.loop-reader.total c.in_ok-count.count c.args.most _ c.loop-reader.refused
-    c.loop-reader.reader
-    (take c.in_ok-count.count c.read.new.buf)
-    c.loop-reader.invariant.0 c.in_ok-count.ensures.bytes.0 (search rules) (search rules) (c.in_err-refused.ensures.needed (cc)).0
-    c.loop-reader.invariant.3.limit (c.in_err-refused.ensures.room (cc)))
-
-pub returns-in-None-clause-adds : goal.returns-in-None-clause-adds
-returns-in-None-clause-adds g c = ended-adds _ _ _ _ _ _ _ c.loop-reader.invariant.0 c.in-None.is c.finish.ensures.adds
-
-pub returns-in-None-clause-room : goal.returns-in-None-clause-room
-returns-in-None-clause-room g c =
-    λ e. ended-tight _ _ c.loop-reader.store _ _ _ _ _ _ _ _ _ _ c.loop-reader.invariant.0 (search rules) (search rules) c.in_ok-count.ensures.bytes
-    c.loop-reader.invariant.2
-    c.in-None.is c.loop-reader.invariant.3.limit (c.finish.ensures.room e)
-
-pub returns-in-Some-clause-room : goal.returns-in-Some-clause-room
-returns-in-Some-clause-room g c = λ e. absurd (refused-not-full _ _ _ _ _ _ _ c.loop-reader.invariant.0 c.in-Some.fault c.in-Some.is (cc))
+-- the end of the file
+pub returns-in-None : goal.returns-in-None
+returns-in-None g c =
+    let call = c.finish.ensures in
+    record {
+      pattern = search rules;
+      works = search rules;
+      fault = ended-open _ _ _ _ _ _ _ _ _ _ _ _ _ c.loop-reader.invariant.0 (search rules) (search rules) c.in_ok-count.ensures.bytes
+          c.loop-reader.invariant.2
+          c.in-None.is _ call.fault;
+      reads = record {
+        needed = λ e. ended-lacks _ _ _ _ _ _ _ _ _ _ _ _ _ c.loop-reader.invariant.0 (search rules) (search rules) c.in_ok-count.ensures.bytes
+            c.loop-reader.invariant.2
+            c.in-None.is (call.ends.needed e);
+        adds = ended-adds _ _ _ _ _ _ _ c.loop-reader.invariant.0 c.in-None.is call.ends.adds;
+        room = λ e. ended-tight _ _ c.loop-reader.store _ _ _ _ _ _ _ _ _ _ c.loop-reader.invariant.0 (search rules) (search rules)
+            c.in_ok-count.ensures.bytes
+            c.loop-reader.invariant.2
+            c.in-None.is c.loop-reader.invariant.3.limit (call.ends.room e);
+        told = search rules;
+        keeps = keeps-then c.loop-reader.invariant.3 call.ends.keeps;
+      };
+    }

@@ -1,5 +1,4 @@
-use Rattle.std.proofs.Common.{rules}
 use Rattle.life_canon.proofs.running.run_canon.Goals as goal
 
-pub returns-clause-err : goal.returns-clause-err
-returns-clause-err g c = search rules
+pub returns-clause-runs : goal.returns-clause-runs
+returns-clause-runs g c = c.run_canon_within.ensures.runs

@@ -18,6 +18,7 @@ use Rattle.life_canon.specs.declared.pattern.Pattern.{Pattern}
 use Rattle.life_canon.proofs.CallFacts.{canonical-text}
 use Rattle.life_canon.proofs.Fits.{read-fits}
 use Rattle.life_canon.proofs.PieceFacts.{pieces-text}
+use Rattle.life_canon.proofs.Stored.{no-room, source-err, source-still, write-no-room}
 use Rattle.life_canon.proofs.running.run_canon_within.Goals as goal
 
 -- the front and the lines of the pattern that was read are its text
@@ -43,12 +44,6 @@ as_it_was : {X W : Type 0} (r : Result X Fault) (writer : W) → IfErr r (λ fau
 as_it_was (Ok x) writer = tt
 as_it_was (Err fault) writer = λ other. refl
 
-pub returns-in_err-pattern-clause-err : goal.returns-in_err-pattern-clause-err
-returns-in_err-pattern-clause-err g c =
-    let p = err_from_is_err_and c.from_residual.result c.from_residual.ensures.1 in
-    let answer = by_reading c.in_err-pattern.ensures.fault in
-    rw (p.1, p.2) answer
-
 pub deliver_squares-requires-clause-known : goal.deliver_squares-requires-clause-known
 deliver_squares-requires-clause-known g c
     = (read-fits c.in_ok-pattern.ensures.pattern.bytes c.read_source.new.store c.in_ok-pattern.pattern c.in_ok-pattern.ensures.pattern.is).known
@@ -64,50 +59,59 @@ deliver_squares-requires-clause-level g c
 pub deliver_squares-requires-clause-bound : goal.deliver_squares-requires-clause-bound
 deliver_squares-requires-clause-bound g c = λ q k l s. c.in_ok-numbers.ensures.bound q k.0 l s
 
-pub returns-in_err-deliver_squares-clause-err : goal.returns-in_err-deliver_squares-clause-err
-returns-in_err-deliver_squares-clause-err g c =
-    let p = err_from_is_err_and c.from_residual-in_err-deliver_squares.result c.from_residual-in_err-deliver_squares.ensures.1 in
-    let answer = by_writing (ap fault_of c.in_err-deliver_squares.ensures.sink.kind) (record {
-      wrote = wrote _ _ _ _ (WritesPrefix _ _) _ c.in_ok-pattern.ensures.pattern c.in_ok-numbers.ensures.front c.in_err-deliver_squares.ensures.text;
-      cause = c.in_err-deliver_squares.ensures.sink.cause;
-    }) in
-    rw (p.1, p.2) answer
-
-pub returns-clause-ok : goal.returns-clause-ok
-returns-clause-ok g c = wrote _ _ _ _ (Appends _ _) _ c.in_ok-pattern.ensures.pattern c.in_ok-numbers.ensures.front c.in_ok-deliver_squares.ensures.text
-
 pub returns-clause-flushed : goal.returns-clause-flushed
 returns-clause-flushed g c = search rules
 
 pub deliver_squares-requires-clause-works : goal.deliver_squares-requires-clause-works
 deliver_squares-requires-clause-works g c = c.requires.writes
 
-pub returns-clause-write_told : goal.returns-clause-write_told
-returns-clause-write_told g c = no_failure _ _ c.in_ok-deliver_squares.ensures.sink.works (c.in_ok-deliver_squares.ensures.sink.stalled ∙ c.requires.takes)
-
 pub returns-in_err-pattern-clause-unwritten : goal.returns-in_err-pattern-clause-unwritten
 returns-in_err-pattern-clause-unwritten g c = as_it_was c.from_residual.result _
-
-pub returns-in_err-pattern-clause-write_told : goal.returns-in_err-pattern-clause-write_told
-returns-in_err-pattern-clause-write_told g c = no_failure _ _ c.requires.writes c.requires.takes
-
-pub returns-in_err-numbers-clause-err : goal.returns-in_err-numbers-clause-err
-returns-in_err-numbers-clause-err g c =
-    let p = err_from_is_err_and c.from_residual-in_err-numbers.result c.from_residual-in_err-numbers.ensures.1 in
-    rw (p.1, p.2) (by_reading (by_want (inl (ap fault_of c.in_err-numbers.ensures.kind))))
 
 pub returns-in_err-numbers-clause-unwritten : goal.returns-in_err-numbers-clause-unwritten
 returns-in_err-numbers-clause-unwritten g c = as_it_was c.from_residual-in_err-numbers.result _
 
-pub returns-in_err-numbers-clause-write_told : goal.returns-in_err-numbers-clause-write_told
-returns-in_err-numbers-clause-write_told g c = no_failure _ _ c.requires.writes c.requires.takes
-
-pub returns-in_err-pattern-clause-needed : goal.returns-in_err-pattern-clause-needed
-returns-in_err-pattern-clause-needed g c =
+pub returns-in_err-pattern-clause-runs : goal.returns-in_err-pattern-clause-runs
+returns-in_err-pattern-clause-runs g c =
     let p = err_from_is_err_and c.from_residual.result c.from_residual.ensures.1 in
-    rw (p.1, p.2) (λ e. c.in_err-pattern.ensures.needed (cc))
+    rw (p.1, p.2) (record {
+      ok = tt;
+      err = by_reading c.in_err-pattern.ensures.fault;
+      reads = source-err c.in_err-pattern.ensures.reads;
+      write_told = no_failure _ _ c.requires.writes c.requires.takes;
+    })
 
-pub returns-in_err-pattern-clause-room : goal.returns-in_err-pattern-clause-room
-returns-in_err-pattern-clause-room g c =
-    let p = err_from_is_err_and c.from_residual.result c.from_residual.ensures.1 in
-    rw (p.1, p.2) (λ e. c.in_err-pattern.ensures.room (cc))
+pub returns-in_err-numbers-clause-runs : goal.returns-in_err-numbers-clause-runs
+returns-in_err-numbers-clause-runs g c =
+    let p = err_from_is_err_and c.from_residual-in_err-numbers.result c.from_residual-in_err-numbers.ensures.1 in
+    let memory = ap fault_of c.in_err-numbers.ensures.kind in
+    rw (p.1, p.2) (record {
+      ok = tt;
+      err = by_reading (by_want (inl memory));
+      reads = source-still c.in_ok-pattern.ensures.reads (no-room memory);
+      write_told = no_failure _ _ c.requires.writes c.requires.takes;
+    })
+
+pub returns-in_err-deliver_squares-clause-runs : goal.returns-in_err-deliver_squares-clause-runs
+returns-in_err-deliver_squares-clause-runs g c =
+    let p = err_from_is_err_and c.from_residual-in_err-deliver_squares.result c.from_residual-in_err-deliver_squares.ensures.1 in
+    let kind = c.in_err-deliver_squares.ensures.sink.kind in
+    rw (p.1, p.2) (record {
+      ok = tt;
+      err = by_writing (ap fault_of kind) (record {
+        wrote = wrote _ _ _ _ (WritesPrefix _ _) _ c.in_ok-pattern.ensures.pattern c.in_ok-numbers.ensures.front c.in_err-deliver_squares.ensures.text;
+        cause = c.in_err-deliver_squares.ensures.sink.cause;
+      });
+      reads = source-still c.in_ok-pattern.ensures.reads (write-no-room kind);
+      write_told = λ e. kind;
+    })
+
+pub returns-clause-runs : goal.returns-clause-runs
+returns-clause-runs g c =
+    let sink = c.in_ok-deliver_squares.ensures.sink in
+    record {
+      ok = wrote _ _ _ _ (Appends _ _) _ c.in_ok-pattern.ensures.pattern c.in_ok-numbers.ensures.front c.in_ok-deliver_squares.ensures.text;
+      err = tt;
+      reads = source-still c.in_ok-pattern.ensures.reads (λ e. absurd (cc));
+      write_told = no_failure _ _ sink.works (sink.stalled ∙ c.requires.takes);
+    }

@@ -7,10 +7,10 @@ pub returns-clause-done : goal.returns-clause-done
 returns-clause-done g c =
     λ bytes held e f. map_on c.run_canon.result
     (λ ran. let h = has_run _ _ _ bytes held ran e f in (h.text, h.written, text_is_file c.texts_keep_patterns.ensures bytes h.text h.canonical))
-    c.run_canon.ensures.ok
+    c.run_canon.ensures.runs.ok
 
 pub returns-clause-refused : goal.returns-clause-refused
-returns-clause-refused g c = λ bytes e. map_err c.run_canon.result (λ fault h. stream_fault _ _ _ bytes fault h e) c.run_canon.ensures.err
+returns-clause-refused g c = λ bytes e. map_err c.run_canon.result (λ fault h. stream_fault _ _ _ bytes fault h e) c.run_canon.ensures.runs.err
 
 pub returns-clause-whole : goal.returns-clause-whole
-returns-clause-whole g c = λ bytes e. map_on c.run_canon.result (λ ran. has_ended _ _ _ bytes ran e) c.run_canon.ensures.ok
+returns-clause-whole g c = λ bytes e. map_on c.run_canon.result (λ ran. has_ended _ _ _ bytes ran e) c.run_canon.ensures.runs.ok

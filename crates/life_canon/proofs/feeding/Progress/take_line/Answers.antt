@@ -27,26 +27,24 @@ returns-in-Rle-clause-fault c =
     (λ kind. IsWantKind (held c.take_rle_line.new.squares) c.take_rle_line.new.squares.limit kind ⊎ Breaks MAX_LEVEL ls c.args.line.now kind)) (sym lines)
     (rle-fault c.take_rle_line.result c.take_rle_line.new.squares c.in-Rle.lines.lines c.args.line.now ready.0 c.take_rle_line.ensures.fault)
 
-pub returns-in-Rle-clause-needed : goal.returns-in-Rle-clause-needed
-returns-in-Rle-clause-needed c = λ e.
+pub returns-in-Rle-clause-stores : goal.returns-in-Rle-clause-stores
+returns-in-Rle-clause-stores c =
     let lines : taken c.args.self.now ≡ c.in-Rle.lines.lines = sym c.begin.ensures.lines ∙ ap taken c.in-Rle.is in
-    subst (λ (ls : List (List ℕ)). SomeOfLines MAX_LEVEL (IsNew c.take_rle_line.new.squares) (ls ++ c.args.line.now ∷ [])) (sym lines)
-    (c.take_rle_line.ensures.needed e)
+    let call = c.take_rle_line.ensures.stores in
+    record {
+      needed = λ e. subst (λ (ls : List (List ℕ)). SomeOfLines MAX_LEVEL (IsNew c.take_rle_line.new.squares) (ls ++ c.args.line.now ∷ [])) (sym lines)
+          (call.needed e);
+      adds = subst (λ (ls : List (List ℕ)). AddsLines (ls ++ c.args.line.now ∷ []) c.args.store.now c.take_rle_line.new.squares) (sym lines) call.adds;
+      keeps = call.keeps;
+    }
 
-pub returns-in-Macrocell-clause-needed : goal.returns-in-Macrocell-clause-needed
-returns-in-Macrocell-clause-needed c = λ e.
+pub returns-in-Macrocell-clause-stores : goal.returns-in-Macrocell-clause-stores
+returns-in-Macrocell-clause-stores c =
     let lines : taken c.args.self.now ≡ c.in-Macrocell.lines.lines = sym c.begin.ensures.lines ∙ ap taken c.in-Macrocell.is in
-    subst (λ (ls : List (List ℕ)). SomeOfLines MAX_LEVEL (IsNew c.take_macrocell_line.new.squares) (ls ++ c.args.line.now ∷ [])) (sym lines)
-    (c.take_macrocell_line.ensures.needed e)
-
-pub returns-in-Rle-clause-adds : goal.returns-in-Rle-clause-adds
-returns-in-Rle-clause-adds c =
-    let lines : taken c.args.self.now ≡ c.in-Rle.lines.lines = sym c.begin.ensures.lines ∙ ap taken c.in-Rle.is in
-    subst (λ (ls : List (List ℕ)). AddsLines (ls ++ c.args.line.now ∷ []) c.args.store.now c.take_rle_line.new.squares) (sym lines)
-    c.take_rle_line.ensures.adds
-
-pub returns-in-Macrocell-clause-adds : goal.returns-in-Macrocell-clause-adds
-returns-in-Macrocell-clause-adds c =
-    let lines : taken c.args.self.now ≡ c.in-Macrocell.lines.lines = sym c.begin.ensures.lines ∙ ap taken c.in-Macrocell.is in
-    subst (λ (ls : List (List ℕ)). AddsLines (ls ++ c.args.line.now ∷ []) c.args.store.now c.take_macrocell_line.new.squares) (sym lines)
-    c.take_macrocell_line.ensures.adds
+    let call = c.take_macrocell_line.ensures.stores in
+    record {
+      needed = λ e. subst (λ (ls : List (List ℕ)). SomeOfLines MAX_LEVEL (IsNew c.take_macrocell_line.new.squares) (ls ++ c.args.line.now ∷ [])) (sym lines)
+          (call.needed e);
+      adds = subst (λ (ls : List (List ℕ)). AddsLines (ls ++ c.args.line.now ∷ []) c.args.store.now c.take_macrocell_line.new.squares) (sym lines) call.adds;
+      keeps = call.keeps;
+    }

@@ -10,6 +10,7 @@ use Rattle.life_canon.specs.Taking.{bytes_of}
 use Rattle.life_canon.proofs.FrontFacts.{end-says, end-fault}
 use Rattle.life_canon.specs.Needs.{IsNew, at_end}
 use Rattle.life_canon.proofs.NeedFacts.{kind-full, end-needs}
+use Rattle.life_canon.proofs.Stored.{stores-err}
 use Rattle.life_canon.proofs.front.Front.finish.Goals as goal
 
 pub returns-in-Ok-clause-pattern : goal.returns-in-Ok-clause-pattern
@@ -21,9 +22,6 @@ returns-in-Ok-clause-pattern c =
       is = r.2;
     }
 
-pub returns-in-Ok-clause-keeps : goal.returns-in-Ok-clause-keeps
-returns-in-Ok-clause-keeps c = keeps-then c.take_rest.ensures.keeps c.end.ensures.keeps
-
 pub returns-clause-fault : goal.returns-clause-fault
 returns-clause-fault c =
     let told = c.at.ensures ∙ ap (λ (n : ℕ). fault_at n c.in-Err.kind) c.saturating_add.ensures in
@@ -31,31 +29,39 @@ returns-clause-fault c =
     (end-fault c.end.new.store (bytes_of c.args.self.pieces.lines) c.take_rest.new.self.ended c.take_rest.new.self.progress c.in-Err.kind
     c.in_ok-take_rest.ensures.end c.in-Err.ensures.fault)
 
-pub returns-clause-keeps : goal.returns-clause-keeps
-returns-clause-keeps c = keeps-then c.take_rest.ensures.keeps c.end.ensures.keeps
-
-pub returns-in_err-take_rest-clause-needed : goal.returns-in_err-take_rest-clause-needed
-returns-in_err-take_rest-clause-needed c =
+pub returns-in_err-take_rest-clause-stores : goal.returns-in_err-take_rest-clause-stores
+returns-in_err-take_rest-clause-stores c =
     let p = err_from_is_err_and c.from_residual.result c.from_residual.ensures.1 in
-    rw (p.1, p.2) (λ e. c.in_err-take_rest.ensures.needed (cc))
+    rw (p.1, p.2) (stores-err c.in_err-take_rest.ensures.stores)
 
-pub returns-clause-needed : goal.returns-clause-needed
-returns-clause-needed c = λ e.
-    let front = c.take_rest.new.self in
-    let fault : c.at.result ≡ fault_of Full = cc in
-    let told = c.at.ensures ∙ ap (λ (n : ℕ). fault_at n c.in-Err.kind) c.saturating_add.ensures in
-    let kind : c.in-Err.kind ≡ Full = kind-full (min (front.ended + 1) (2 ^ 64 - 1)) c.in-Err.kind (sym told ∙ fault) in
-    at_end (end-needs (IsNew c.end.new.store) (bytes_of c.args.self.pieces.lines) front.ended front.progress c.in_ok-take_rest.ensures.end
-    (c.in-Err.ensures.needed (ap (λ (k : Kind). Err k) kind)))
+pub end-requires : goal.end-requires
+end-requires c = record { begun = c.in_ok-take_rest.ensures.end.begun; stands = c.in_ok-take_rest.ensures.stands }
 
-pub returns-in-Ok-clause-adds : goal.returns-in-Ok-clause-adds
-returns-in-Ok-clause-adds c =
+pub returns-in-Ok-clause-stores : goal.returns-in-Ok-clause-stores
+returns-in-Ok-clause-stores c =
     let front = c.take_rest.new.self in
-    adds-then _ c.take_rest.ensures.adds c.end.ensures.adds (λ P a. a)
-    (λ P s. at_end (end-needs P (bytes_of c.args.self.pieces.lines) front.ended front.progress c.in_ok-take_rest.ensures.end s))
+    let first = c.in_ok-take_rest.ensures.stores in
+    let call = c.in-Ok.ensures.stores in
+    record {
+      needed = λ e. absurd (cc);
+      adds = adds-then _ first.adds call.adds (λ P a. a)
+          (λ P s. at_end (end-needs P (bytes_of c.args.self.pieces.lines) front.ended front.progress c.in_ok-take_rest.ensures.end s));
+      keeps = keeps-then first.keeps call.keeps;
+    }
 
-pub returns-clause-adds : goal.returns-clause-adds
-returns-clause-adds c =
+pub returns-clause-stores : goal.returns-clause-stores
+returns-clause-stores c =
     let front = c.take_rest.new.self in
-    adds-then _ c.take_rest.ensures.adds c.end.ensures.adds (λ P a. a)
-    (λ P s. at_end (end-needs P (bytes_of c.args.self.pieces.lines) front.ended front.progress c.in_ok-take_rest.ensures.end s))
+    let first = c.in_ok-take_rest.ensures.stores in
+    let call = c.in-Err.ensures.stores in
+    record {
+      needed = λ e.
+          let fault : c.at.result ≡ fault_of Full = cc in
+          let told = c.at.ensures ∙ ap (λ (n : ℕ). fault_at n c.in-Err.kind) c.saturating_add.ensures in
+          let kind : c.in-Err.kind ≡ Full = kind-full (min (front.ended + 1) (2 ^ 64 - 1)) c.in-Err.kind (sym told ∙ fault) in
+          at_end (end-needs (IsNew c.end.new.store) (bytes_of c.args.self.pieces.lines) front.ended front.progress c.in_ok-take_rest.ensures.end
+          (call.needed (ap (λ (k : Kind). Err k) kind)));
+      adds = adds-then _ first.adds call.adds (λ P a. a)
+          (λ P s. at_end (end-needs P (bytes_of c.args.self.pieces.lines) front.ended front.progress c.in_ok-take_rest.ensures.end s));
+      keeps = keeps-then first.keeps call.keeps;
+    }

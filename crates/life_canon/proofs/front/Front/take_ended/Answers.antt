@@ -1,43 +1,42 @@
 use Rattle.std.proofs.lemmas.Result.{err_from_is_err_and}
 use Rattle.life_canon.proofs.FrontFacts.{keep-fault, no-length}
-use Rattle.std.proofs.Common.{◌≡◌, ℕ, List, [], ◌∷◌, ◌++◌, length, sym, subst, arith}
+use Rattle.std.proofs.Common.{◌≡◌, ℕ, List, ◌++◌, length, sym, subst, arith}
 use Rattle.std.proofs.lemmas.Bool.Decides.{nat_tests}
-use Rattle.life_base.specs.declared.cell.TheConstants.{MAX_LEVEL}
-use Rattle.life_canon.specs.Needs.{IsNew, SomeOfLines}
-use Rattle.life_canon.specs.Room.{AddsLines}
-use Rattle.life_canon.specs.Taking.{taken}
+use Rattle.life_quad.proofs.KeepingLemmas.{keeps-same, adds-none}
+use Rattle.life_canon.specs.Fronts.{IsOpenIn, TakesLine, TakesLineOf}
 use Rattle.life_canon.specs.declared.feeding.Progress.{Progress}
+use Rattle.life_canon.proofs.Stored.{kept-no-room}
 use Rattle.life_canon.proofs.front.Front.take_ended.Goals as goal
 
-pub returns-in_err-keep-clause-fault : goal.returns-in_err-keep-clause-fault
-returns-in_err-keep-clause-fault c =
+pub returns-then-is_empty-clause-takes : goal.returns-then-is_empty-clause-takes
+returns-then-is_empty-clause-takes c =
+    let kept : List ℕ = c.args.self.now.kept.items in
+    let none : length kept ≡ 0 = grind (arith, nat_tests, c.if-is_empty.ensures) in
+    subst (λ (k : List ℕ). TakesLine (k ++ c.args.end.now) c.args.store.now c.take_line.new.store c.args.self.now c.take_line.new.self c.take_line.result)
+    (sym (no-length kept none)) c.take_line.ensures.takes
+
+pub returns-in_err-keep-clause-takes : goal.returns-in_err-keep-clause-takes
+returns-in_err-keep-clause-takes c =
     let p = err_from_is_err_and c.from_residual.result c.from_residual.ensures.1 in
-    rw (p.1, p.2) (keep-fault c.args.store.now c.args.self.now.progress c.args.self.now.kept.items c.args.end.now c.args.self.now.ended c.in_err-keep.field-0.0
-    c.requires.begun c.requires.going c.in_err-keep.ensures.fault)
+    rw (p.1, p.2) (record {
+      line_taken = tt;
+      fault = keep-fault c.args.store.now c.args.self.now.progress c.args.self.now.kept.items c.args.end.now c.args.self.now.ended c.in_err-keep.field-0.0
+          c.requires.progress.begun c.requires.going c.in_err-keep.ensures.fault;
+      stores = record { needed = λ e. absurd (kept-no-room c.in_err-keep.ensures.fault (cc)); adds = adds-none _ _; keeps = keeps-same _ };
+    })
 
-pub returns-then-is_empty-clause-needed : goal.returns-then-is_empty-clause-needed
-returns-then-is_empty-clause-needed c =
-    let kept : List ℕ = c.args.self.now.kept.items in
-    let none : length kept ≡ 0 = grind (arith, nat_tests, c.if-is_empty.ensures) in
-    λ e. subst (λ (k : List ℕ). SomeOfLines MAX_LEVEL (IsNew c.take_line.new.store) (taken c.args.self.now.progress ++ (k ++ c.args.end.now) ∷ []))
-    (sym (no-length kept none))
-    (c.take_line.ensures.needed e)
+pub returns-clause-takes : goal.returns-clause-takes
+returns-clause-takes c =
+    let store = c.args.store.now in
+    let new = c.take_kept.new.store in
+    let after = c.take_kept.new.self in
+    let result = c.take_kept.result in
+    let progress = c.args.self.now.progress in
+    let ended = c.args.self.now.ended in
+    subst (λ (l : List ℕ). TakesLineOf l store new progress ended after.progress after.ended result) c.in_ok-keep.ensures.kept.0
+    (subst (λ (n : ℕ). TakesLineOf c.keep.new.self.kept.items store new progress n after.progress after.ended result) c.keep.ensures.count
+    (subst (λ (p : Progress). TakesLineOf c.keep.new.self.kept.items store new p c.keep.new.self.ended after.progress after.ended result)
+    c.keep.ensures.progress c.take_kept.ensures.takes))
 
-pub returns-clause-needed : goal.returns-clause-needed
-returns-clause-needed c = λ e.
-    subst (λ (l : List ℕ). SomeOfLines MAX_LEVEL (IsNew c.take_kept.new.store) (taken c.args.self.now.progress ++ l ∷ [])) c.in_ok-keep.ensures.kept.0
-    (subst (λ (p : Progress). SomeOfLines MAX_LEVEL (IsNew c.take_kept.new.store) (taken p ++ c.keep.new.self.kept.items ∷ [])) c.keep.ensures.progress
-    (c.take_kept.ensures.needed e))
-
-pub returns-then-is_empty-clause-adds : goal.returns-then-is_empty-clause-adds
-returns-then-is_empty-clause-adds c =
-    let kept : List ℕ = c.args.self.now.kept.items in
-    let none : length kept ≡ 0 = grind (arith, nat_tests, c.if-is_empty.ensures) in
-    subst (λ (k : List ℕ). AddsLines (taken c.args.self.now.progress ++ (k ++ c.args.end.now) ∷ []) c.args.store.now c.take_line.new.store)
-    (sym (no-length kept none)) c.take_line.ensures.adds
-
-pub returns-clause-adds : goal.returns-clause-adds
-returns-clause-adds c =
-    subst (λ (l : List ℕ). AddsLines (taken c.args.self.now.progress ++ l ∷ []) c.args.store.now c.take_kept.new.store) c.in_ok-keep.ensures.kept.0
-    (subst (λ (p : Progress). AddsLines (taken p ++ c.keep.new.self.kept.items ∷ []) c.args.store.now c.take_kept.new.store) c.keep.ensures.progress
-    c.take_kept.ensures.adds)
+pub take_kept-requires : goal.take_kept-requires
+take_kept-requires c = record { progress = subst (λ (p : Progress). IsOpenIn c.args.store.now p) (sym c.keep.ensures.progress) c.requires.progress }

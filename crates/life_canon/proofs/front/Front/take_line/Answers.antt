@@ -10,14 +10,29 @@ use Rattle.life_canon.proofs.FrontFacts.{fault-of-kind}
 use Rattle.life_canon.proofs.NeedFacts.{kind-full}
 use Rattle.life_canon.proofs.front.Front.take_line.Goals as goal
 
-pub returns-in-Err-clause-fault : goal.returns-in-Err-clause-fault
-returns-in-Err-clause-fault c =
-    subst (λ (f : Fault). IsWant c.take_line.new.store f ⊎ IsLineFault MAX_LEVEL (taken c.args.self.now.progress) c.args.line.now c.args.self.now.ended f)
-    (sym c.fault_here.ensures)
-    (fault-of-kind c.take_line.new.store (taken c.args.self.now.progress) c.args.line.now c.args.self.now.ended c.in-Err.kind c.in-Err.ensures.fault)
+pub returns-in-Ok-clause-takes : goal.returns-in-Ok-clause-takes
+returns-in-Ok-clause-takes c =
+    let call = c.in-Ok.ensures in
+    record {
+      line_taken = record { lines = call.lines; progress = call.progress; count = c.saturating_add-self.ensures };
+      fault = tt;
+      stores = record { needed = λ e. absurd (cc); adds = call.stores.adds; keeps = call.stores.keeps };
+    }
 
-pub returns-in-Err-clause-needed : goal.returns-in-Err-clause-needed
-returns-in-Err-clause-needed c = λ e.
-    let told : c.fault_here.result ≡ fault_of Full = cc in
-    let kind : c.in-Err.kind ≡ Full = kind-full (min (c.args.self.now.ended + 1) (2 ^ 64 - 1)) c.in-Err.kind (sym c.fault_here.ensures ∙ told) in
-    c.in-Err.ensures.needed (ap (λ (k : Kind). Err k) kind)
+pub returns-in-Err-clause-takes : goal.returns-in-Err-clause-takes
+returns-in-Err-clause-takes c =
+    let call = c.in-Err.ensures in
+    record {
+      line_taken = tt;
+      fault = subst (λ (f : Fault). IsWant c.take_line.new.store f
+          ⊎ IsLineFault MAX_LEVEL (taken c.args.self.now.progress) c.args.line.now c.args.self.now.ended f) (sym c.fault_here.ensures)
+          (fault-of-kind c.take_line.new.store (taken c.args.self.now.progress) c.args.line.now c.args.self.now.ended c.in-Err.kind call.fault);
+      stores = record {
+        needed = λ e.
+            let told : c.fault_here.result ≡ fault_of Full = cc in
+            let kind : c.in-Err.kind ≡ Full = kind-full (min (c.args.self.now.ended + 1) (2 ^ 64 - 1)) c.in-Err.kind (sym c.fault_here.ensures ∙ told) in
+            call.stores.needed (ap (λ (k : Kind). Err k) kind);
+        adds = call.stores.adds;
+        keeps = call.stores.keeps;
+      };
+    }

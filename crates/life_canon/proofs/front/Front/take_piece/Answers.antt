@@ -1,10 +1,14 @@
-use Rattle.std.proofs.Common.{◌≡◌, ℕ, ◌+◌, ◌-◌, ◌<◌, ◌≤◌, List, ◌++◌, [], ◌∷◌, length, take, drop, sym, ap, ◌∙◌, subst, arith, length-drop, rules}
+use Rattle.std.proofs.Common.{append_assoc, ◌≡◌, ℕ, ◌+◌, ◌-◌, ◌<◌, ◌≤◌, List, ◌++◌, [], ◌∷◌, length, take, drop, sym, ap, ◌∙◌, subst, arith, length-drop, rules}
 use Rattle.std.proofs.lemmas.Grind.{common_steps}
 use Rattle.std.proofs.lemmas.Result.{err_from_is_err_and}
 use Rattle.life_base.proofs.LineEnds.{all_behind}
 use Rattle.life_base.specs.Lines.{whole_lines}
 use Rattle.life_quad.proofs.KeepingLemmas.{keeps-then, adds-then}
-use Rattle.life_canon.specs.Taking.{bytes_of, IsOver}
+use Rattle.life_canon.specs.Store.{IsKnown, content}
+use Rattle.life_canon.specs.Taking.{bytes_of, IsOver, StandsFor}
+use Rattle.life_canon.specs.declared.feeding.Progress.{Progress}
+use Rattle.life_canon.proofs.PatternFacts.{both-ok}
+use Rattle.life_canon.proofs.Stored.{front-no-room}
 use Rattle.life_canon.proofs.FeedFacts.{feed-before, feed-within, piece-split, is-none}
 use Rattle.life_canon.proofs.FrontFacts.{told-along, over-or-clean}
 use Rattle.life_base.specs.declared.cell.TheConstants.{MAX_LEVEL}
@@ -22,9 +26,6 @@ returns-in_err-end_line-clause-fault c =
     rw (p.1, p.2) (told-along c.end_line.new.store (bytes_of c.loop-end.self.pieces.lines ++ take c.in-Some.end rest ++ 10 ∷ []) (drop (c.in-Some.end + 1) rest)
     (bytes_of c.args.self.now.pieces.lines ++ c.args.piece.now) c.in_err-end_line.field-0.0 all c.in_err-end_line.ensures.fault)
 
-pub returns-in_err-end_line-clause-keeps : goal.returns-in_err-end_line-clause-keeps
-returns-in_err-end_line-clause-keeps c = keeps-then c.loop-end.invariant.keeps c.end_line.ensures.keeps
-
 pub overflow_add-rest : goal.overflow_add-rest
 overflow_add-rest c =
     let h : c.in-Some.end < length c.loop-end.rest.now = feed-within c.loop-end.rest.now c.in-Some.end c.in-Some.ensures.end in
@@ -37,15 +38,15 @@ loop-end-preserved c =
     let behind : take (length rest - (c.in-Some.end + 1)) (drop (c.in-Some.end + 1) rest) ≡ drop (c.in-Some.end + 1) rest = all_behind rest
     (c.in-Some.end + 1) in
     record {
-      front = c.in_ok-end_line.ensures.front;
-      stands = c.in_ok-end_line.ensures.stands;
+      front = c.in_ok-end_line.ensures.bytes.front;
       bytes = ap (λ (r : List ℕ). bytes_of c.end_line.new.self.pieces.lines ++ r) behind
-          ∙ ap (λ (b : List ℕ). b ++ drop (c.in-Some.end + 1) rest) c.in_ok-end_line.ensures.bytes
+          ∙ ap (λ (b : List ℕ). b ++ drop (c.in-Some.end + 1) rest)
+          (c.in_ok-end_line.ensures.bytes.came ∙ sym (append_assoc (bytes_of c.loop-end.self.pieces.lines) (take c.in-Some.end rest) (10 ∷ [])))
           ∙ piece-split (bytes_of c.loop-end.self.pieces.lines) rest c.in-Some.end c.in-Some.ensures.end c.loop-end.invariant.bytes;
       shorter = subst (λ (r : List ℕ). length r ≤ length c.args.piece.now) (sym behind)
           (omega (arith, length-drop (c.in-Some.end + 1) rest, c.loop-end.invariant.shorter));
-      keeps = keeps-then c.loop-end.invariant.keeps c.end_line.ensures.keeps;
-      adds = adds-then _ c.loop-end.invariant.adds c.end_line.ensures.adds (λ P a. a)
+      keeps = keeps-then c.loop-end.invariant.keeps c.end_line.ensures.stores.keeps;
+      adds = adds-then _ c.loop-end.invariant.adds c.end_line.ensures.stores.adds (λ P a. a)
           (λ P s. subst (λ (b : List ℕ). SomeOfLines MAX_LEVEL P (whole_lines b))
           (piece-split (bytes_of c.loop-end.self.pieces.lines) rest c.in-Some.end c.in-Some.ensures.end c.loop-end.invariant.bytes)
           (s (drop (c.in-Some.end + 1) rest)));
@@ -55,17 +56,40 @@ pub end_piece-requires-clause-last : goal.end_piece-requires-clause-last
 end_piece-requires-clause-last c =
     over-or-clean (IsOver c.loop-end.self.progress) c.loop-end.rest.now (c.next_end.ensures.none (is-none c.next_end.result c.in_default.not-Some))
 
-pub returns-in_err-end_line-clause-needed : goal.returns-in_err-end_line-clause-needed
-returns-in_err-end_line-clause-needed c =
+pub end_piece-requires-clause-front : goal.end_piece-requires-clause-front
+end_piece-requires-clause-front c = c.loop-end.invariant.front.is
+
+pub returns-in_err-end_line-clause-stores : goal.returns-in_err-end_line-clause-stores
+returns-in_err-end_line-clause-stores c =
     let p = err_from_is_err_and c.from_residual.result c.from_residual.ensures.1 in
     let rest : List ℕ = c.loop-end.rest.now in
     let all = piece-split (bytes_of c.loop-end.self.pieces.lines) rest c.in-Some.end c.in-Some.ensures.end c.loop-end.invariant.bytes in
-    rw (p.1, p.2) (λ e. subst (λ (b : List ℕ). LacksForFront MAX_LEVEL b c.end_line.new.store) all
-    (c.in_err-end_line.ensures.needed e (drop (c.in-Some.end + 1) rest)))
+    let stores = c.in_err-end_line.ensures.stores in
+    rw (p.1, p.2) (record {
+      needed = λ e. subst (λ (b : List ℕ). LacksForFront MAX_LEVEL b c.end_line.new.store) all (stores.needed e (drop (c.in-Some.end + 1) rest));
+      adds = adds-then _ c.loop-end.invariant.adds stores.adds (λ P a. a)
+          (λ P s. subst (λ (b : List ℕ). SomeOfLines MAX_LEVEL P (whole_lines b)) all (s (drop (c.in-Some.end + 1) rest)));
+      keeps = keeps-then c.loop-end.invariant.keeps stores.keeps;
+    })
 
-pub returns-in_err-end_line-clause-adds : goal.returns-in_err-end_line-clause-adds
-returns-in_err-end_line-clause-adds c =
-    let rest : List ℕ = c.loop-end.rest.now in
-    let all = piece-split (bytes_of c.loop-end.self.pieces.lines) rest c.in-Some.end c.in-Some.ensures.end c.loop-end.invariant.bytes in
-    adds-then _ c.loop-end.invariant.adds c.end_line.ensures.adds (λ P a. a)
-    (λ P s. subst (λ (b : List ℕ). SomeOfLines MAX_LEVEL P (whole_lines b)) all (s (drop (c.in-Some.end + 1) rest)))
+pub end_line-requires-clause-front : goal.end_line-requires-clause-front
+end_line-requires-clause-front c = c.loop-end.invariant.front
+
+pub returns-clause-bytes : goal.returns-clause-bytes
+returns-clause-bytes c =
+    both-ok c.end_piece.result c.end_piece.ensures.front c.end_piece.ensures.bytes (λ front bytes. record {
+      front = record {
+        is = front;
+        stands = subst (λ (p : Progress). StandsFor (IsKnown c.loop-end.store) (content c.loop-end.store) p) (sym c.end_piece.ensures.progress)
+            c.loop-end.invariant.front.stands;
+      };
+      came = bytes ∙ c.loop-end.invariant.bytes;
+    })
+
+pub returns-clause-stores : goal.returns-clause-stores
+returns-clause-stores c =
+    record {
+      needed = λ e. absurd (front-no-room _ c.end_piece.result c.end_piece.ensures.fault e);
+      adds = c.loop-end.invariant.adds;
+      keeps = c.loop-end.invariant.keeps;
+    }

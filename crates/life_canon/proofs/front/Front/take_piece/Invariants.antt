@@ -1,14 +1,14 @@
 use Rattle.std.proofs.Common.{◌≡◌, ◌≤◌, ◌++◌, length}
 use Rattle.life_base.specs.Lines.{whole_lines}
 use Rattle.life_canon.specs.Room.{AddsLines}
-use Rattle.life_canon.specs.Store.{IsKnown, content, Keeps}
-use Rattle.life_canon.specs.Taking.{IsFrontOf, StandsFor, bytes_of}
+use Rattle.life_canon.specs.Fronts.{IsFrontIn}
+use Rattle.life_canon.specs.Store.{Keeps}
+use Rattle.life_canon.specs.Taking.{bytes_of}
 use Rattle.life_canon.proofs.front.Front.take_piece.Given as goal
 
 abbrev pub invariant-loop-end : goal.invariant-loop-end
 invariant-loop-end l = record {
-  front : IsFrontOf l.self;
-  stands : StandsFor (IsKnown l.store) (content l.store) l.self.progress;
+  front : IsFrontIn l.store l.self;
   bytes : bytes_of l.self.pieces.lines ++ l.rest ≡ bytes_of l.initial.self.pieces.lines ++ l.initial.rest;
   shorter : length l.rest ≤ length l.initial.rest;
   keeps : Keeps l.initial.store l.store;

@@ -8,11 +8,8 @@ use Rattle.life_canon.proofs.Adding.{file-tight}
 use Rattle.life_canon.proofs.RunFacts.{file-full}
 use Rattle.life_canon.proofs.reader.Reader.finish.Goals as goal
 
-pub finish-answer-requires-clause-front : goal.finish-answer-requires-clause-front
-finish-answer-requires-clause-front c = search rules
-
-pub finish-answer-requires-clause-stands : goal.finish-answer-requires-clause-stands
-finish-answer-requires-clause-stands c = search rules
+pub finish-answer-requires : goal.finish-answer-requires
+finish-answer-requires c = record { front = record { is = search rules; stands = search rules } }
 
 pub returns-clause-pattern : goal.returns-clause-pattern
 returns-clause-pattern c = search rules
@@ -20,16 +17,17 @@ returns-clause-pattern c = search rules
 pub returns-clause-spent : goal.returns-clause-spent
 returns-clause-spent c = search rules
 
-pub returns-clause-needed : goal.returns-clause-needed
-returns-clause-needed c = λ e. subst (λ (v : Fed). LacksFor MAX_LEVEL v.bytes c.finish-answer.new.store) c.self.view_is (c.finish-answer.ensures.needed e)
-
-pub returns-clause-adds : goal.returns-clause-adds
-returns-clause-adds c = subst (λ (v : Fed). AddsFile v.bytes c.args.store.now c.finish-answer.new.store) c.self.view_is c.finish-answer.ensures.adds
-
-pub returns-clause-room : goal.returns-clause-room
-returns-clause-room c = λ e base.
-    subst (λ (v : Fed). HoldsOnly base v.bytes c.args.store.now → c.args.store.now.limit < length base + room_for (length v.bytes)) c.self.view_is
-    (file-tight base c.args.store.now c.finish-answer.new.store c.len.ensures.distinct (λ t there. (c.len.ensures.only t there).0)
-    (file-full c.finish-answer.new.store (bytes_of c.self.inside.front.pieces.lines) c.finish-answer.result c.finish-answer.ensures.fault e)
-    c.finish-answer.ensures.keeps.limit _
-    c.finish-answer.ensures.adds (c.finish-answer.ensures.needed e))
+pub returns-clause-ends : goal.returns-clause-ends
+returns-clause-ends c =
+    let call = c.finish-answer.ensures in
+    record {
+      needed = λ e. subst (λ (v : Fed). LacksFor MAX_LEVEL v.bytes c.finish-answer.new.store) c.self.view_is (call.stores.needed e);
+      adds = subst (λ (v : Fed). AddsFile v.bytes c.args.store.now c.finish-answer.new.store) c.self.view_is call.stores.adds;
+      room = λ e base.
+          subst (λ (v : Fed). HoldsOnly base v.bytes c.args.store.now → c.args.store.now.limit < length base + room_for (length v.bytes)) c.self.view_is
+          (file-tight base c.args.store.now c.finish-answer.new.store c.len.ensures.distinct (λ t there. (c.len.ensures.only t there).0)
+          (file-full c.finish-answer.new.store (bytes_of c.self.inside.front.pieces.lines) c.finish-answer.result call.fault e)
+          call.stores.keeps.limit _
+          call.stores.adds (call.stores.needed e));
+      keeps = call.stores.keeps;
+    }

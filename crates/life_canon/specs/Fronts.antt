@@ -1,0 +1,41 @@
+-- What the lines and the pieces of a file leave in a reader and in the store that is lent to it.
+use Rattle.std.specs.Prelude.{◌≡◌, ◌⊎◌, ℕ, ◌+◌, ◌-◌, ◌^◌, min, List, [], ◌∷◌, ◌++◌, Result, IfErr, OnOk}
+use Rattle.life_base.specs.declared.cell.TheConstants.{MAX_LEVEL}
+use Rattle.life_base.specs.declared.fault.Fault.{Fault}
+use Rattle.life_quad.specs.Store.{Nodes}
+use Rattle.life_canon.specs.Calls.{StoresLines}
+use Rattle.life_canon.specs.Store.{IsKnown, IsWant, content}
+use Rattle.life_canon.specs.Taking.{IsFrontOf, IsLineFault, IsOpen, StandsFor, bytes_of, taken}
+use Rattle.life_canon.specs.declared.feeding.Progress.{Progress}
+use Rattle.life_canon.specs.declared.front.Front.{Front}
+
+-- lines that can be continued to a file, with their squares in the store
+pub record IsOpenIn (store : Nodes) (progress : Progress) : Type 0 where
+  pub begun : IsOpen progress
+  pub stands : StandsFor (IsKnown store) (content store) progress
+
+-- the front of a file, with its squares in the store
+pub record IsFrontIn (store : Nodes) (front : Front) : Type 0 where
+  pub is : IsFrontOf front
+  pub stands : StandsFor (IsKnown store) (content store) front.progress
+
+-- the line was taken behind so many others, and counted
+pub record HasLine (line : List ℕ) (store : Nodes) (before : Progress) (ended : ℕ) (after : Progress) (now_ended : ℕ) : Type 0 where
+  pub lines : taken after ≡ taken before ++ line ∷ []
+  pub progress : IsOpenIn store after
+  pub count : now_ended ≡ min (ended + 1) (2 ^ 64 - 1)
+
+-- a call that takes a line, by what it changes of a front
+pub record TakesLineOf {A : Type 0} (line : List ℕ) (old new : Nodes) (before : Progress) (ended : ℕ) (after : Progress) (now_ended : ℕ) (result : Result A Fault)
+    : Type 0 where
+  pub line_taken : OnOk result (HasLine line new before ended after now_ended)
+  pub fault : IfErr result (λ fault. IsWant new fault ⊎ IsLineFault MAX_LEVEL (taken before) line ended fault)
+  pub stores : StoresLines (taken before ++ line ∷ []) old new result
+
+abbrev pub TakesLine : {A : Type 0} → List ℕ → Nodes → Nodes → Front → Front → Result A Fault → Type 0
+TakesLine line old new before after result = TakesLineOf line old new before.progress before.ended after.progress after.ended result
+
+-- the bytes came behind those before
+pub record HasBytes (bytes : List ℕ) (store : Nodes) (before after : Front) : Type 0 where
+  pub front : IsFrontIn store after
+  pub came : bytes_of after.pieces.lines ≡ bytes_of before.pieces.lines ++ bytes

@@ -1,0 +1,24 @@
+-- The words of the contracts of this crate.
+pub use Rattle.std.specs.Prelude.{◌≡◌, ◌↔◌, ◌⊎◌, Err, IfOk, IfErr, OnOk, IsTrue, ◌≢◌, ℕ, List, ◌^◌, ◌<◌, ◌≤◌, ◌+ℤ◌, ℤ, All, AllPairs}
+pub use Rattle.life_base.specs.Refusal.{OrMemory, fault_of}
+pub use Rattle.life_base.specs.Rules.{IsRule}
+pub use Rattle.life_base.specs.Tree.{depth, tree_cell}
+pub use Rattle.life_base.specs.declared.cell.Run.{Run as RunValue}
+pub use Rattle.life_base.specs.declared.cell.TheConstants.{MAX_LEVEL}
+pub use Rattle.life_base.specs.declared.kind.Kind.TheVariants.{Full, TooManyCells, Memory}
+pub use Rattle.life_base.specs.declared.rule.Rule.{Rule}
+pub use Rattle.life_canon.specs.Store.{IsTrimmed, IsWant, universe_in, IsKnown, content}
+pub use Rattle.life_canon.specs.Texts.{IsOrdered}
+pub use Rattle.life_canon.specs.Universe.{Universe, square_universe, least_level}
+pub use Rattle.life_forms.specs.Cells.{moved_run, moved_runs, LiesOnPlane, IsWay}
+pub use Rattle.life_forms.specs.Forms.{IsShift, IsTurnedShift, IsMoved, IsUpTo, Tells, IsInPlace}
+pub use Rattle.life_forms.specs.Images.{IsImageText, IsTurnedText, numbered}
+pub use Rattle.life_forms.specs.Laws.{TurnsAreEight, TurnsAreClosed, TurnsHaveInverses, ImagesStayOnPlane, ImagesKeepShifts, MovedFormsExist, MovedFormsAreOnPlane, MovedFormsTellShifts, MovedFormsAreFixed, MovedTextsTellShifts, MovedTextsTellFiles, TurnedTextsTellFiles, MovedTextsAreFiles, TurnedTextsAreFiles, FilesHaveForms, TurnedFormsExist, TurnedFormsAreOnPlane, TurnedTextsTellTurns, TurnedFormsAreFixed}
+pub use Rattle.life_forms.specs.Needed.{IsFew, IsMany, LacksForMoved, RefusesTurning, SomeOfPlane, SomeOfMoved}
+pub use Rattle.life_forms.specs.Trees.{turned_tree, id_of_four, side_of, end_of}
+pub use Rattle.life_forms.specs.Turns.{image}
+pub use Rattle.life_mc.specs.Macrocell.{largest_state}
+pub use Rattle.life_quad.specs.Cells.{IsBefore, population}
+pub use Rattle.life_quad.specs.Keeping.{IsWantKind}
+pub use Rattle.life_quad.specs.Store.{held}
+pub use Rattle.life_strip.specs.Given.{state_by}
