@@ -1,5 +1,5 @@
 -- The keys of files.
-use Rattle.std.proofs.Common.{◌≡◌, ℕ, ◌^◌, inl, inr, List, refl, sym, ◌∙◌, true, false, Ok, Err}
+use Rattle.std.proofs.Common.{◌≡◌, ℕ, ◌^◌, inl, inr, List, sym, ◌∙◌, true, false, Ok, Err}
 use Rattle.sha2.specs.Sha256.{sha256}
 use Rattle.life_base.specs.DeviceRuns.{SourceRun, SinkRun}
 use Rattle.life_base.specs.Refusal.{fault_of}
@@ -8,7 +8,7 @@ use Rattle.life_base.specs.declared.fault.Fault.{Fault}
 use Rattle.life_base.specs.declared.kind.Kind.{Kind}
 use Rattle.life_base.specs.declared.kind.Kind.TheVariants as kinds
 use Rattle.life_quad.specs.Store.{Nodes}
-use Rattle.life_canon.specs.Running.{LacksForRead, Ran, RunRefuses}
+use Rattle.life_canon.specs.Running.{LacksForRead, RunRefuses}
 use Rattle.life_canon.specs.Running as running
 use Rattle.life_cli.specs.Faults.{status_of}
 use Rattle.life_cli.specs.Forms.{IsTextIn}

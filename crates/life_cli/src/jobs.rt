@@ -2,7 +2,7 @@
 
 ghost use Rattle.std.specs.Prelude.{◌≡◌, ◌≢◌, ◌⊎◌, ◌<◌, ◌↔◌, ◌^◌, IsSome, IfSome, IfOk, IfErr, OnOk, IsErrAnd, IsTrue, Ok, Err, true, false};
 ghost use Rattle.std.specs.Io.KnownBytes.{Appends};
-ghost use Rattle.life_base.specs.DeviceRuns.{SinkRun, SourceRun, source_run, optional_source_run, sink_run};
+ghost use Rattle.life_base.specs.DeviceRuns.{SourceRun, source_run, optional_source_run, sink_run};
 ghost use Rattle.life_cli.specs.declared.refusals.Refusal.{Refusal};
 ghost use Rattle.life_canon.specs.Files.{Refuses};
 ghost use Rattle.life_canon.specs.Store.{Keeps};

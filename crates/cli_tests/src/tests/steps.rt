@@ -4,6 +4,7 @@ use super::devices::{WIDE, assert_files, assert_refused, assert_texts, assert_tw
 use super::{LINE, WIRES};
 use life_base::Source;
 use life_cli::plans::Job;
+use std::alloc::{AllocError, Global};
 
 /// The next generation of `LINE`.
 pub(super) const NEXT_LINE: &[u8] =
@@ -93,10 +94,15 @@ fn refused_steps_by_a_table(rt: HostRuntime) {
     }
 }
 
+/// A line of so many bytes that are no data.
+fn comment(alloc: Global, count: usize) -> Result<Vec<u8>, AllocError> {
+    vec![in alloc; b'#'; count]
+}
+
 /// A line that is too long is told as the table's where it is the table's.
 #[test]
 fn long_lines(rt: HostRuntime) {
-    let long = vec![in rt.alloc(); b'#'; 1_048_577].expect(&rt, "memory");
+    let long = comment(rt.alloc(), 1_048_577).expect(&rt, "memory");
     for (input, table, line) in [
         (
             b"o!\n".as_slice(),
