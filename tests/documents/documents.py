@@ -77,7 +77,7 @@ def widths():
 
 def of_page():
     """Whether the man page has a date and the version of the library."""
-    version = re.search(r'^const VERSION: .* = b"([0-9.]+)";$', text_of("crates/golly_canon_c/src/naming.rt"), re.MULTILINE)[1]
+    version = re.search(r'^const VERSION: .* = b"([0-9.]+)";$', text_of("crates/golly_canon_c/src/names.rt"), re.MULTILINE)[1]
     head = rf'\.TH GOLLY_CANON 1 "\d{{4}}-\d\d-\d\d" "golly_canon {re.escape(version)}" "User Commands"\n'
     yield f"{PAGE}: a date and the version {version} in line 1", bool(re.match(head, text_of(PAGE)))
 

@@ -88,7 +88,7 @@ printf '%s\n' "$@" > "$NOTES"
 NOTES
 chmod 755 cc
 mkdir -p kit/bin kit/c crates/golly_canon_c/src && touch part.o && ar rc kit/c/liblibc_c.a part.o && cp rt kit/bin/rt
-cp "$top/crates/golly_canon_c/src/naming.rt" crates/golly_canon_c/src
+cp "$top/crates/golly_canon_c/src/names.rt" crates/golly_canon_c/src
 CC=$folder/cc CFLAGS="-g -O1" LDFLAGS="-Wl,-z,now" RT=$folder/kit/bin/rt sh scripts/link_library kit/c/liblibc_c.a linked > said 2>&1
 verdict "CFLAGS and LDFLAGS reach the shared object" "$([ "$(grep -xE -- '-g|-O1|-Wl,-z,now' notes | tr '\n' ' ')" = "-g -O1 -Wl,-z,now " ] || cat said notes)"
 

@@ -2,7 +2,7 @@
 use Rattle.std.specs.Prelude.{ℕ, ◌==◌, List, [], Option, Some, None, find, codes, if◌then◌else◌}
 use Rattle.life_base.specs.Kinds.{kind_number, kind_name}
 use Rattle.life_base.specs.declared.kind.Kind.{Kind}
-use Rattle.golly_canon_c.specs.declared.naming.TheConstants.{KINDS}
+use Rattle.golly_canon_c.specs.declared.names.TheConstants.{KINDS}
 
 -- the name of a kind, and no byte for none
 abbrev pub name_or_none : Option Kind → List ℕ

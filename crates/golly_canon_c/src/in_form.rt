@@ -6,7 +6,7 @@ ghost use Rattle.library_calls.specs.ComparingInForm.{ComparesInForm, ComparesIn
 ghost use Rattle.library_calls.specs.InForm.{form_numbered, IsKeyInForm, IsTextInForm, RefusesInForm, TellsNoForm};
 ghost use Rattle.library_calls.specs.Told.{Answers, told};
 
-use crate::telling::{tell, tell_compared};
+use crate::told::{tell, tell_compared};
 use library_calls::{canon_form, key, same_form};
 use std::alloc::Global;
 

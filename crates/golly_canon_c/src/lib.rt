@@ -4,10 +4,10 @@
 //! `include/golly_canon.h` declares them, and says what a caller in C guarantees.
 #![tactic(auto)]
 
-mod comparing;
+mod compared;
 mod in_form;
-mod naming;
-mod stepping;
+mod names;
+mod steps;
 mod streams;
-mod telling;
 mod texts;
+mod told;

@@ -8,7 +8,7 @@ ghost use Rattle.library_calls.specs.Streams.{session_of, IsOpen, IsFed, HasText
 ghost use Rattle.library_calls.specs.Told.{told};
 ghost use Rattle.library_calls.specs.declared.session.Form.{Form as FormValue};
 
-use crate::telling::tell;
+use crate::told::tell;
 use library_calls::{Form, Stream, close, feed, finish, open, open_canon_form};
 use std::alloc::Global;
 

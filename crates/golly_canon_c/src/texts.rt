@@ -4,7 +4,7 @@ ghost use Rattle.library_calls.specs.Answers.{IsCanonicalText, IsRleText, Refuse
 ghost use Rattle.library_calls.specs.Told.{Answers, told};
 ghost use Rattle.life_canon.specs.Texts.{IsShown};
 
-use crate::telling::tell;
+use crate::told::tell;
 use library_calls::{canon, show, to_rle};
 use life_base::MAX_LEVEL;
 use std::alloc::Global;

@@ -8,7 +8,7 @@ use Rattle.life_canon.specs.Files.{Accepted, Same, Refuses}
 use Rattle.life_canon.specs.Needs.{LacksFor}
 use Rattle.life_canon.specs.Room.{room_for}
 use Rattle.library_calls.specs.Answers.{Wants}
-pub use Rattle.library_calls.specs.declared.comparing.Compared.{Compared}
+pub use Rattle.library_calls.specs.declared.compared.Compared.{Compared}
 
 -- the status and the numbers that are told
 abbrev pub compared : (status is_same line : ℕ) → Compared

@@ -2,7 +2,7 @@
 use Rattle.std.specs.Prelude.{◌≡◌, ◌⊎◌, ◌++◌, ◌<◌, ◌≤◌, ℕ, List, length, drop}
 use Rattle.life_base.specs.Kinds.{kind_number}
 use Rattle.life_base.specs.declared.fault.Fault.{Fault}
-pub use Rattle.library_calls.specs.declared.telling.Told.{Told}
+pub use Rattle.library_calls.specs.declared.told.Told.{Told}
 
 -- the status, the length and the line that are told
 abbrev pub told : (status needed line : ℕ) → Told

@@ -7,7 +7,7 @@ ghost use Rattle.library_calls.specs.Streams.{IsFed, HasText, HasFault, Takes, E
 ghost use Rattle.library_calls.specs.declared.session.Form.{Form as FormValue};
 
 use crate::feeding::Feeding;
-use crate::seeding::seed_of_squares;
+use crate::seeds::seed_of_squares;
 use life_base::Fault;
 use life_quad::Shared;
 use std::alloc::Global;

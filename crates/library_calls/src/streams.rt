@@ -11,7 +11,7 @@ use crate::feeding::Feeding;
 use crate::in_form::{NO_FORM, form_of, text_in};
 use crate::session::{Form, Session, ended, fed};
 use crate::stream::{Stream, put, take};
-use crate::telling::{Told, give, refuse};
+use crate::told::{Told, give, refuse};
 use life_base::{Fault, Kind};
 use std::alloc::Global;
 use std::mem;

@@ -8,7 +8,7 @@ ghost use Rattle.life_canon.specs.Store.{IsOfFile};
 ghost use Rattle.life_canon.specs.Texts.{IsShown};
 
 use crate::session::{Form, store_of};
-use crate::telling::{Told, tell};
+use crate::told::{Told, tell};
 use life_base::{Fault, MAX_LEVEL};
 use life_canon::laws::{
     canonical_is_least, files_are_on_plane, patterns_fit, texts_are_files, texts_tell_universes,

@@ -14,7 +14,7 @@ use Rattle.theorems.proofs.RefusalLaw.{refuses_agree}
 use Rattle.library_calls.specs.Forms.{IsTextOf, RefusesTextOf, RefusesPiece}
 use Rattle.library_calls.specs.Streams.{IsOpen, IsFed, HasFault, Opens, Takes, by_piece, Ends, TellsEnd}
 use Rattle.library_calls.specs.Streams as streams
-use Rattle.library_calls.specs.declared.telling.Told.{Told}
+use Rattle.library_calls.specs.declared.told.Told.{Told}
 use Rattle.library_calls.specs.Told.{Answers, by_text, by_fault}
 use Rattle.library_calls.specs.declared.session.Form.{Form}
 use Rattle.library_calls.specs.declared.session.Session.{Session}

@@ -34,13 +34,13 @@ use Rattle.step_theorems.proofs.StepLaw.{unstepped_is}
 use Rattle.step_theorems.proofs.StepBy.{next_by_is_fixed, stepped_is, unstepped_is as unstepped_by_is}
 use Rattle.library_calls.specs.Answers.{Wants, RefusesWithin, RefusesRleWithin}
 use Rattle.library_calls.specs.Answers.{IsCanonicalText as LayerText, IsRleText as LayerRle}
-use Rattle.library_calls.specs.declared.comparing.Compared.{Compared}
+use Rattle.library_calls.specs.declared.compared.Compared.{Compared}
 use Rattle.library_calls.specs.Comparing.{ComparesWithin, by_answer, IsAnswerOf, RefusesEither}
 use Rattle.library_calls.specs.Comparing as comparing
 use Rattle.library_calls.specs.Forms.{IsTextOf, RefusesTextOf}
 use Rattle.library_calls.specs.declared.session.Form.{Form}
 use Rattle.library_calls.specs.Stepping.{RefusesStepWithin, RefusesStepByWithin, StepsByTable, by_table, by_no_table}
-use Rattle.library_calls.specs.declared.telling.Told.{Told}
+use Rattle.library_calls.specs.declared.told.Told.{Told}
 use Rattle.library_calls.specs.Told.{Copies, LacksRoom, Gives, Tells, Answers, by_text, by_fault}
 use Rattle.library_theorems.specs.Answered.{IsRleText, AreFiveLines, IsUnread, IsUnreadWithin, IsUnwritten, IsWantBelow, room_for}
 use Rattle.library_theorems.specs.Ending.{IsEndFault}

@@ -1,12 +1,12 @@
 //! Theorems from bytes to bytes: the calls of the library for C.
 #![tactic(auto)]
 
-mod comparing;
-mod stepping;
+mod compared;
+mod steps;
 mod streams;
 mod texts;
 
-pub use comparing::files_are_compared;
-pub use stepping::{next_by_table_is_told, next_is_told, told_next_texts_are_fixed};
+pub use compared::files_are_compared;
+pub use steps::{next_by_table_is_told, next_is_told, told_next_texts_are_fixed};
 pub use streams::{text_of_stream, text_of_stream_beside_canon};
 pub use texts::{lines_are_told, rle_is_told, text_is_told, told_texts_are_those_of_canon};

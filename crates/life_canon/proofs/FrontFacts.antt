@@ -30,8 +30,8 @@ use Rattle.life_canon.specs.Store.{IsWant}
 use Rattle.life_quad.specs.Keeping.{IsWantKind}
 use Rattle.life_canon.specs.Taking.{IsEnd, bytes_of, taken, IsOpen, IsOver, IsLineFault, IsGoing, IsFront}
 use Rattle.life_canon.specs.Universe.{Universe, rle_universe}
-use Rattle.life_canon.specs.declared.feeding.Progress.{Progress}
-use Rattle.life_canon.specs.declared.feeding.Progress.TheVariants as progress
+use Rattle.life_canon.specs.declared.progress.Progress.{Progress}
+use Rattle.life_canon.specs.declared.progress.Progress.TheVariants as progress
 use Rattle.life_canon.proofs.FeedFacts.{no-feed}
 use Rattle.life_canon.proofs.Formats.{macrocell-first}
 use Rattle.life_canon.proofs.Unions.{macrocell-front, rle-front, no_lines, taken-front, not-both, line-refused, line-refused-n, end-refused}

@@ -7,7 +7,7 @@ use Rattle.life_base.specs.Tree.{point, quad}
 use Rattle.life_mc.specs.Cells.{leaf_cell}
 use Rattle.life_mc.specs.Squares.{tree_at}
 use Rattle.life_quad.specs.Store.{two}
-use Rattle.life_canon.specs.declared.filling.TheConstants.{PAIRS}
+use Rattle.life_canon.specs.declared.line_squares.TheConstants.{PAIRS}
 
 -- a shift by one more
 half : (v k : ℕ) → v / 2 ^ suc k ≡ v / 2 ^ k / 2

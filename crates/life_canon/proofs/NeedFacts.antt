@@ -21,7 +21,7 @@ use Rattle.life_strip.specs.Given.{half_plane, state_by, by_columns}
 use Rattle.life_strip.specs.Needed.{SomeSquare}
 use Rattle.life_canon.specs.Files.{is_macrocell}
 use Rattle.life_canon.specs.Taking.{IsGoing, IsEnd, taken}
-use Rattle.life_canon.specs.declared.feeding.Progress.{Progress}
+use Rattle.life_canon.specs.declared.progress.Progress.{Progress}
 use Rattle.life_canon.proofs.FrontFacts.{whole-at, end-says, end-lines}
 use Rattle.life_quad.proofs.LawLemmas.{trimming_stops}
 use Rattle.life_quad.specs.Moves.{grown, trimmed}

@@ -31,8 +31,8 @@ use Rattle.life_canon.specs.Files.{Breaks, is_macrocell}
 use Rattle.life_quad.specs.Keeping.{IsWantKind}
 use Rattle.life_canon.specs.Taking.{taken}
 use Rattle.life_canon.specs.Universe.{Universe, IsSame, least_level, centred, whole, square_universe}
-use Rattle.life_canon.specs.declared.feeding.Progress.{Progress}
-use Rattle.life_canon.specs.declared.feeding.Progress.TheVariants as progress
+use Rattle.life_canon.specs.declared.progress.Progress.{Progress}
+use Rattle.life_canon.specs.declared.progress.Progress.TheVariants as progress
 use Rattle.life_canon.proofs.Canonical.{same-whole, whole-trimmed}
 use Rattle.life_canon.proofs.Content.{least-one}
 use Rattle.life_canon.proofs.Planes.{full-depth, trimmed-is, centred-tree_cell, tree_cell-outside}

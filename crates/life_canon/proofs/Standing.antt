@@ -9,8 +9,8 @@ use Rattle.life_canon.specs.Store.{IsKnown, content, KeepsContents}
 use Rattle.life_canon.specs.Laws.{ReadersStand}
 use Rattle.life_canon.specs.Taking.{StandsFor}
 use Rattle.life_canon.specs.Filling.{AreSquaresOf}
-use Rattle.life_canon.specs.declared.feeding.Progress.{Progress}
-use Rattle.life_canon.specs.declared.feeding.Progress.TheVariants as progress
+use Rattle.life_canon.specs.declared.progress.Progress.{Progress}
+use Rattle.life_canon.specs.declared.progress.Progress.TheVariants as progress
 
 pub squares-stay : {knew knows : Id → Type 0} {was now : Id → Tree} (lines : List Line) (ids : List Id) → ((id : Id) → knew id → knows id × (now id ≡ was id))
     → AreSquaresOf knew was lines ids → AreSquaresOf knows now lines ids

@@ -15,7 +15,7 @@ use Rattle.life_rle.specs.Pattern.{Rle}
 use Rattle.life_canon.specs.Files.{Refuses, is_macrocell}
 use Rattle.life_canon.specs.Store.{IsKnown, content}
 use Rattle.life_canon.specs.Taking.{StandsFor}
-use Rattle.life_canon.specs.declared.feeding.Progress.{Progress}
+use Rattle.life_canon.specs.declared.progress.Progress.{Progress}
 
 -- Why no file goes on from these bytes: a line that has ended breaks a rule, or the last one is too long already.
 pub record RefusesFront (top : ℕ) (bytes : List ℕ) (fault : Fault) : Type 0 where

@@ -6,7 +6,7 @@ use Rattle.life_quad.specs.Store.{Nodes}
 use Rattle.life_canon.specs.Calls.{StoresLines}
 use Rattle.life_canon.specs.Store.{IsKnown, IsWant, content}
 use Rattle.life_canon.specs.Taking.{IsFrontOf, IsLineFault, IsOpen, StandsFor, bytes_of, taken}
-use Rattle.life_canon.specs.declared.feeding.Progress.{Progress}
+use Rattle.life_canon.specs.declared.progress.Progress.{Progress}
 use Rattle.life_canon.specs.declared.front.Front.{Front}
 
 -- lines that can be continued to a file, with their squares in the store

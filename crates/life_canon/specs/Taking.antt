@@ -14,8 +14,8 @@ use Rattle.life_rle.specs.Pattern.{Rle}
 use Rattle.life_canon.specs.Building.{IsBuilt}
 use Rattle.life_canon.specs.Files.{Breaks, is_macrocell}
 use Rattle.life_canon.specs.Filling.{AreSquaresOf}
-use Rattle.life_canon.specs.declared.feeding.Progress.{Progress}
-use Rattle.life_canon.specs.declared.feeding.Progress.TheVariants as progress
+use Rattle.life_canon.specs.declared.progress.Progress.{Progress}
+use Rattle.life_canon.specs.declared.progress.Progress.TheVariants as progress
 use Rattle.life_canon.specs.declared.front.Front.{Front}
 
 -- ---- between two lines

@@ -14,7 +14,7 @@ ghost use Rattle.life_canon.specs.Needs.{SomeOfLines};
 ghost use Rattle.life_canon.specs.Store.{IsKnown, IsRead, IsWant, RefusesIn, content};
 ghost use Rattle.life_canon.specs.Taking.{IsEnd, IsFrontOf, IsOpen, IsOver, StandsFor, bytes_of};
 
-use crate::feeding::Progress;
+use crate::progress::Progress;
 use crate::pattern::Pattern;
 use life_base::{Fault, Kind, LineLog, MAX_LEVEL, append, line_end, line_fits};
 use life_quad::Shared;

@@ -1,32 +1,32 @@
 //! The canonical text of a pattern, whatever file it came in.
 #![tactic(auto)]
 
-mod comparing;
-mod converting;
-mod counting;
-mod feeding;
-mod filling;
+mod cell_counts;
+mod compare;
+mod files;
 mod front;
 pub mod laws;
 mod leaf_rows;
 mod line_sink;
-mod numbering;
+mod line_squares;
+mod macrocell;
+mod node_walk;
 mod pattern;
 mod piece;
+mod progress;
 mod reader;
-mod reading;
 mod room;
-mod running;
-mod showing;
-mod walking;
-mod writing;
+mod runs;
+mod summary;
+mod texts;
+mod writer;
 
-pub use comparing::{are_same, same};
-pub use converting::{MOST_CELLS, canon, rle_of, to_rle};
-pub use numbering::number;
+pub use compare::{are_same, same};
+pub use files::read;
+pub use macrocell::number;
 pub use pattern::{Pattern, least_level};
 pub use reader::Reader;
-pub use reading::read;
-pub use running::{read_from, run_canon, run_canon_within};
-pub use showing::{five_lines_of, show};
-pub use writing::text_of;
+pub use runs::{read_from, run_canon, run_canon_within};
+pub use summary::{five_lines_of, show};
+pub use texts::{MOST_CELLS, canon, rle_of, to_rle};
+pub use writer::text_of;

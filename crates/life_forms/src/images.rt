@@ -5,7 +5,7 @@ ghost use Rattle.life_quad.specs.Grows.{Keeps};
 
 use crate::patterns::moved_pattern;
 use crate::turn::Turn;
-use crate::turning::placed;
+use crate::turns::placed;
 use life_base::{Fault, Kind};
 use life_canon::laws::{centred_squares_tell_cells, squares_are_centred};
 use life_canon::{MOST_CELLS, Pattern, text_of};

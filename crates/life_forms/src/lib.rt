@@ -1,15 +1,15 @@
 //! Forms of a pattern: moved, which forgets its place, and turned, which forgets its orientation too.
 #![tactic(auto)]
 
-mod comparing;
+mod compare;
 mod images;
 pub mod laws;
-mod moving;
+mod moves;
 mod patterns;
 mod turn;
-mod turning;
+mod turns;
 
-pub use comparing::{are_shifts, are_turns};
+pub use compare::{are_shifts, are_turns};
 pub use images::turned_text;
 pub use patterns::moved_of;
 pub use turn::Turn;

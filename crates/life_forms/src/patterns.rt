@@ -3,7 +3,7 @@
 ghost use Rattle.life_forms.specs.Words.{◌≡◌, ◌⊎◌, ◌^◌, ◌<◌, ◌≤◌, ℤ, Err, IfOk, IfErr, OnOk, fault_of, depth, tree_cell, MAX_LEVEL, Full, TooManyCells, largest_state, population, IsWantKind, held, IsKnown, IsTrimmed, IsWant, content, universe_in, least_level, square_universe, IsMoved, IsFew, IsMany, LacksForMoved};
 ghost use Rattle.life_canon.specs.Store.{Keeps};
 
-use crate::moving::moved_plane;
+use crate::moves::moved_plane;
 use life_base::{Fault, Kind, Rule};
 use life_canon::laws::squares_are_centred;
 use life_canon::{Pattern, least_level};

@@ -6,6 +6,6 @@
 //! lacks; a neighbourhood to which the table gives two states; a cell outside the plane that would not become 0.
 #![tactic(auto)]
 
-mod stepping;
+mod steps;
 
-pub use stepping::{next_by_rule, next_by_table, step_life, step_table};
+pub use steps::{next_by_rule, next_by_table, step_life, step_table};

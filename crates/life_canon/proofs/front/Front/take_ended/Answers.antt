@@ -4,7 +4,7 @@ use Rattle.std.proofs.Common.{◌≡◌, ℕ, List, ◌++◌, length, sym, subst
 use Rattle.std.proofs.lemmas.Bool.Decides.{nat_tests}
 use Rattle.life_quad.proofs.KeepingLemmas.{keeps-same, adds-none}
 use Rattle.life_canon.specs.Fronts.{IsOpenIn, TakesLine, TakesLineOf}
-use Rattle.life_canon.specs.declared.feeding.Progress.{Progress}
+use Rattle.life_canon.specs.declared.progress.Progress.{Progress}
 use Rattle.life_canon.proofs.Stored.{kept-no-room}
 use Rattle.life_canon.proofs.front.Front.take_ended.Goals as goal
 

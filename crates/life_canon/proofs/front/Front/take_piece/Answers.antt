@@ -6,7 +6,7 @@ use Rattle.life_base.specs.Lines.{whole_lines}
 use Rattle.life_quad.proofs.KeepingLemmas.{keeps-then, adds-then}
 use Rattle.life_canon.specs.Store.{IsKnown, content}
 use Rattle.life_canon.specs.Taking.{bytes_of, IsOver, StandsFor}
-use Rattle.life_canon.specs.declared.feeding.Progress.{Progress}
+use Rattle.life_canon.specs.declared.progress.Progress.{Progress}
 use Rattle.life_canon.proofs.PatternFacts.{both-ok}
 use Rattle.life_canon.proofs.Stored.{front-no-room}
 use Rattle.life_canon.proofs.FeedFacts.{feed-before, feed-within, piece-split, is-none}

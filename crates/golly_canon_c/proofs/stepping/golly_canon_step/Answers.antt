@@ -1,4 +1,0 @@
-use Rattle.golly_canon_c.proofs.stepping.golly_canon_step.Goals as goal
-
-pub returns : goal.returns
-returns c = rw c.tell.ensures at c.step.ensures

@@ -1,0 +1,97 @@
+use Rattle.std.proofs.Common.{◌≡◌, ◌∙◌, IfOk, OnOk, sym, subst}
+use Rattle.std.specs.Prelude.{◌↔◌, IsTrue}
+use Rattle.std.proofs.lemmas.Result.{IfOk-weaker, IfErr-weaker, err_from_is_err_and}
+use Rattle.life_forms.specs.Forms.{IsShift, IsTurnedShift}
+use Rattle.library_calls.specs.ComparingInForm.{AreOneInForm, HasTooMany, RefusesEitherInForm}
+use Rattle.library_calls.specs.declared.pattern_form.PatternForm.{PatternForm}
+use Rattle.library_calls.proofs.Answering.{and-lacks, of-any}
+use Rattle.library_calls.proofs.FormFacts.{accepted-it, reads-it, either-unread, few-moved, either-unmoved, few-turned, either-unturned, files-told}
+use Rattle.library_calls.proofs.comparison.are_one.Goals as goal
+
+pub are_shifts-requires-clause-a : goal.are_shifts-requires-clause-a
+are_shifts-requires-clause-a c = (c.patterns_fit.ensures _ _ _ c.in_ok-a.ensures.one).0
+
+pub are_shifts-requires-clause-b : goal.are_shifts-requires-clause-b
+are_shifts-requires-clause-b c = (c.patterns_fit.ensures _ _ _ c.in_ok-a.ensures.other).0
+
+pub are_turns-requires-clause-a : goal.are_turns-requires-clause-a
+are_turns-requires-clause-a c = (c.patterns_fit.ensures _ _ _ c.in_ok-a.ensures.one).0
+
+pub are_turns-requires-clause-b : goal.are_turns-requires-clause-b
+are_turns-requires-clause-b c = (c.patterns_fit.ensures _ _ _ c.in_ok-a.ensures.other).0
+
+pub are_turns-requires-clause-a_rule : goal.are_turns-requires-clause-a_rule
+are_turns-requires-clause-a_rule c =
+    (c.files_are_on_plane.ensures c.args.first.now _ (reads-it c.patterns_fit.ensures _ _ _ c.in_ok-a.ensures.one)).rule
+
+pub are_turns-requires-clause-b_rule : goal.are_turns-requires-clause-b_rule
+are_turns-requires-clause-b_rule c =
+    (c.files_are_on_plane.ensures c.args.second.now _ (reads-it c.patterns_fit.ensures _ _ _ c.in_ok-a.ensures.other)).rule
+
+pub returns-in_err-a-clause-fault : goal.returns-in_err-a-clause-fault
+returns-in_err-a-clause-fault c =
+    let p = err_from_is_err_and c.from_residual.result c.from_residual.ensures.1 in
+    rw (p.1, p.2) (λ limit fresh. either-unread c.args.form limit c.args.first.now c.args.second.now c.read_both.new.store c.in_err-a.field-0.0
+    (c.read_both.ensures.limit ∙ fresh.most) c.in_err-a.ensures.fault (λ e. c.in_err-a.ensures.needed (cc) fresh.empty))
+
+pub returns-in-Placed-clause-accepted : goal.returns-in-Placed-clause-accepted
+returns-in-Placed-clause-accepted c = (accepted-it _ _ _ c.in_ok-a.ensures.one, accepted-it _ _ _ c.in_ok-a.ensures.other)
+
+pub returns-in-Placed-clause-answer : goal.returns-in-Placed-clause-answer
+returns-in-Placed-clause-answer c =
+    let law = c.patterns_tell_files.ensures _ _ _ _ _ c.in_ok-a.ensures.one c.in_ok-a.ensures.other in
+    subst (λ (f : PatternForm). IsTrue c.are_same.result ↔ AreOneInForm f c.args.first.now c.args.second.now) (sym c.in-Placed.is)
+    (λ yes. law.0 (c.are_same.ensures.0 yes), λ same. c.are_same.ensures.1 (law.1 same))
+
+pub returns-in-Placed-clause-few : goal.returns-in-Placed-clause-few
+returns-in-Placed-clause-few c =
+    subst (λ (f : PatternForm). ¬ HasTooMany f c.args.first.now c.args.second.now) (sym c.in-Placed.is) (λ many. many)
+
+pub returns-in-Moved-clause-accepted : goal.returns-in-Moved-clause-accepted
+returns-in-Moved-clause-accepted c =
+    of-any _ c.are_shifts.result (accepted-it _ _ _ c.in_ok-a.ensures.one, accepted-it _ _ _ c.in_ok-a.ensures.other)
+
+pub returns-in-Moved-clause-answer : goal.returns-in-Moved-clause-answer
+returns-in-Moved-clause-answer c =
+    subst (λ (f : PatternForm). IfOk c.are_shifts.result (λ answer. IsTrue answer ↔ AreOneInForm f c.args.first.now c.args.second.now)) (sym c.in-Moved.is)
+    (IfOk-weaker c.are_shifts.result _ _ (λ answer told. files-told c.files_are_unique.ensures IsShift c.args.first.now c.args.second.now _ _ answer
+    (reads-it c.patterns_fit.ensures _ _ _ c.in_ok-a.ensures.one) (reads-it c.patterns_fit.ensures _ _ _ c.in_ok-a.ensures.other) told)
+    c.are_shifts.ensures.answer)
+
+pub returns-in-Moved-clause-few : goal.returns-in-Moved-clause-few
+returns-in-Moved-clause-few c =
+    subst (λ (f : PatternForm). OnOk c.are_shifts.result (¬ HasTooMany f c.args.first.now c.args.second.now)) (sym c.in-Moved.is)
+    (few-moved c.files_are_unique.ensures c.patterns_fit.ensures c.args.first.now c.args.second.now c.read_both.new.store _ _
+    c.in_ok-a.ensures.one c.in_ok-a.ensures.other c.are_shifts.result c.are_shifts.ensures.few)
+
+pub returns-in-Moved-clause-fault : goal.returns-in-Moved-clause-fault
+returns-in-Moved-clause-fault c =
+    IfErr-weaker c.are_shifts.result _ _ (λ fault why limit fresh.
+    subst (λ (f : PatternForm). RefusesEitherInForm f limit c.args.first.now c.args.second.now fault) (sym c.in-Moved.is)
+    (either-unmoved c.patterns_fit.ensures limit c.args.first.now c.args.second.now c.read_both.new.store c.are_shifts.new.store _ _ fault
+    (c.are_shifts.ensures.keeps.limit ∙ c.read_both.ensures.limit ∙ fresh.most) c.in_ok-a.ensures.one c.in_ok-a.ensures.other why.0
+    why.1)) (and-lacks _ c.are_shifts.result c.are_shifts.ensures.fault c.are_shifts.ensures.needed)
+
+pub returns-clause-accepted : goal.returns-clause-accepted
+returns-clause-accepted c =
+    of-any _ c.are_turns.result (accepted-it _ _ _ c.in_ok-a.ensures.one, accepted-it _ _ _ c.in_ok-a.ensures.other)
+
+pub returns-clause-answer : goal.returns-clause-answer
+returns-clause-answer c =
+    subst (λ (f : PatternForm). IfOk c.are_turns.result (λ answer. IsTrue answer ↔ AreOneInForm f c.args.first.now c.args.second.now)) (sym c.in-Turned.is)
+    (IfOk-weaker c.are_turns.result _ _ (λ answer told. files-told c.files_are_unique.ensures IsTurnedShift c.args.first.now c.args.second.now _ _ answer
+    (reads-it c.patterns_fit.ensures _ _ _ c.in_ok-a.ensures.one) (reads-it c.patterns_fit.ensures _ _ _ c.in_ok-a.ensures.other) told)
+    c.are_turns.ensures.answer)
+
+pub returns-clause-few : goal.returns-clause-few
+returns-clause-few c =
+    subst (λ (f : PatternForm). OnOk c.are_turns.result (¬ HasTooMany f c.args.first.now c.args.second.now)) (sym c.in-Turned.is)
+    (few-turned c.files_are_unique.ensures c.patterns_fit.ensures c.args.first.now c.args.second.now c.read_both.new.store _ _
+    c.in_ok-a.ensures.one c.in_ok-a.ensures.other c.are_turns.result c.are_turns.ensures.few)
+
+pub returns-clause-fault : goal.returns-clause-fault
+returns-clause-fault c =
+    IfErr-weaker c.are_turns.result _ _ (λ fault why limit fresh.
+    subst (λ (f : PatternForm). RefusesEitherInForm f limit c.args.first.now c.args.second.now fault) (sym c.in-Turned.is)
+    (either-unturned c.patterns_fit.ensures limit c.args.first.now c.args.second.now c.read_both.new.store _ _ fault
+    (c.read_both.ensures.limit ∙ fresh.most) c.in_ok-a.ensures.one c.in_ok-a.ensures.other why)) c.are_turns.ensures.fault

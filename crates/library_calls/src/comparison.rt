@@ -1,0 +1,125 @@
+//! The call that compares two files in a form.
+
+ghost use Rattle.std.specs.Prelude.{◌≡◌, ◌↔◌, ◌⊎◌, ℕ, [], Err, IfOk, IfErr, OnOk, IsTrue, MatchOption};
+ghost use Rattle.life_base.specs.Refusal.{fault_of};
+ghost use Rattle.life_base.specs.declared.cell.TheConstants.{MAX_LEVEL};
+ghost use Rattle.life_base.specs.declared.kind.Kind.TheVariants.{Full};
+ghost use Rattle.life_quad.specs.Store.{held};
+ghost use Rattle.life_canon.specs.Files.{Accepted, Refuses};
+ghost use Rattle.life_canon.specs.Store.{IsRead, IsWant};
+ghost use Rattle.library_calls.specs.Answers.{IsFresh};
+ghost use Rattle.library_calls.specs.Comparing.{IsTooSmallForBoth};
+ghost use Rattle.library_calls.specs.InForm.{form_numbered};
+ghost use Rattle.library_calls.specs.ComparingInForm.{AreOneInForm, HasTooMany, RefusesEitherInForm, ComparesInForm, ComparesInNone};
+
+use crate::compared::Compared;
+use crate::in_form::{NO_FORM, form_of};
+use crate::pattern_form::PatternForm;
+use crate::session::store_of;
+use life_base::Fault;
+use life_canon::laws::{
+    few_squares, files_are_on_plane, files_are_unique, patterns_fit, patterns_stay,
+    patterns_tell_files, refusals_have_kinds, room_suffices,
+};
+use life_canon::{Pattern, are_same, read};
+use life_forms::{are_shifts, are_turns};
+use life_quad::Shared;
+use std::alloc::Global;
+
+/// The patterns of two files, read into one store.
+fn read_both(
+    alloc: Global,
+    store: &mut Shared,
+    first: &[u8],
+    second: &[u8],
+) -> Result<(Pattern, Pattern), Fault>
+    ensures one { IfOk result (λ both. IsRead MAX_LEVEL first.now store.new both.0) }
+    ensures other { IfOk result (λ both. IsRead MAX_LEVEL second.now store.new both.1) }
+    ensures fault { IfErr result (λ fault. Refuses MAX_LEVEL first.now fault
+        ⊎ (Accepted MAX_LEVEL first.now × Refuses MAX_LEVEL second.now fault)
+        ⊎ IsWant store.new fault) }
+    ensures needed { result ≡ Err (fault_of Full) → held store.old ≡ []
+        → IsTooSmallForBoth first.now second.now store.new }
+    ensures limit { store.new.limit ≡ store.old.limit }
+{
+    patterns_stay();
+    refusals_have_kinds();
+    few_squares();
+    room_suffices();
+    let a = read(alloc, store, first)?;
+    match read(alloc, store, second) {
+        Ok(b) => Ok((a, b)),
+        Err(fault) => {
+            // Its contract says that a store holds each square once, and none that is blank. The proof counts them.
+            let _ = store.len();
+            Err(fault)
+        }
+    }
+}
+
+/// Whether two files are one pattern in a form.
+fn are_one(
+    alloc: Global,
+    store: &mut Shared,
+    first: &[u8],
+    second: &[u8],
+    form: PatternForm,
+) -> Result<bool, Fault>
+    ensures accepted { OnOk result (Accepted MAX_LEVEL first.now × Accepted MAX_LEVEL second.now) }
+    ensures answer { IfOk result
+        (λ answer. IsTrue answer ↔ AreOneInForm form first.now second.now) }
+    ensures few { OnOk result (¬ HasTooMany form first.now second.now) }
+    ensures fault { IfErr result (λ fault. (limit : ℕ) → IsFresh limit store.old
+        → RefusesEitherInForm form limit first.now second.now fault) }
+{
+    patterns_fit();
+    patterns_tell_files();
+    files_are_unique();
+    files_are_on_plane();
+    let (a, b) = read_both(alloc, store, first, second)?;
+    match form {
+        PatternForm::Placed => Ok(are_same(&a, &b)),
+        PatternForm::Moved => are_shifts(alloc, store, &a, &b),
+        PatternForm::Turned => are_turns(alloc, store, &a, &b),
+    }
+}
+
+/// Whether two files, each of either format, are one pattern in the form.
+pub(crate) fn compare(
+    alloc: Global,
+    first: &[u8],
+    second: &[u8],
+    form: PatternForm,
+    limit: u64,
+    seed: u64,
+) -> Compared
+    ensures { ComparesInForm form limit first.now second.now result }
+{
+    let mut store = store_of(alloc, limit, seed);
+    match are_one(alloc, &mut store, first, second, form) {
+        Ok(answer) => Compared::of(answer),
+        Err(fault) => Compared::refused(&fault),
+    }
+}
+
+/// Whether two files, each of either format, are one pattern in the form with this number.
+pub fn same_form(
+    alloc: Global,
+    first: &[u8],
+    second: &[u8],
+    form: u32,
+    limit: u64,
+    seed: u64,
+) -> Compared
+    ensures { MatchOption (form_numbered form) (ComparesInNone result)
+        (λ form. ComparesInForm form limit first.now second.now result) }
+{
+    let Some(form) = form_of(form) else {
+        return Compared {
+            status: NO_FORM,
+            is_same: 0,
+            line: 0,
+        };
+    };
+    compare(alloc, first, second, form, limit, seed)
+}

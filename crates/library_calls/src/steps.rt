@@ -1,0 +1,56 @@
+//! The calls that step a pattern.
+
+ghost use Rattle.library_calls.specs.Told.{Answers};
+ghost use Rattle.life_step.specs.Stepped.{IsStepped, IsSteppedBy};
+ghost use Rattle.library_calls.specs.Stepping.{RefusesStepByWithin, RefusesStepWithin, StepsByTable};
+
+use crate::seeds::seed_of_names;
+use crate::session::{Form, store_of};
+use crate::told::{Told, refuse, tell};
+use crate::texts::answer;
+use life_step::step_table;
+use life_table::{Table, read_table};
+use std::alloc::Global;
+
+/// The canonical text of the next generation of the pattern of a file, under its B/S rule.
+pub fn step(alloc: Global, bytes: &[u8], limit: u64, seed: u64, out: &mut [u8]) -> Told
+    ensures { Answers (IsStepped bytes.now) (RefusesStepWithin limit bytes.now) out.old out.new
+        result }
+{
+    answer(alloc, bytes, Form::Next, limit, seed, out)
+}
+
+/// The same by a table that is read.
+fn step_by(
+    alloc: Global,
+    bytes: &[u8],
+    table: &Table,
+    limit: u64,
+    seed: u64,
+    out: &mut [u8],
+) -> Told
+    ensures { Answers (IsSteppedBy table.now bytes.now)
+        (RefusesStepByWithin table.now limit bytes.now) out.old out.new result }
+{
+    let mut store = store_of(alloc, limit, seed);
+    let found = step_table(alloc, &mut store, bytes, table);
+    tell(found, out)
+}
+
+/// The canonical text of the next generation of the pattern of a file, by a rule table, whose file is `table`; and 1 where it is the table that is
+/// refused, else 0.
+pub fn step_by_table(
+    alloc: Global,
+    bytes: &[u8],
+    table: &[u8],
+    limit: u64,
+    seed: u64,
+    out: &mut [u8],
+) -> (Told, u32)
+    ensures { StepsByTable limit bytes.now table.now result.1 out.old out.new result.0 }
+{
+    match read_table(alloc, seed_of_names(seed), table) {
+        Ok(table) => (step_by(alloc, bytes, &table, limit, seed, out), 0),
+        Err(fault) => (refuse(&fault), 1),
+    }
+}

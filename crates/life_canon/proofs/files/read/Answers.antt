@@ -1,0 +1,69 @@
+use Rattle.std.specs.Prelude.{IfErr}
+use Rattle.std.proofs.lemmas.Result.{IfOk-weaker, err_from_is_err_and}
+use Rattle.life_base.specs.Lines.{whole_lines}
+use Rattle.life_quad.specs.Store.{held}
+use Rattle.life_quad.proofs.KeepingLemmas.{keeps-then, adds-as, adds-then}
+use Rattle.life_canon.proofs.CallFacts.{feed-fault}
+use Rattle.std.proofs.Common.{ℕ, ◌+◌, ◌<◌, List, [], ◌++◌, length, ap, sym, ◌∙◌, subst, arith, inl}
+use Rattle.life_base.specs.declared.cell.TheConstants.{MAX_LEVEL}
+use Rattle.life_canon.specs.Needs.{IsNew, LacksFor, LacksForFront}
+use Rattle.life_canon.specs.Room.{AddsLines, AddsFile, HoldsFront, HoldsOnly, room_for}
+use Rattle.life_canon.specs.Store.{IsRead, RefusesIn}
+use Rattle.life_canon.proofs.Adding.{fronts_hold}
+use Rattle.life_canon.proofs.NeedFacts.{whole-needs}
+use Rattle.life_canon.proofs.Stored.{err_again}
+use Rattle.life_canon.proofs.files.read.Goals as goal
+
+pub returns-in_err-feed-clause-fault : goal.returns-in_err-feed-clause-fault
+returns-in_err-feed-clause-fault c =
+    let p = err_from_is_err_and c.from_residual.result c.from_residual.ensures.1 in
+    rw (p.1, p.2) (feed-fault _ _ _ _ c.new-reader.ensures.bytes (c.in_err-feed.ensures.fault c.new-reader.ensures.spent))
+
+pub returns-clause-pattern : goal.returns-clause-pattern
+returns-clause-pattern c =
+    let all = c.in_ok-feed.ensures.bytes ∙ ap (λ (b : List ℕ). b ++ c.args.bytes.now) c.new-reader.ensures.bytes in
+    IfOk-weaker c.finish.result _ _ (λ pattern h. subst (λ (b : List ℕ). IsRead MAX_LEVEL b c.finish.new.store pattern) all h.1) c.finish.ensures.pattern
+
+pub returns-clause-fault : goal.returns-clause-fault
+returns-clause-fault c =
+    let all = c.in_ok-feed.ensures.bytes ∙ ap (λ (b : List ℕ). b ++ c.args.bytes.now) c.new-reader.ensures.bytes in
+    subst (λ (b : List ℕ). IfErr c.finish.result (RefusesIn MAX_LEVEL b c.finish.new.store)) all (c.finish.ensures.fault c.in_ok-feed.ensures.open.1)
+
+pub returns-in_err-feed-clause-reads : goal.returns-in_err-feed-clause-reads
+returns-in_err-feed-clause-reads c =
+    let p = err_from_is_err_and c.from_residual.result c.from_residual.ensures.1 in
+    let none = ap (λ (b : List ℕ). b ++ c.args.bytes.now) c.new-reader.ensures.bytes in
+    let feeds = c.in_err-feed.ensures.feeds in
+    let lines = subst (λ (b : List ℕ). AddsLines (whole_lines b) c.args.store.now c.feed.new.store) none feeds.adds in
+    let base = held c.args.store.now in
+    rw (p.1, p.2) (record {
+      needed = λ e. whole-needs (IsNew c.feed.new.store) c.args.bytes.now
+          (subst (λ (b : List ℕ). LacksForFront MAX_LEVEL b c.feed.new.store) none (feeds.needed (err_again e)));
+      adds = adds-as _ lines (λ P s. whole-needs P c.args.bytes.now s);
+      room = λ e. subst (λ (b : List ℕ). c.args.store.now.limit < length base + room_for (length b)) none
+          (feeds.room (err_again e) base (λ t there. inl there));
+      keeps = feeds.keeps;
+    })
+
+pub returns-clause-reads : goal.returns-clause-reads
+returns-clause-reads c =
+    let none = ap (λ (b : List ℕ). b ++ c.args.bytes.now) c.new-reader.ensures.bytes in
+    let all = c.in_ok-feed.ensures.bytes ∙ none in
+    let feeds = c.in_ok-feed.ensures.feeds in
+    let ends = c.finish.ensures.ends in
+    let lines = subst (λ (b : List ℕ). AddsLines (whole_lines b) c.args.store.now c.feed.new.store) none feeds.adds in
+    let file = subst (λ (b : List ℕ). AddsFile b c.feed.new.store c.finish.new.store) all ends.adds in
+    let base = held c.args.store.now in
+    let front : HoldsFront base c.new-reader.result.bytes c.args.store.now = λ t there. inl there in
+    let held_front = (fronts_hold c.new-reader.result.bytes c.args.bytes.now base c.args.store.now c.feed.new.store front).0 feeds.adds in
+    let only = (fronts_hold (c.new-reader.result.bytes ++ c.args.bytes.now) [] base c.feed.new.store c.feed.new.store held_front).1 in
+    let limit = feeds.keeps.limit in
+    record {
+      needed = λ e. subst (λ (b : List ℕ). LacksFor MAX_LEVEL b c.finish.new.store) all (ends.needed e);
+      adds = adds-then _ lines file (λ P s. whole-needs P c.args.bytes.now s) (λ P a. a);
+      room = λ e.
+          let tight = ends.room e base (subst (λ (b : List ℕ). HoldsOnly base b c.feed.new.store) (sym c.in_ok-feed.ensures.bytes) only) in
+          let tight_here = subst (λ (b : List ℕ). c.feed.new.store.limit < length base + room_for (length b)) all tight in
+          omega (arith, limit, tight_here);
+      keeps = keeps-then feeds.keeps ends.keeps;
+    }

@@ -1,0 +1,35 @@
+use Rattle.std.proofs.Common.{ℕ, List, ◌++◌, subst}
+use Rattle.life_base.specs.Lines.{whole_lines}
+use Rattle.life_quad.proofs.KeepingLemmas.{adds-none}
+use Rattle.life_canon.specs.Room.{AddsLines}
+use Rattle.life_canon.proofs.RunFacts.{want-of}
+use Rattle.life_canon.proofs.runs.feed_piece.Goals as goal
+
+pub returns-in-Err-clause-want : goal.returns-in-Err-clause-want
+returns-in-Err-clause-want c =
+    want-of c.feed.new.store (c.args.reader.now.bytes ++ c.args.piece.now) c.in-Err.fault (c.in-Err.ensures.fault (c.requires c.in-None.is).0)
+    (c.ends_at_once.ensures.0 c.if-ends_at_once.true)
+
+pub returns-in-Err-clause-needed : goal.returns-in-Err-clause-needed
+returns-in-Err-clause-needed c = λ e. (c.in-None.is, c.in-Err.ensures.feeds.needed (cc))
+
+pub returns-in-Some-clause-adds : goal.returns-in-Some-clause-adds
+returns-in-Some-clause-adds c = λ bytes is. adds-none _ c.args.store.now
+
+pub returns-in-Ok-clause-adds : goal.returns-in-Ok-clause-adds
+returns-in-Ok-clause-adds c = λ bytes is. subst (λ (b : List ℕ). AddsLines (whole_lines (b ++ c.args.piece.now)) c.args.store.now c.feed.new.store)
+    (is c.in-None.is)
+    c.feed.ensures.feeds.adds
+
+pub returns-in-Err-clause-adds : goal.returns-in-Err-clause-adds
+returns-in-Err-clause-adds c = λ bytes is. subst (λ (b : List ℕ). AddsLines (whole_lines (b ++ c.args.piece.now)) c.args.store.now c.feed.new.store)
+    (is c.in-None.is)
+    c.feed.ensures.feeds.adds
+
+pub returns-in-Err-2-clause-adds : goal.returns-in-Err-2-clause-adds
+returns-in-Err-2-clause-adds c = λ bytes is. subst (λ (b : List ℕ). AddsLines (whole_lines (b ++ c.args.piece.now)) c.args.store.now c.feed.new.store)
+    (is c.in-None.is)
+    c.feed.ensures.feeds.adds
+
+pub returns-in-Err-clause-room : goal.returns-in-Err-clause-room
+returns-in-Err-clause-room c = λ e. c.in-Err.ensures.feeds.room (cc)

@@ -1,0 +1,121 @@
+use Rattle.std.proofs.Common.{rules, take}
+use Rattle.std.proofs.lemmas.Result.{err_from_is_err_and}
+use Rattle.life_quad.proofs.KeepingLemmas.{keeps-then}
+use Rattle.life_canon.specs.Running.{by_length, by_want}
+use Rattle.life_canon.proofs.RunFacts.{reading-on, reading-adds, piece-adds, piece-tight, beyond-most, ended-refused, ended-open, ended-lacks, ended-adds, ended-tight, lacks-front, refused-not-full}
+use Rattle.life_canon.proofs.Stored.{err_again}
+use Rattle.life_canon.proofs.runs.read_source.Goals as goal
+
+pub loop-reader-preserved : goal.loop-reader-preserved
+loop-reader-preserved g c = (
+  rw c.make.ensures
+      (reading-on _ _ _ _ _ _ _ _ _ _ _ _ _ c.loop-reader.invariant.0 c.in_ok-count.ensures.bytes.0 (search rules) c.in_ok-refused.ensures.going
+      c.in_ok-refused.ensures.refused c.in_ok-refused.ensures.adds),
+  search rules,
+  search rules,
+  rw c.make.ensures (keeps-then c.loop-reader.invariant.3 c.feed_piece.ensures.keeps),
+)
+
+-- the source failed
+pub returns-in_err-count : goal.returns-in_err-count
+returns-in_err-count g c =
+    record {
+      pattern = search rules;
+      works = search rules;
+      fault = search rules;
+      reads = record {
+        needed = search rules;
+        adds = reading-adds _ _ _ _ _ _ _ c.loop-reader.invariant.0;
+        room = search rules;
+        told = search rules;
+        keeps = search rules;
+      };
+    }
+
+-- too much came
+pub returns-then-total-most : goal.returns-then-total-most
+returns-then-total-most g c =
+    record {
+      pattern = tt;
+      works = tt;
+      fault = by_length c.of.ensures
+          (beyond-most _ c.loop-reader.store (g.R.Source.remaining c.args.source.now) (g.R.Source.remaining c.loop-reader.source)
+          (g.R.Source.remaining c.read.new.self)
+          c.loop-reader.total c.in_ok-count.count
+          c.args.most c.loop-reader.refused c.loop-reader.reader (take c.in_ok-count.count c.read.new.buf) c.loop-reader.invariant.0
+          c.in_ok-count.ensures.bytes.0
+          (search rules) (search rules));
+      reads = record {
+        needed = search rules;
+        adds = reading-adds _ _ _ _ _ _ _ c.loop-reader.invariant.0;
+        room = search rules;
+        told = search rules;
+        keeps = search rules;
+      };
+    }
+
+-- a piece found no room or no memory
+pub returns-in_err-refused : goal.returns-in_err-refused
+returns-in_err-refused g c =
+    let p = err_from_is_err_and c.from_residual-in_err-refused.result c.from_residual-in_err-refused.ensures.1 in
+    let piece = take c.in_ok-count.count c.read.new.buf in
+    let call = c.in_err-refused.ensures in
+    rw (p.1, p.2) (record {
+      pattern = tt;
+      works = tt;
+      fault = by_want call.want;
+      reads = record {
+        needed = λ e. lacks-front _ _ _ _ _ _ c.loop-reader.total c.in_ok-count.count c.args.most _ c.loop-reader.refused c.loop-reader.reader piece
+            c.loop-reader.invariant.0 c.in_ok-count.ensures.bytes.0 (search rules) (search rules) (call.needed (err_again e));
+        adds = piece-adds _ _ _ _ _ _ c.loop-reader.total c.in_ok-count.count c.args.most 0 c.loop-reader.refused c.loop-reader.reader piece
+            c.loop-reader.invariant.0 c.in_ok-count.ensures.bytes.0 c.feed_piece.ensures.adds;
+        room = λ e. piece-tight _ _ c.loop-reader.store _ _ _ c.loop-reader.total c.in_ok-count.count c.args.most _ c.loop-reader.refused
+            c.loop-reader.reader piece
+            c.loop-reader.invariant.0 c.in_ok-count.ensures.bytes.0 (search rules) (search rules) (call.needed (err_again e)).0
+            c.loop-reader.invariant.3.limit (call.room (err_again e));
+        told = search rules;
+        keeps = keeps-then c.loop-reader.invariant.3 c.feed_piece.ensures.keeps;
+      };
+    })
+
+-- a line was refused
+pub returns-in-Some : goal.returns-in-Some
+returns-in-Some g c =
+    record {
+      pattern = tt;
+      works = tt;
+      fault = ended-refused _ _ _ _ _ _ _ _ _ _ _ _ _ c.loop-reader.invariant.0 (search rules) (search rules) c.in_ok-count.ensures.bytes
+          c.loop-reader.invariant.2
+          c.in-Some.fault c.in-Some.is;
+      reads = record {
+        needed = λ e. absurd (refused-not-full _ _ _ _ _ _ _ c.loop-reader.invariant.0 c.in-Some.fault c.in-Some.is (cc));
+        adds = reading-adds _ _ _ _ _ _ _ c.loop-reader.invariant.0;
+        room = λ e. absurd (refused-not-full _ _ _ _ _ _ _ c.loop-reader.invariant.0 c.in-Some.fault c.in-Some.is (cc));
+        told = search rules;
+        keeps = c.loop-reader.invariant.3;
+      };
+    }
+
+-- the end of the file
+pub returns-in-None : goal.returns-in-None
+returns-in-None g c =
+    let call = c.finish.ensures in
+    record {
+      pattern = search rules;
+      works = search rules;
+      fault = ended-open _ _ _ _ _ _ _ _ _ _ _ _ _ c.loop-reader.invariant.0 (search rules) (search rules) c.in_ok-count.ensures.bytes
+          c.loop-reader.invariant.2
+          c.in-None.is _ call.fault;
+      reads = record {
+        needed = λ e. ended-lacks _ _ _ _ _ _ _ _ _ _ _ _ _ c.loop-reader.invariant.0 (search rules) (search rules) c.in_ok-count.ensures.bytes
+            c.loop-reader.invariant.2
+            c.in-None.is (call.ends.needed e);
+        adds = ended-adds _ _ _ _ _ _ _ c.loop-reader.invariant.0 c.in-None.is call.ends.adds;
+        room = λ e. ended-tight _ _ c.loop-reader.store _ _ _ _ _ _ _ _ _ _ c.loop-reader.invariant.0 (search rules) (search rules)
+            c.in_ok-count.ensures.bytes
+            c.loop-reader.invariant.2
+            c.in-None.is c.loop-reader.invariant.3.limit (call.ends.room e);
+        told = search rules;
+        keeps = keeps-then c.loop-reader.invariant.3 call.ends.keeps;
+      };
+    }

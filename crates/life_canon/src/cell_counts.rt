@@ -1,0 +1,140 @@
+//! How many node lines and cells a pattern has, counted by its node lines as they come.
+
+ghost use Rattle.std.specs.Prelude.{◌≡◌, ◌-◌, ◌<◌, ◌≤◌, ◌^◌, [], length, slice_index_or, IfOk, IfErr, refl};
+ghost use Rattle.life_base.specs.declared.kind.Kind.TheVariants.{Memory};
+ghost use Rattle.life_base.specs.Tree.{depth};
+ghost use Rattle.life_mc.specs.Macrocell.{largest_state};
+ghost use Rattle.life_mc.specs.Squares.{HasStatesUpTo, leaf_tree};
+ghost use Rattle.life_quad.specs.Cells.{population};
+ghost use Rattle.life_canon.specs.Counting.{CountsLines, line_count, number_count};
+ghost use Rattle.life_canon.specs.Listing.{listed};
+ghost use Rattle.life_canon.specs.Universe.{least_level};
+
+use crate::line_sink::LineSink;
+use crate::pattern::Pattern;
+use crate::node_walk::walk_pattern;
+use life_base::Kind;
+use life_mc::Line;
+use life_quad::{IdNumbers, SharedSquares};
+use std::alloc::Global;
+
+/// What a walk over a pattern counts.
+#[derive(Clone, Copy)]
+pub(crate) struct Counts {
+    /// Its node lines.
+    pub(crate) lines: u64,
+    /// Its cells of a state other than 0.
+    pub(crate) cells: u128,
+}
+
+/// How many live cells the rows of a leaf have.
+fn leaf_count(rows: &[u8; 8]) -> u128
+    ensures { result ≡ population (leaf_tree rows.now) }
+{
+    let north = rows[0].count_ones()
+        + rows[1].count_ones()
+        + rows[2].count_ones()
+        + rows[3].count_ones();
+    let south = rows[4].count_ones()
+        + rows[5].count_ones()
+        + rows[6].count_ones()
+        + rows[7].count_ones();
+    u128::from(north + south)
+}
+
+/// How many cells what a number stands for in a line of a level has, where the squares of the lines before have so many.
+fn number_count(counts: &[u128], level: u8, number: u64) -> u128
+    ensures { result ≡ number_count counts.now level number }
+{
+    if number == 0 {
+        return 0;
+    }
+    if level == 1 {
+        return 1;
+    }
+    match counts.get(number as usize - 1) {
+        Some(count) => *count,
+        None => 0,
+    }
+}
+
+/// How many cells the square of a line has, where the squares of the lines before have so many.
+fn line_count(counts: &[u128], line: &Line) -> u128
+    ensures { line_count counts.now line.now < 2 ^ 128
+        → result ≡ line_count counts.now line.now }
+{
+    match line {
+        Line::Leaf(rows) => leaf_count(rows),
+        Line::Quad(level, nw, ne, sw, se) => {
+            let nw = number_count(counts, *level, *nw);
+            let ne = number_count(counts, *level, *ne);
+            let sw = number_count(counts, *level, *sw);
+            let se = number_count(counts, *level, *se);
+            nw.saturating_add(ne).saturating_add(sw).saturating_add(se)
+        }
+    }
+}
+
+/// For each line that was taken, how many cells its square has.
+#[derive(Drop)]
+struct CellCounts {
+    counts: Vec<u128>,
+}
+
+impl LineSink<()> for CellCounts {
+    ghost ready = { λ _. Unit {0} };
+
+    ghost took = { λ a b lines. CountsLines a.0.counts.items b.0.counts.items lines };
+
+    ghost broke = { λ _ _ _. Unit {0} };
+
+    ghost refuses = { λ _ kind. kind ≡ Memory };
+
+    ghost begins = { λ _ _. refl };
+
+    ghost stops = { λ _ _ _ _ _ _. tt };
+
+    fn take(&mut self, _device: &mut (), line: &Line) -> Result<(), Kind> {
+        let count = line_count(&self.counts, line);
+        self.counts.push(count)?;
+        Ok(())
+    }
+}
+
+/// The count of the last line, or 0 for none.
+fn last_count(counts: &[u128]) -> u128
+    ensures { result ≡ slice_index_or counts.now (length counts.now - 1) 0 }
+{
+    match counts.last() {
+        Some(count) => *count,
+        None => 0,
+    }
+}
+
+/// The node lines of a pattern, and its cells of a state other than 0. No square has a number yet.
+pub(crate) fn count_all<S: SharedSquares>(
+    alloc: Global,
+    squares: &S,
+    pattern: &Pattern,
+    numbers: IdNumbers,
+) -> Result<Counts, Kind>
+    requires known { S.knows squares.now pattern.now.root }
+    requires level { least_level pattern.now.rule ≤ depth (S.content squares.now pattern.now.root) }
+    requires states { HasStatesUpTo (largest_state pattern.now.rule)
+        (S.content squares.now pattern.now.root) }
+    requires none { numbers.ids ≡ [] }
+    ensures lines { IfOk result (λ counts. counts.lines ≡ length
+        (listed (S.content squares.now pattern.now.root) (least_level pattern.now.rule))) }
+    ensures cells { IfOk result
+        (λ counts. counts.cells ≡ population (S.content squares.now pattern.now.root)) }
+    ensures kind { IfErr result (λ kind. kind ≡ Memory) }
+{
+    let mut list = CellCounts {
+        counts: Vec::new(alloc),
+    };
+    walk_pattern(squares, pattern, numbers, &mut list, &mut ())?;
+    Ok(Counts {
+        lines: list.counts.len() as u64,
+        cells: last_count(&list.counts),
+    })
+}

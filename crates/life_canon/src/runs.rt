@@ -1,0 +1,182 @@
+//! From a source to a sink.
+
+ghost use Rattle.std.specs.Prelude.{◌≡◌, ◌≢◌, ◌⊎◌, ◌+◌, ◌<◌, ◌≤◌, ◌^◌, ℕ, List, length, true, false, IsTrue, ◌↔◌, IfOk, IfErr, OnOk, IfSome, Some, None, Err, ◌++◌};
+ghost use Rattle.life_base.specs.DeviceRuns.{source_run, sink_run};
+ghost use Rattle.life_base.specs.Refusal.{fault_of};
+ghost use Rattle.life_canon.specs.Running.{ReadsPattern, RunsCanon};
+ghost use Rattle.life_canon.specs.Feeding.{RefusesFront, Stands};
+ghost use Rattle.life_base.specs.Lines.{whole_lines};
+ghost use Rattle.life_base.specs.Tree.{Tree};
+ghost use Rattle.life_canon.specs.Needs.{LacksForFront};
+ghost use Rattle.life_canon.specs.Room.{AddsLines, HoldsFront, room_for};
+ghost use Rattle.life_canon.specs.Store.{Keeps, IsWant};
+
+use crate::pattern::Pattern;
+use crate::piece::PIECE;
+use crate::reader::Reader;
+use crate::room::Room;
+use crate::writer::{begin_text, deliver_squares};
+use life_base::{Fault, Kind, MAX_LEVEL, Sink, Source};
+use life_quad::Shared;
+use std::alloc::Global;
+
+/// The most bytes of an input.
+const LONGEST_INPUT: u64 = 1 << 30;
+
+/// Whether a fault of this kind ends the run at once: want of room or of memory.
+fn ends_at_once(kind: Kind) -> bool
+    ensures { IsTrue result ↔ ((kind ≡ Kind.Full) ⊎ (kind ≡ Kind.Memory)) }
+{
+    matches!(kind, Kind::Full | Kind::Memory)
+}
+
+/// Feeds a piece, unless a line was refused, and answers the fault of a refused line. Want of room or of memory ends the run.
+fn feed_piece(
+    reader: &mut Reader,
+    store: &mut Shared,
+    refused: Option<Fault>,
+    piece: &[u8],
+) -> Result<Option<Fault>, Fault>
+    requires { refused ≡ None → (reader.old.spent ≡ false) × Stands store.old reader.old }
+    ensures going { IfOk result (λ next. next ≡ None → (refused ≡ None)
+        × (reader.new.spent ≡ false) × (reader.new.bytes ≡ reader.old.bytes ++ piece.now)
+        × Stands store.new reader.new) }
+    ensures refused { IfOk result (λ next. IfSome next (λ fault. (refused ≡ Some fault)
+        ⊎ ((refused ≡ None) × RefusesFront MAX_LEVEL (reader.old.bytes ++ piece.now) fault))) }
+    ensures want { IfErr result (IsWant store.new) }
+    ensures needed { result ≡ Err (fault_of Kind.Full)
+        → (refused ≡ None) × LacksForFront MAX_LEVEL (reader.old.bytes ++ piece.now) store.new }
+    ensures adds { (bytes : List ℕ) → (refused ≡ None → reader.old.bytes ≡ bytes)
+        → AddsLines (whole_lines (bytes ++ piece.now)) store.old store.new }
+    ensures room { result ≡ Err (fault_of Kind.Full) → (base : List Tree)
+        → HoldsFront base reader.old.bytes store.old
+        → store.old.limit < length base + room_for (length (reader.old.bytes ++ piece.now)) }
+    ensures keeps { Keeps store.old store.new }
+{
+    match refused {
+        Some(fault) => Ok(Some(fault)),
+        None => match reader.feed(store, piece) {
+            Ok(()) => Ok(None),
+            Err(fault) if ends_at_once(fault.kind) => Err(fault),
+            Err(fault) => Ok(Some(fault)),
+        },
+    }
+}
+
+/// Reads to the end of the input, and answers its pattern.
+fn read_source<R: Source>(
+    alloc: Global,
+    store: &mut Shared,
+    source: &mut R,
+    most: u64,
+) -> Result<Pattern, Fault>
+    requires working { R.failures source.old ≡ 0 }
+    requires bound { most ≤ 2 ^ 30 }
+    ensures { ReadsPattern most store.old store.new
+        (source_run R.remaining R.failures source.old source.new) result }
+{
+    let mut reader = Reader::new(alloc);
+    let mut room = Room::new(store, source.expected());
+    let mut refused = None;
+    let mut total = 0u64;
+    let mut piece = [0u8; PIECE];
+    loop {
+        let count = source.read(&mut piece)?;
+        if count == 0 {
+            break;
+        }
+        total += count as u64;
+        if total > most {
+            return Err(Fault::of(Kind::InputTooLong));
+        }
+        refused = feed_piece(&mut reader, store, refused, &piece[..count])?;
+        room.make(store, total);
+    }
+    match refused {
+        Some(fault) => Err(fault),
+        None => reader.finish(store),
+    }
+}
+
+/// Makes the pattern of a file of either format in the store, as `read` does of its bytes, and holds none but those of a line: it reads to
+/// the end of the input, at most 2^30 bytes and a piece, and keeps no more than 2^20 bytes of them. Of an input whose length is known it
+/// makes room for the squares beforehand.
+///
+/// # Errors
+///
+/// `ReadFault` where a read fails and `InputTooLong` where more than 2^30 bytes come, also behind a refused line; the fault of the file,
+/// once all of it was read; `Full` where the store holds its limit, and `Memory`, at once. After a fault too each Id of the store names the
+/// square that it named, and nothing stored is gone. `Full` doesn't come where the limit is `14 * length + 264` squares above those that the
+/// store holds, or more, with the length of the input.
+///
+/// What is too long stays so with more bytes behind it (`laws::lengths_stay`), and hides no fault of a line that ended in its first 2^30
+/// bytes: they alone have that fault (`laws::length_hides_no_fault`), and `Reader`, which sets no limit, tells it.
+pub fn read_from<R: Source>(
+    alloc: Global,
+    store: &mut Shared,
+    source: &mut R,
+) -> Result<Pattern, Fault>
+    requires { R.failures source.old ≡ 0 }
+    ensures { ReadsPattern (2 ^ 30) store.old store.new
+        (source_run R.remaining R.failures source.old source.new) result }
+{
+    read_source(alloc, store, source, LONGEST_INPUT)
+}
+
+/// Reads to the end of the input, then writes the canonical text of its pattern and flushes. It reads at most `most` bytes and a
+/// piece, keeps no more than 2^20 bytes of them, and writes nothing before all is read and accepted.
+///
+/// # Errors
+///
+/// `ReadFault` where a read fails and `InputTooLong` where more than `most` bytes come, also behind a refused line; the fault of the
+/// file; `Full` where the store holds its limit, and `Memory`; `WriteFault` where a write or the flush fails, or a write takes no bytes.
+/// After a `WriteFault` the sink has a front of the text, after every other fault it is as it was. The store keeps what it has in each case,
+/// and a limit of `14 * length + 264` squares more suffices for an input of this length.
+pub fn run_canon_within<R: Source, W: Sink>(
+    alloc: Global,
+    store: &mut Shared,
+    reader: &mut R,
+    writer: &mut W,
+    most: u64,
+) -> Result<(), Fault>
+    requires reads { R.failures reader.old ≡ 0 }
+    requires writes { W.failures writer.old ≡ 0 }
+    requires takes { W.stalled writer.old ≡ false }
+    requires bound { most ≤ 2 ^ 30 }
+    ensures runs { RunsCanon most store.old store.new
+        (source_run R.remaining R.failures reader.old reader.new)
+        (sink_run W.contents W.failures W.stalled writer.old writer.new) result }
+    ensures flushed { OnOk result (W.flushed writer.new ≡ true) }
+    ensures unwritten { IfErr result
+        (λ fault. fault.kind ≢ Kind.WriteFault → writer.new ≡ writer.old) }
+{
+    let pattern = read_source(alloc, store, reader, most)?;
+    let (numbers, front) = begin_text(alloc, store, &pattern)?;
+    deliver_squares(store, &pattern, numbers, front, writer)?;
+    Ok(())
+}
+
+/// Reads to the end of the input, then writes the canonical text of its pattern and flushes, as `run_canon_within` with at most 2^30
+/// bytes.
+///
+/// # Errors
+///
+/// Those of `run_canon_within`, which leave the sink and the store as there; a limit of `14 * length + 264` squares more suffices.
+pub fn run_canon<R: Source, W: Sink>(
+    alloc: Global,
+    store: &mut Shared,
+    reader: &mut R,
+    writer: &mut W,
+) -> Result<(), Fault>
+    requires reads { R.failures reader.old ≡ 0 }
+    requires writes { W.failures writer.old ≡ 0 }
+    requires takes { W.stalled writer.old ≡ false }
+    ensures runs { RunsCanon (2 ^ 30) store.old store.new
+        (source_run R.remaining R.failures reader.old reader.new)
+        (sink_run W.contents W.failures W.stalled writer.old writer.new) result }
+    ensures flushed { OnOk result (W.flushed writer.new ≡ true) }
+    ensures unwritten { IfErr result
+        (λ fault. fault.kind ≢ Kind.WriteFault → writer.new ≡ writer.old) }
+{
+    run_canon_within(alloc, store, reader, writer, LONGEST_INPUT)
+}

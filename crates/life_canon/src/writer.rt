@@ -1,0 +1,165 @@
+//! The canonical text of a pattern, without a file value between, whole or in pieces.
+
+ghost use Rattle.std.proofs.Common.{sym};
+ghost use Rattle.std.specs.Prelude.{◌≡◌, ◌++◌, ◌≤◌, [], true, flat_map, vec_capacity, OnOk, IfOk, IfErr};
+ghost use Rattle.std.proofs.lemmas.List.{append-nil};
+ghost use Rattle.life_base.specs.declared.kind.Kind.TheVariants.{Memory};
+ghost use Rattle.life_base.specs.Refusal.{fault_of};
+ghost use Rattle.life_base.specs.Writing.{WritesText, LeavesSink};
+ghost use Rattle.life_base.specs.Tree.{depth};
+ghost use Rattle.life_quad.specs.Store.{Knows};
+ghost use Rattle.life_mc.specs.Macrocell.{largest_state};
+ghost use Rattle.life_mc.specs.Squares.{HasStatesUpTo};
+ghost use Rattle.life_mc.specs.Writing.{front_text, node_text};
+ghost use Rattle.life_canon.specs.Universe.{least_level};
+ghost use Rattle.life_canon.specs.Listing.{listed, lines_for, canon_text};
+ghost use Rattle.life_canon.specs.Store.{IsTrimmed, universe_in, content};
+ghost use Rattle.life_canon.specs.Walking.{HasRoomFrom};
+
+use crate::line_sink::LineSink;
+use crate::pattern::{Pattern, least_level};
+use crate::piece::{PIECE, Piece};
+use crate::node_walk::walk_pattern;
+use life_base::{Fault, Kind, MAX_LEVEL, Rule, Sink, deliver};
+use life_mc::{Line, append_front, append_line};
+use life_quad::{IdNumbers, Shared, SharedSquares, Squares};
+use std::alloc::Global;
+
+/// How many bytes the first lines of most files have at most.
+const SHORT_FRONT: usize = 256;
+
+/// How many bytes the text of a small pattern has at most.
+const SHORT_TEXT: usize = 512;
+
+/// In a store of so many nodes at most, numbers for all of them are made at once, which takes 4 MB.
+const FEW_NODES: usize = 1 << 20;
+
+/// A whole text.
+#[derive(Drop)]
+struct Text {
+    bytes: Vec<u8>,
+}
+
+impl LineSink<()> for Text {
+    ghost ready = { λ _. Unit {0} };
+
+    ghost took = { λ a b lines. b.0.bytes.items ≡ a.0.bytes.items ++ flat_map node_text lines };
+
+    ghost broke = { λ _ _ _. Unit {0} };
+
+    ghost refuses = { λ _ kind. kind ≡ Memory };
+
+    ghost begins = { λ a. sym (append-nil a.0.bytes.items) };
+
+    ghost stops = { λ _ _ _ _ _ _. tt };
+
+    fn take(&mut self, _device: &mut (), line: &Line) -> Result<(), Kind> {
+        append_line(&mut self.bytes, line)
+    }
+}
+
+/// The canonical text of a pattern in its least square: that of `number`'s file, which is not made.
+///
+/// # Errors
+///
+/// `Memory`, at no line.
+pub fn text_of(alloc: Global, store: &Shared, pattern: &Pattern) -> Result<Vec<u8>, Fault>
+    requires { IsTrimmed store.now pattern.now }
+    ensures text { IfOk result
+        (λ text. text.items ≡ canon_text MAX_LEVEL (universe_in store.now pattern.now)) }
+    ensures memory { IfErr result (λ fault. fault ≡ fault_of Memory) }
+{
+    let mut text = Text {
+        bytes: front_with_room(alloc, pattern, SHORT_TEXT)?,
+    };
+    let numbers = begin_numbers(alloc, store, pattern)?;
+    walk_pattern(store, pattern, numbers, &mut text, &mut ())?;
+    Ok(text.bytes)
+}
+
+/// The first lines of a pattern's text. Room for so many bytes was made at once.
+fn front_with_room(alloc: Global, pattern: &Pattern, room: usize) -> Result<Vec<u8>, Kind>
+    ensures front { IfOk result
+        (λ front. front.items ≡ front_text pattern.now.rule pattern.now.generation) }
+    ensures kind { IfErr result (λ kind. kind ≡ Memory) }
+{
+    let mut front = Vec::with_capacity(alloc, room)?;
+    append_front(&mut front, &pattern.rule, pattern.generation)?;
+    Ok(front)
+}
+
+/// The same, with room for a piece behind them.
+fn begin_front(alloc: Global, pattern: &Pattern) -> Result<Vec<u8>, Kind>
+    ensures front { IfOk result
+        (λ front. front.items ≡ front_text pattern.now.rule pattern.now.generation) }
+    ensures room { IfOk result (λ front. 65536 ≤ vec_capacity front) }
+    ensures kind { IfErr result (λ kind. kind ≡ Memory) }
+{
+    let mut front = front_with_room(alloc, pattern, PIECE + SHORT_FRONT)?;
+    front.reserve(PIECE)?;
+    Ok(front)
+}
+
+/// Numbers for a walk over a pattern's squares that may be refused memory: no square has one yet. Under a B/S rule a store has room for all of its
+/// nodes at once, unless it is large, so that the pattern may be a small part of it. Under a name small squares have numbers too.
+pub(crate) fn begin_numbers(
+    alloc: Global,
+    store: &Shared,
+    pattern: &Pattern,
+) -> Result<IdNumbers, Kind>
+    ensures none { IfOk result (λ numbers. numbers.ids ≡ []) }
+    ensures kind { IfErr result (λ kind. kind ≡ Memory) }
+{
+    match pattern.rule {
+        Rule::Life(_) if store.nodes() <= FEW_NODES => IdNumbers::new(alloc, store, 3),
+        _ => Ok(IdNumbers::growing(alloc)),
+    }
+}
+
+/// What a pattern's text is written with: the numbers, of which no square has one yet, and the front, with room for a piece behind it.
+pub(crate) fn begin_text(
+    alloc: Global,
+    store: &Shared,
+    pattern: &Pattern,
+) -> Result<(IdNumbers, Vec<u8>), Kind>
+    ensures none { IfOk result (λ p. p.0.ids ≡ []) }
+    ensures bound { IfOk result (λ p. HasRoomFrom (Knows store.now) (content store.now)
+        (least_level pattern.now.rule) p.0.room) }
+    ensures front { IfOk result
+        (λ p. p.1.items ≡ front_text pattern.now.rule pattern.now.generation) }
+    ensures room { IfOk result (λ p. 65536 ≤ vec_capacity p.1) }
+    ensures kind { IfErr result (λ kind. kind ≡ Memory) }
+{
+    let numbers = IdNumbers::new(alloc, store, least_level(&pattern.rule))?;
+    let front = begin_front(alloc, pattern)?;
+    Ok((numbers, front))
+}
+
+/// Writes the front and then the lines of the squares of a pattern, in their order, and flushes, where there is room for every number. The text is
+/// gathered in the front's room, and written whenever a line may not fit. It takes no memory.
+pub(crate) fn deliver_squares<S: SharedSquares, W: Sink>(
+    squares: &S,
+    pattern: &Pattern,
+    numbers: IdNumbers,
+    front: Vec<u8>,
+    writer: &mut W,
+) -> Result<(), Kind>
+    requires known { S.knows squares.now pattern.now.root }
+    requires level { least_level pattern.now.rule ≤ depth (S.content squares.now pattern.now.root) }
+    requires states { HasStatesUpTo (largest_state pattern.now.rule)
+        (S.content squares.now pattern.now.root) }
+    requires none { numbers.ids ≡ [] }
+    requires bound { HasRoomFrom (S.knows squares.now) (S.content squares.now)
+        (least_level pattern.now.rule) numbers.room }
+    requires room { 65536 ≤ vec_capacity front }
+    requires works { W.failures writer.old ≡ 0 }
+    ensures text { WritesText (W.contents writer.old) (W.contents writer.new)
+        (front.items ++ flat_map node_text (lines_for pattern.now.rule
+        (listed (S.content squares.now pattern.now.root) (least_level pattern.now.rule)))) result }
+    ensures sink { LeavesSink W.failures W.stalled writer.old writer.new result }
+    ensures flushed { OnOk result (W.flushed writer.new ≡ true) }
+{
+    let mut piece = Piece { bytes: front };
+    walk_pattern(squares, pattern, numbers, &mut piece, writer)?;
+    deliver(writer, &piece.bytes)
+}

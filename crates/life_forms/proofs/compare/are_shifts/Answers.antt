@@ -1,0 +1,28 @@
+use Rattle.std.proofs.Common.{inr, subst}
+use Rattle.std.proofs.lemmas.Result.{err_from_is_err_and}
+use Rattle.life_quad.proofs.KeepingLemmas.{keeps-then}
+use Rattle.life_canon.specs.Universe.{Universe}
+use Rattle.life_forms.specs.Needed.{LacksForMoved}
+use Rattle.life_forms.proofs.ComparingFacts.{shifts-told, stays-same}
+use Rattle.life_forms.proofs.RefusalFacts.{fault-again}
+use Rattle.life_forms.proofs.compare.are_shifts.Goals as goal
+
+pub returns-in_err-second-clause-keeps : goal.returns-in_err-second-clause-keeps
+returns-in_err-second-clause-keeps c = keeps-then c.in_ok-first.ensures.keeps c.in_err-second.ensures.keeps
+
+pub returns-clause-keeps : goal.returns-clause-keeps
+returns-clause-keeps c = keeps-then c.in_ok-first.ensures.keeps c.in_ok-second.ensures.keeps
+
+pub returns-in_err-second-clause-needed : goal.returns-in_err-second-clause-needed
+returns-in_err-second-clause-needed c =
+    let p = err_from_is_err_and c.from_residual-in_err-second.result c.from_residual-in_err-second.ensures.1 in
+    let same = stays-same c.args.store.now c.moved_of.new.store c.args.b.now c.in_ok-first.ensures.keeps c.requires.b in
+    rw (p.1, p.2)
+    (λ e. inr (subst (λ (u : Universe). LacksForMoved u c.moved_of-2.new.store) same
+    (c.in_err-second.ensures.needed (fault-again c.in_err-second.field-0.0 e))))
+
+pub returns-clause-answer : goal.returns-clause-answer
+returns-clause-answer c =
+    shifts-told c.args.store.now c.moved_of.new.store c.moved_of-2.new.store c.args.a.now c.args.b.now c.in_ok-first.first c.in_ok-second.second
+    c.are_same.result c.in_ok-first.ensures.keeps c.in_ok-second.ensures.keeps c.requires.a c.requires.b c.in_ok-first.ensures.trimmed
+    c.in_ok-first.ensures.moved c.in_ok-second.ensures.trimmed c.in_ok-second.ensures.moved c.are_same.ensures
