@@ -12,12 +12,12 @@ pub returns-in_err-a-clause-needed : goal.returns-in_err-a-clause-needed
 returns-in_err-a-clause-needed c =
     let p = err_from_is_err_and c.from_residual.result c.from_residual.ensures.1 in
     rw (p.1, p.2) (λ e empty. (
-      inl (c.in_err-a.ensures.needed (cc)),
-      tight-first c.args.first.now c.args.second.now c.args.store.now c.read.new.store empty c.in_err-a.ensures.keeps.limit (c.in_err-a.ensures.room (cc)),
+      inl (c.in_err-a.ensures.reads.needed (cc)),
+      tight-first c.args.first.now c.args.second.now c.args.store.now c.read.new.store empty c.in_err-a.ensures.reads.keeps.limit (c.in_err-a.ensures.reads.room (cc)),
     ))
 
 pub returns-in-Ok-clause-one : goal.returns-in-Ok-clause-one
-returns-in-Ok-clause-one c = c.patterns_stay.ensures _ _ _ _ c.in-Ok.ensures.keeps c.in_ok-a.ensures.pattern
+returns-in-Ok-clause-one c = c.patterns_stay.ensures _ _ _ _ c.in-Ok.ensures.reads.keeps c.in_ok-a.ensures.pattern
 
 pub returns-in-Err-clause-fault : goal.returns-in-Err-clause-fault
 returns-in-Err-clause-fault c = elim c.in-Err.ensures.fault [
@@ -27,8 +27,8 @@ returns-in-Err-clause-fault c = elim c.in-Err.ensures.fault [
 
 pub returns-in-Err-clause-needed : goal.returns-in-Err-clause-needed
 returns-in-Err-clause-needed c = λ e empty. (
-  inr (accepted-it _ _ _ c.in_ok-a.ensures.pattern, c.in-Err.ensures.needed (cc)),
+  inr (accepted-it _ _ _ c.in_ok-a.ensures.pattern, c.in-Err.ensures.reads.needed (cc)),
   tight-second c.refusals_have_kinds.ensures c.few_squares.ensures c.room_suffices.ensures c.args.first.now c.args.second.now c.args.store.now
-      c.read.new.store c.read-2.new.store c.in-Err.fault empty c.len.ensures.distinct (λ t there. (c.len.ensures.only t there).0) c.in_ok-a.ensures.adds
-      c.in-Err.ensures.adds (c.in-Err.ensures.needed (cc)) c.in-Err.ensures.fault (cc),
+      c.read.new.store c.read-2.new.store c.in-Err.fault empty c.len.ensures.distinct (λ t there. (c.len.ensures.only t there).0) c.in_ok-a.ensures.reads.adds
+      c.in-Err.ensures.reads.adds (c.in-Err.ensures.reads.needed (cc)) c.in-Err.ensures.fault (cc),
 )

@@ -13,11 +13,11 @@ pub returns-in_err-pattern-clause-fault : goal.returns-in_err-pattern-clause-fau
 returns-in_err-pattern-clause-fault c =
     let p = err_from_is_err_and c.from_residual.result c.from_residual.ensures.1 in
     rw (p.1, p.2) (λ limit is. subst (λ (v : Piecewise). RefusesTextOf v.form limit v.bytes c.in_err-pattern.field-0.0) c.self.view_is
-    (text-fault _ limit _ c.finish.new.store c.in_err-pattern.field-0.0 (c.finish.ensures.keeps.limit ∙ ap (λ (v : Piecewise). v.room) c.self.view_is ∙ is)
+    (text-fault _ limit _ c.finish.new.store c.in_err-pattern.field-0.0 (c.finish.ensures.ends.keeps.limit ∙ ap (λ (v : Piecewise). v.room) c.self.view_is ∙ is)
     (c.in_err-pattern.ensures.fault c.self.invariant.0) (λ e. (
-      c.in_err-pattern.ensures.needed (cc),
-      tight-alone (room_for (length c.self.inside.reader.bytes)) c.self.inside.store c.finish.new.store c.finish.ensures.keeps.limit
-          (c.in_err-pattern.ensures.room (cc) []
+      c.in_err-pattern.ensures.ends.needed (cc),
+      tight-alone (room_for (length c.self.inside.reader.bytes)) c.self.inside.store c.finish.new.store c.finish.ensures.ends.keeps.limit
+          (c.in_err-pattern.ensures.ends.room (cc) []
           (c.fronts_hold.ensures c.self.inside.reader.bytes [] [] c.self.inside.store c.self.inside.store c.self.invariant.2).1),
     ))))
 
@@ -29,5 +29,5 @@ returns-clause-text c =
 pub returns-clause-fault : goal.returns-clause-fault
 returns-clause-fault c =
     IfErr-weaker c.text_of_read.result _ _ (λ fault why limit is. subst (λ (v : Piecewise). RefusesTextOf v.form limit v.bytes fault) c.self.view_is
-    (why limit c.self.inside.reader.bytes (c.finish.ensures.keeps.limit ∙ ap (λ (v : Piecewise). v.room) c.self.view_is ∙ is)
+    (why limit c.self.inside.reader.bytes (c.finish.ensures.ends.keeps.limit ∙ ap (λ (v : Piecewise). v.room) c.self.view_is ∙ is)
     c.in_ok-pattern.ensures.pattern.1)) c.text_of_read.ensures.fault
