@@ -10,8 +10,8 @@ pub returns-in_err-pattern : goal.returns-in_err-pattern
 returns-in_err-pattern g c =
     let p = err_from_is_err_and c.from_residual.result c.from_residual.ensures.1 in
     rw (p.1, p.2) (nothing_comes _ (IsShown MAX_LEVEL) (Refuses MAX_LEVEL) _ c.read_from.new.store _
-    (c.read_from.ensures.keeps.limit ∙ c.new-store.ensures.most) (λ bytes refuses. refuses)
-    c.in_err-pattern.ensures.fault (λ e. c.in_err-pattern.ensures.needed (cc)) c.in_err-pattern.ensures.told)
+    (c.read_from.ensures.reads.keeps.limit ∙ c.new-store.ensures.most) (λ bytes refuses. refuses)
+    c.in_err-pattern.ensures.fault (λ e. c.in_err-pattern.ensures.reads.needed (cc)) c.in_err-pattern.ensures.reads.told)
 
 pub five_lines_of-requires : goal.five_lines_of-requires
 five_lines_of-requires g c = (c.in_ok-pattern.ensures.pattern.bytes, c.in_ok-pattern.ensures.pattern.is)

@@ -20,11 +20,11 @@ returns-clause-refused c =
     c.next_by_rule.ensures.refused
 
 pub returns-clause-keeps : goal.returns-clause-keeps
-returns-clause-keeps c = keeps-then c.in_ok-pattern.ensures.keeps c.next_by_rule.ensures.keeps
+returns-clause-keeps c = keeps-then c.in_ok-pattern.ensures.reads.keeps c.next_by_rule.ensures.keeps
 
 pub returns-in_err-pattern-clause-needed : goal.returns-in_err-pattern-clause-needed
 returns-in_err-pattern-clause-needed c full =
-    inl (handed-on c.from_residual.result c.in_err-pattern.field-0.0 c.from_residual.ensures.1 c.in_err-pattern.ensures.needed full)
+    inl (handed-on c.from_residual.result c.in_err-pattern.field-0.0 c.from_residual.ensures.1 c.in_err-pattern.ensures.reads.needed full)
 
 pub returns-clause-needed : goal.returns-clause-needed
 returns-clause-needed c full =

@@ -15,7 +15,7 @@ pub returns-clause-stepped : goal.returns-clause-stepped
 returns-clause-stepped c = IfOk-weaker c.next_by_table.result _ _ (λ text h. h c.args.bytes.now c.in_ok-pattern.ensures.pattern) c.next_by_table.ensures.stepped
 
 pub returns-clause-keeps : goal.returns-clause-keeps
-returns-clause-keeps c = keeps-then c.in_ok-pattern.ensures.keeps c.next_by_table.ensures.keeps
+returns-clause-keeps c = keeps-then c.in_ok-pattern.ensures.reads.keeps c.next_by_table.ensures.keeps
 
 pub returns-clause-refused : goal.returns-clause-refused
 returns-clause-refused c =
@@ -24,7 +24,7 @@ returns-clause-refused c =
 
 pub returns-in_err-pattern-clause-needed : goal.returns-in_err-pattern-clause-needed
 returns-in_err-pattern-clause-needed c full =
-    inl (handed-on c.from_residual.result c.in_err-pattern.field-0.0 c.from_residual.ensures.1 c.in_err-pattern.ensures.needed full)
+    inl (handed-on c.from_residual.result c.in_err-pattern.field-0.0 c.from_residual.ensures.1 c.in_err-pattern.ensures.reads.needed full)
 
 pub returns-clause-needed : goal.returns-clause-needed
 returns-clause-needed c full =
