@@ -1,7 +1,9 @@
 -- What the counting of cells by node lines needs.
-use Rattle.std.proofs.Common.{◌≡◌, ℕ, suc, ◌+◌, ◌-◌, ◌/◌, ◌%◌, ◌^◌, ◌<◌, ◌≤◌, true, false, List, [], ◌∷◌, ◌++◌, length, map, get_or, refl, ap, sym, ◌∙◌, subst, arith, length-append, inl, inr}
+use Rattle.std.proofs.Common.{◌≡◌, ℕ, suc, ◌+◌, ◌-◌, ◌*◌, ◌/◌, ◌%◌, ◌^◌, ◌<◌, ◌≤◌, true, false, List, [], ◌∷◌, ◌++◌, length, map, get_or, refl, ap, sym, ◌∙◌, subst, arith, length-append, inl, inr}
 use Rattle.std.specs.Prelude.{◌==◌, All, slice_index, slice_index_or}
+use Rattle.std.specs.Int.{from_be_bytes, w64}
 use Rattle.std.specs.Int.Count.{ones}
+use Rattle.std.proofs.lemmas.Nat.{ones_cat}
 use Rattle.std.proofs.lemmas.Bool.Decides.{nat_tests}
 use Rattle.std.proofs.lemmas.List.{append_assoc, append-nil, get_or-map, get_or_append_left, length-map, map-append}
 use Rattle.std.proofs.Math.Nat.{pow-le-pow_right}
@@ -65,7 +67,7 @@ joined : (p q s u w0 w1 w2 w3 w4 w5 w6 w7 e0 e1 e2 e3 e4 e5 e6 e7 o0 o1 o2 o3 o4
 joined p q s u w0 w1 w2 w3 w4 w5 w6 w7 e0 e1 e2 e3 e4 e5 e6 e7 o0 o1 o2 o3 o4 o5 o6 o7 f g h i b0 b1 b2 b3 b4 b5 b6 b7 = omega arith
 
 -- its cells are the ones of its rows
-pub leaf-ones : (rows : List ℕ) → ((y : ℕ) → slice_index rows y < 256)
+leaf-ones : (rows : List ℕ) → ((y : ℕ) → slice_index rows y < 256)
     → population (leaf_tree rows) ≡ (ones (slice_index rows 0) + ones (slice_index rows 1) + ones (slice_index rows 2) + ones (slice_index rows 3))
     + (ones (slice_index rows 4) + ones (slice_index rows 5) + ones (slice_index rows 6) + ones (slice_index rows 7))
 unfolding west east
@@ -82,6 +84,40 @@ leaf-ones rows small =
     (east (r 0)) (east (r 1)) (east (r 2)) (east (r 3)) (east (r 4)) (east (r 5)) (east (r 6)) (east (r 7))
     (ones (r 0)) (ones (r 1)) (ones (r 2)) (ones (r 3)) (ones (r 4)) (ones (r 5)) (ones (r 6)) (ones (r 7)) nw ne sw se
     (b 0) (b 1) (b 2) (b 3) (b 4) (b 5) (b 6) (b 7)
+
+module _ (b0 b1 b2 b3 b4 b5 b6 b7 : ℕ) (s1 : b1 < 256) (s2 : b2 < 256) (s3 : b3 < 256) (s4 : b4 < 256) (s5 : b5 < 256) (s6 : b6 < 256)
+    (s7 : b7 < 256) where
+  -- the ones of eight bytes as a number
+  eight-ones : (n : ℕ) → n ≡ ((((((b0 * 256 + b1) * 256 + b2) * 256 + b3) * 256 + b4) * 256 + b5) * 256 + b6) * 256 + b7
+      → ones n ≡ (ones b0 + ones b1 + ones b2 + ones b3) + (ones b4 + ones b5 + ones b6 + ones b7)
+  eight-ones n e =
+      let n1 = b0 * 256 + b1 in
+      let n2 = n1 * 256 + b2 in
+      let n3 = n2 * 256 + b3 in
+      let n4 = n3 * 256 + b4 in
+      let n5 = n4 * 256 + b5 in
+      let n6 = n5 * 256 + b6 in
+      let o1 : ones n1 ≡ ones b0 + ones b1 = ones_cat 8 b0 b1 s1 in
+      let o2 : ones n2 ≡ ones n1 + ones b2 = ones_cat 8 n1 b2 s2 in
+      let o3 : ones n3 ≡ ones n2 + ones b3 = ones_cat 8 n2 b3 s3 in
+      let o4 : ones n4 ≡ ones n3 + ones b4 = ones_cat 8 n3 b4 s4 in
+      let o5 : ones n5 ≡ ones n4 + ones b5 = ones_cat 8 n4 b5 s5 in
+      let o6 : ones n6 ≡ ones n5 + ones b6 = ones_cat 8 n5 b6 s6 in
+      let o7 : ones (n6 * 256 + b7) ≡ ones n6 + ones b7 = ones_cat 8 n6 b7 s7 in
+      ap ones e ∙ o7 ∙ added (ones n1) (ones n2) (ones n3) (ones n4) (ones n5) (ones n6) (ones b0) (ones b1) (ones b2) (ones b3)
+      (ones b4) (ones b5) (ones b6) (ones b7) o1 o2 o3 o4 o5 o6
+    where
+      added : (m1 m2 m3 m4 m5 m6 c0 c1 c2 c3 c4 c5 c6 c7 : ℕ) → m1 ≡ c0 + c1 → m2 ≡ m1 + c2 → m3 ≡ m2 + c3 → m4 ≡ m3 + c4 → m5 ≡ m4 + c5 → m6 ≡ m5 + c6
+          → m6 + c7 ≡ (c0 + c1 + c2 + c3) + (c4 + c5 + c6 + c7)
+      added m1 m2 m3 m4 m5 m6 c0 c1 c2 c3 c4 c5 c6 c7 p1 p2 p3 p4 p5 p6 = omega (arith, p1, p2, p3, p4, p5, p6)
+
+-- so are those of its rows as one number
+pub leaf-count : (rows : List ℕ) → ((y : ℕ) → slice_index rows y < 256) → population (leaf_tree rows) ≡ ones (from_be_bytes w64 rows)
+leaf-count rows small =
+    let r : ℕ → ℕ = slice_index rows in
+    leaf-ones rows small
+    ∙ sym (eight-ones (r 0) (r 1) (r 2) (r 3) (r 4) (r 5) (r 6) (r 7) (small 1) (small 2) (small 3) (small 4) (small 5) (small 6) (small 7)
+    (from_be_bytes w64 rows) (omega arith))
 
 -- ---- a line behind others
 

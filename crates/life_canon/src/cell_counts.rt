@@ -28,18 +28,11 @@ pub(crate) struct Counts {
 }
 
 /// How many live cells the rows of a leaf have.
+#[inline(always)]
 fn leaf_count(rows: &[u8; 8]) -> u128
     ensures { result ≡ population (leaf_tree rows.now) }
 {
-    let north = rows[0].count_ones()
-        + rows[1].count_ones()
-        + rows[2].count_ones()
-        + rows[3].count_ones();
-    let south = rows[4].count_ones()
-        + rows[5].count_ones()
-        + rows[6].count_ones()
-        + rows[7].count_ones();
-    u128::from(north + south)
+    u128::from(u64::from_be_bytes(*rows).count_ones())
 }
 
 /// How many cells what a number stands for in a line of a level has, where the squares of the lines before have so many.
@@ -59,6 +52,7 @@ fn number_count(counts: &[u128], level: u8, number: u64) -> u128
 }
 
 /// How many cells the square of a line has, where the squares of the lines before have so many.
+#[inline(always)]
 fn line_count(counts: &[u128], line: &Line) -> u128
     ensures { line_count counts.now line.now < 2 ^ 128
         → result ≡ line_count counts.now line.now }
@@ -94,6 +88,7 @@ impl LineSink<()> for CellCounts {
 
     ghost stops = { λ _ _ _ _ _ _. tt };
 
+    #[inline(always)]
     fn take(&mut self, _device: &mut (), line: &Line) -> Result<(), Kind> {
         let count = line_count(&self.counts, line);
         self.counts.push(count)?;
