@@ -18,8 +18,10 @@ use Rattle.life_sweep.specs.Generation.{next_life, AnswersAt, TableAnswers}
 use Rattle.life_sweep.specs.Refused.{IfElse, HasStateFrom, fault_on, SomeNext}
 use Rattle.life_sweep.specs.Rows.{Precedes}
 use Rattle.life_block.specs.Needed.{SomeOfNext, level_behind}
-use Rattle.life_canon.specs.Files.{Reads}
+use Rattle.life_canon.specs.Files.{Reads, Refuses}
 use Rattle.life_canon.specs.Needs.{IsNew, LacksFor}
+use Rattle.life_canon.specs.Store.{ForEachFile, IsWant}
+use Rattle.life_canon.specs.declared.pattern.Pattern.{Pattern}
 use Rattle.life_canon.specs.Texts.{AreCellsOf}
 use Rattle.life_canon.specs.Universe.{Universe, IsWithin, least_level, whole}
 
@@ -72,6 +74,16 @@ RuleRefusal top (Life rule) u refusal =
 
 abbrev pub LifeRefusal : ℕ → Universe → Option Fault → Type 0
 LifeRefusal top u refusal = RuleRefusal top u.rule u refusal
+
+-- why the step of a pattern in a store is refused, in the words in which the refusal of what it says is told
+abbrev pub RefusesPattern : (Universe → Option Fault → Type 0) → Pattern → (old new : Nodes) → Fault → Type 0
+RefusesPattern Refusal pattern old new fault =
+    IsWant new fault ⊎ ForEachFile old pattern (λ bytes. (u : Universe) × Reads MAX_LEVEL bytes u × Refusal u (Some fault))
+
+-- why the step of the pattern of a file is refused
+abbrev pub RefusesFile : (Universe → Option Fault → Type 0) → List ℕ → Nodes → Fault → Type 0
+RefusesFile Refusal bytes store fault =
+    Refuses MAX_LEVEL bytes fault ⊎ (IsWant store fault ⊎ ((u : Universe) × Reads MAX_LEVEL bytes u × Refusal u (Some fault)))
 
 -- the square of this level with these cells is trimmed to a smaller one, which has a property
 pub record SomeOfRoot (P : Tree → Type 0) (cell : ℤ → ℤ → ℕ) (level least : ℕ) : Type 0 where

@@ -1,18 +1,6 @@
 //! The steps of the pattern in a file.
 
-ghost use Rattle.std.specs.Prelude.{◌≡◌, ◌≢◌, ◌⊎◌, ◌+◌, ◌^◌, ◌-◌, ◌<◌, ◌≤◌, ◌↔◌, ℕ, ℤ, List, Some, None, Err, IfOk, IfErr, OnOk, IsTrue};
-ghost use Rattle.life_base.specs.Refusal.{fault_of};
-ghost use Rattle.life_base.specs.Rules.{IsRule};
-ghost use Rattle.life_base.specs.Tree.{depth, tree_cell};
-ghost use Rattle.life_base.specs.declared.rule.Rule.TheVariants.{Named as NamedRule};
-ghost use Rattle.life_canon.specs.Files.{Reads, Refuses};
-ghost use Rattle.life_canon.specs.Needs.{IsNew};
-ghost use Rattle.life_canon.specs.Store.{Keeps, IsKnown, IsOfFile, IsRead, IsWant, content};
-ghost use Rattle.life_canon.specs.Universe.{Universe, IsSame, least_level, square_universe};
-ghost use Rattle.life_mc.specs.Macrocell.{largest_state};
-ghost use Rattle.life_quad.specs.Refused.{TrimmedTo};
-ghost use Rattle.life_step.specs.Refusals.{LacksForLife, LacksForStep, LacksForStepBy, LacksForTable, LifeRefusal, TableRefusal};
-ghost use Rattle.life_step.specs.Stepped.{IsStepped, IsSteppedBy, IsTextOf};
+ghost use Rattle.life_step.specs.Words.{◌≡◌, ◌≢◌, ◌+◌, ◌^◌, ◌-◌, ◌≤◌, ◌↔◌, ℤ, Err, IfOk, IfErr, OnOk, IsTrue, fault_of, IsRule, depth, tree_cell, NamedRule, IsNew, ForEachFile, Keeps, IsKnown, IsOfFile, IsWant, content, IsSame, least_level, square_universe, largest_state, TrimmedTo, LacksForLife, LacksForStep, LacksForStepBy, LacksForTable, LifeRefusal, RefusesFile, RefusesPattern, TableRefusal, IsStepped, IsSteppedBy, IsTextOf};
 
 use life_base::{Fault, Kind, MAX_LEVEL, Rule};
 use life_block::next_life_generation;
@@ -87,11 +75,10 @@ fn text_of_square(
 /// named, so a caller that goes on with the pattern keeps its root and its generation, and a copy of its rule.
 pub fn next_by_rule(alloc: Global, store: &mut Shared, pattern: Pattern) -> Result<Vec<u8>, Fault>
     requires { IsOfFile MAX_LEVEL store.old pattern }
-    ensures stepped { IfOk result (λ text. (bytes : List ℕ)
-        → IsRead MAX_LEVEL bytes store.old pattern → IsStepped bytes text.items) }
-    ensures refused { IfErr result (λ fault. IsWant store.new fault
-        ⊎ ((bytes : List ℕ) → IsRead MAX_LEVEL bytes store.old pattern
-        → (u : Universe) × Reads MAX_LEVEL bytes u × LifeRefusal MAX_LEVEL u (Some fault))) }
+    ensures stepped { IfOk result
+        (λ text. ForEachFile store.old pattern (λ bytes. IsStepped bytes text.items)) }
+    ensures refused { IfErr result
+        (RefusesPattern (LifeRefusal MAX_LEVEL) pattern store.old store.new) }
     ensures needed { result ≡ Err (fault_of Kind.Full)
         → LacksForLife pattern.rule (content store.old pattern.root) store.new }
     ensures keeps { Keeps store.old store.new }
@@ -117,9 +104,7 @@ pub fn next_by_rule(alloc: Global, store: &mut Shared, pattern: Pattern) -> Resu
 /// names the square that it named, and nothing stored is gone.
 pub fn step_life(alloc: Global, store: &mut Shared, bytes: &[u8]) -> Result<Vec<u8>, Fault>
     ensures stepped { IfOk result (λ text. IsStepped bytes.now text.items) }
-    ensures refused { IfErr result (λ fault. Refuses MAX_LEVEL bytes.now fault
-        ⊎ (IsWant store.new fault
-        ⊎ ((u : Universe) × Reads MAX_LEVEL bytes.now u × LifeRefusal MAX_LEVEL u (Some fault)))) }
+    ensures refused { IfErr result (RefusesFile (LifeRefusal MAX_LEVEL) bytes.now store.new) }
     ensures needed { result ≡ Err (fault_of Kind.Full) → LacksForStep bytes.now store.new }
     ensures keeps { Keeps store.old store.new }
 {
@@ -139,12 +124,10 @@ pub fn next_by_table(
     table: &Table,
 ) -> Result<Vec<u8>, Fault>
     requires { IsOfFile MAX_LEVEL store.old pattern }
-    ensures stepped { IfOk result (λ text. (bytes : List ℕ)
-        → IsRead MAX_LEVEL bytes store.old pattern → IsSteppedBy table.now bytes text.items) }
-    ensures refused { IfErr result (λ fault. IsWant store.new fault
-        ⊎ ((bytes : List ℕ) → IsRead MAX_LEVEL bytes store.old pattern
-        → (u : Universe) × Reads MAX_LEVEL bytes u
-        × TableRefusal MAX_LEVEL table.now u (Some fault))) }
+    ensures stepped { IfOk result
+        (λ text. ForEachFile store.old pattern (λ bytes. IsSteppedBy table.now bytes text.items)) }
+    ensures refused { IfErr result
+        (RefusesPattern (TableRefusal MAX_LEVEL table.now) pattern store.old store.new) }
     ensures needed { result ≡ Err (fault_of Kind.Full)
         → LacksForTable table.now pattern.rule (content store.old pattern.root) store.new }
     ensures keeps { Keeps store.old store.new }
@@ -179,9 +162,8 @@ pub fn step_table(
     table: &Table,
 ) -> Result<Vec<u8>, Fault>
     ensures stepped { IfOk result (λ text. IsSteppedBy table.now bytes.now text.items) }
-    ensures refused { IfErr result (λ fault. Refuses MAX_LEVEL bytes.now fault
-        ⊎ (IsWant store.new fault ⊎ ((u : Universe) × Reads MAX_LEVEL bytes.now u
-        × TableRefusal MAX_LEVEL table.now u (Some fault)))) }
+    ensures refused { IfErr result
+        (RefusesFile (TableRefusal MAX_LEVEL table.now) bytes.now store.new) }
     ensures needed { result ≡ Err (fault_of Kind.Full)
         → LacksForStepBy table.now bytes.now store.new }
     ensures keeps { Keeps store.old store.new }
