@@ -64,8 +64,9 @@ pub fn outputs_of_two_runs<A: Source, B: Source, O: Sink, E: Sink>(
 ) -> (u8, u8)
     requires given { IsGiven job.now (A.failures first.old) B.failures second.old
         (O.failures out.old) (O.stalled out.old) (E.failures err.old) (E.stalled err.old) }
-    requires other_given { IsGiven other_job.now (A.failures other_first.old) B.failures other_second.old
-        (O.failures other_out.old) (O.stalled other_out.old) (E.failures other_err.old) (E.stalled other_err.old) }
+    requires other_given { IsGiven other_job.now (A.failures other_first.old) B.failures
+        other_second.old (O.failures other_out.old) (O.stalled other_out.old)
+        (E.failures other_err.old) (E.stalled other_err.old) }
     ensures equal { (held kept : List ℕ) → O.contents out.old ≡ Some held
         → O.contents other_out.old ≡ Some kept → result.0 < 2 → result.1 < 2
         → WritesCanonical job.now → WritesCanonical other_job.now

@@ -23,6 +23,8 @@ pub returns : goal.returns
 returns g c =
     comes_of_pattern _ (IsSteppedBy c.args.table.now) (RefusesStepBy c.args.table.now) _ c.read_from.new.store c.in_ok-pattern.pattern c.next_by_table.result
     c.in_ok-pattern.ensures.pattern c.in_ok-pattern.ensures.works c.next_by_table.ensures.stepped
-    (refused_step (LacksForTable c.args.table.now) (λ bytes fault. (u : Universe) × Reads MAX_LEVEL bytes u × TableRefusal MAX_LEVEL c.args.table.now u (Some fault)) _ c.read_from.new.store
+    (refused_step (LacksForTable c.args.table.now)
+    (λ bytes fault. (u : Universe) × Reads MAX_LEVEL bytes u × TableRefusal MAX_LEVEL c.args.table.now u (Some fault)) _ c.read_from.new.store
     c.next_by_table.new.store c.in_ok-pattern.pattern c.next_by_table.result c.in_ok-pattern.ensures.pattern
-    (c.next_by_table.ensures.keeps.limit ∙ c.read_from.ensures.reads.keeps.limit ∙ c.new-store.ensures.most) c.next_by_table.ensures.refused c.next_by_table.ensures.needed)
+    (c.next_by_table.ensures.keeps.limit ∙ c.read_from.ensures.reads.keeps.limit ∙ c.new-store.ensures.most)
+    c.next_by_table.ensures.refused c.next_by_table.ensures.needed)

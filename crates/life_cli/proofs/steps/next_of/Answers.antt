@@ -25,4 +25,5 @@ returns g c =
     c.in_ok-pattern.ensures.pattern c.in_ok-pattern.ensures.works c.next_by_rule.ensures.stepped
     (refused_step LacksForLife (λ bytes fault. (u : Universe) × Reads MAX_LEVEL bytes u × LifeRefusal MAX_LEVEL u (Some fault)) _ c.read_from.new.store
     c.next_by_rule.new.store c.in_ok-pattern.pattern c.next_by_rule.result c.in_ok-pattern.ensures.pattern
-    (c.next_by_rule.ensures.keeps.limit ∙ c.read_from.ensures.reads.keeps.limit ∙ c.new-store.ensures.most) c.next_by_rule.ensures.refused c.next_by_rule.ensures.needed)
+    (c.next_by_rule.ensures.keeps.limit ∙ c.read_from.ensures.reads.keeps.limit ∙ c.new-store.ensures.most)
+    c.next_by_rule.ensures.refused c.next_by_rule.ensures.needed)
