@@ -7,8 +7,8 @@ ghost use Rattle.library_calls.specs.InForm.{form_numbered, IsTextInForm, IsKeyI
 
 use crate::pattern_form::PatternForm;
 use crate::session::Form;
-use crate::told::{Told, give, refuse};
 use crate::texts::{answer, text_of_file};
+use crate::told::{Told, give, refuse};
 use sha2::{Digest, Sha256};
 use std::alloc::Global;
 

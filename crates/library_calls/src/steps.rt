@@ -6,8 +6,8 @@ ghost use Rattle.library_calls.specs.Stepping.{RefusesStepByWithin, RefusesStepW
 
 use crate::seeds::seed_of_names;
 use crate::session::{Form, store_of};
-use crate::told::{Told, refuse, tell};
 use crate::texts::answer;
+use crate::told::{Told, refuse, tell};
 use life_step::step_table;
 use life_table::{Table, read_table};
 use std::alloc::Global;

@@ -20,7 +20,7 @@ use Rattle.life_quad.specs.Cells.{population}
 use Rattle.life_quad.proofs.CountLemmas.{population-blank, population-small}
 use Rattle.life_canon.specs.Closed.{Quarters, IsBefore}
 use Rattle.life_canon.specs.Counting.{number_count, line_count, line_counts, CountsLines}
-use Rattle.life_canon.specs.Listing.{is_small, listed, line_of, lines_for, number_of, place, walk, with_all}
+use Rattle.life_canon.specs.Listing.{is_small, listed, line_of, lines_for, number_of, place, rows_of, walk, with_all}
 use Rattle.life_canon.specs.Universe.{least_level}
 use Rattle.life_canon.proofs.Content.{leaf_case, quad_case, line_cases, line_of-leaf, line_of-quad, not_small, number-blank, number-place, point-big, is_in-at, big-level, least-one}
 use Rattle.life_canon.proofs.Leaves.{leaf_tree-is}
@@ -118,6 +118,11 @@ leaf-count rows small =
     leaf-ones rows small
     ∙ sym (eight-ones (r 0) (r 1) (r 2) (r 3) (r 4) (r 5) (r 6) (r 7) (small 1) (small 2) (small 3) (small 4) (small 5) (small 6) (small 7)
     (from_be_bytes w64 rows) (omega arith))
+
+-- those of the square of a leaf line are those of its rows
+pub leaf-cells : (t : Tree) (n : ℕ) → IsFull t → depth t ≡ 3 → HasStatesUpTo 1 t → n ≡ population t → n ≡ population (leaf_tree (rows_of t))
+leaf-cells t n full deep states is =
+    is ∙ ap population (sym (leaf_tree-is (subst (λ k. HasDepth k t) deep (full-depth t full)) (states-below 1 t states)))
 
 -- ---- a line behind others
 

@@ -34,7 +34,8 @@ no-room {r = Ok x} told e = absurd (cc)
 no-room {r = Err x} told e = let is : x ≡ fault_of Full = cc in apart told is
 
 -- nor are too many cells
-pub not-stored : {A : Type 0} (P : Type 0) {r : Result A Fault} → IfErr r (λ e. (e ≡ fault_of Memory) ⊎ ((e ≡ fault_of TooManyCells) × P)) → r ≡ Err (fault_of Full) → ⊥
+pub not-stored : {A : Type 0} (P : Type 0) {r : Result A Fault} → IfErr r (λ e. (e ≡ fault_of Memory) ⊎ ((e ≡ fault_of TooManyCells) × P))
+    → r ≡ Err (fault_of Full) → ⊥
 not-stored P {r = Ok x} told e = absurd (cc)
 not-stored P {r = Err x} (inl memory) e = let is : x ≡ fault_of Full = cc in apart memory is
 not-stored P {r = Err x} (inr many) e = let is : x ≡ fault_of Full = cc in kinds (ap (λ (f : Fault). f.kind) (sym many.0 ∙ is))
@@ -76,7 +77,8 @@ module _ {A B : Type 0} {old new : Nodes} where
   pub reads-err : {bytes : List ℕ} {e : Fault} → ReadsInto {A = A} bytes old new (Err e) → ReadsInto {A = B} bytes old new (Err e)
   reads-err call = record { needed = λ h. call.needed (err_again h); adds = call.adds; room = λ h. call.room (err_again h); keeps = call.keeps }
 
-  pub source-err : {most : ℕ} {source : SourceRun} {e : Fault} → ReadsSource {A = A} most old new source (Err e) → ReadsSource {A = B} most old new source (Err e)
+  pub source-err : {most : ℕ} {source : SourceRun} {e : Fault} → ReadsSource {A = A} most old new source (Err e)
+      → ReadsSource {A = B} most old new source (Err e)
   source-err call =
       record {
         needed = λ h. call.needed (err_again h);

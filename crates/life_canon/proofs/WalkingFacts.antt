@@ -400,7 +400,8 @@ module _ {A : Type 0} (took broke : A → A → List Line → Type 0) (rule : Ru
         let n : new ≡ all = p ∙ ap (λ l. with_all l (walk root (least_level rule))) none in
         subst (λ l. took a b (map (line_of rule all) l)) n (w a all [] (sym n ∙ sym (append-nil new)) (begun-none all))
 
-    pub whole-broken : BreaksIn took broke rule a b old (with_all old (walk root (least_level rule))) → broke a b (lines_for rule (listed root (least_level rule)))
+    pub whole-broken : BreaksIn took broke rule a b old (with_all old (walk root (least_level rule)))
+        → broke a b (lines_for rule (listed root (least_level rule)))
     unfolding listed
     whole-broken w =
         let all = with_all [] (walk root (least_level rule)) in

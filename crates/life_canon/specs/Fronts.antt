@@ -26,8 +26,8 @@ pub record HasLine (line : List ℕ) (store : Nodes) (before : Progress) (ended 
   pub count : now_ended ≡ min (ended + 1) (2 ^ 64 - 1)
 
 -- a call that takes a line, by what it changes of a front
-pub record TakesLineOf {A : Type 0} (line : List ℕ) (old new : Nodes) (before : Progress) (ended : ℕ) (after : Progress) (now_ended : ℕ) (result : Result A Fault)
-    : Type 0 where
+pub record TakesLineOf {A : Type 0} (line : List ℕ) (old new : Nodes) (before : Progress) (ended : ℕ) (after : Progress) (now_ended : ℕ)
+    (result : Result A Fault) : Type 0 where
   pub line_taken : OnOk result (HasLine line new before ended after now_ended)
   pub fault : IfErr result (λ fault. IsWant new fault ⊎ IsLineFault MAX_LEVEL (taken before) line ended fault)
   pub stores : StoresLines (taken before ++ line ∷ []) old new result

@@ -11,11 +11,11 @@ ghost use Rattle.life_canon.specs.Listing.{listed};
 ghost use Rattle.life_canon.specs.Universe.{least_level};
 
 use crate::line_sink::LineSink;
-use crate::pattern::Pattern;
 use crate::node_walk::walk_pattern;
+use crate::pattern::Pattern;
 use life_base::Kind;
 use life_mc::Line;
-use life_quad::{IdNumbers, SharedSquares};
+use life_quad::{Id, IdNumbers, SharedSquares, Squares, leaf_population};
 use std::alloc::Global;
 
 /// What a walk over a pattern counts.
@@ -91,6 +91,13 @@ impl LineSink<()> for CellCounts {
     #[inline(always)]
     fn take(&mut self, _device: &mut (), line: &Line) -> Result<(), Kind> {
         let count = line_count(&self.counts, line);
+        self.counts.push(count)?;
+        Ok(())
+    }
+
+    #[inline(always)]
+    fn take_leaf<S: Squares>(&mut self, _device: &mut (), squares: &S, id: Id) -> Result<(), Kind> {
+        let count = leaf_population(squares, 3, id);
         self.counts.push(count)?;
         Ok(())
     }

@@ -5,8 +5,8 @@ ghost use Rattle.life_canon.specs.Calls.{ReadsBothInto};
 ghost use Rattle.life_canon.specs.Files.{Accepted, Same, Refuses};
 ghost use Rattle.life_canon.specs.Store.{IsWant};
 
-use crate::pattern::Pattern;
 use crate::files::read;
+use crate::pattern::Pattern;
 use life_base::{Fault, MAX_LEVEL};
 use life_quad::Shared;
 use std::alloc::Global;

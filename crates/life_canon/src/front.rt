@@ -14,8 +14,8 @@ ghost use Rattle.life_canon.specs.Needs.{SomeOfLines};
 ghost use Rattle.life_canon.specs.Store.{IsKnown, IsRead, IsWant, RefusesIn, content};
 ghost use Rattle.life_canon.specs.Taking.{IsEnd, IsFrontOf, IsOpen, IsOver, StandsFor, bytes_of};
 
-use crate::progress::Progress;
 use crate::pattern::Pattern;
+use crate::progress::Progress;
 use life_base::{Fault, Kind, LineLog, MAX_LEVEL, append, line_end, line_fits};
 use life_quad::Shared;
 use std::alloc::Global;

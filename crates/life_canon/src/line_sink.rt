@@ -3,10 +3,16 @@
 ghost use Rattle.std.specs.Prelude.{◌≡◌, [], List, OnOk, OnErr, IfErr};
 ghost use Rattle.life_base.specs.declared.kind.Kind.{Kind as KindValue};
 ghost use Rattle.life_mc.specs.declared.line.Line.{Line as LineValue};
+ghost use Rattle.life_mc.specs.declared.line.Line.TheVariants.{Leaf};
+ghost use Rattle.life_mc.specs.Squares.{HasStatesUpTo};
+ghost use Rattle.life_base.specs.Tree.{depth};
+ghost use Rattle.life_canon.specs.Listing.{rows_of};
 ghost use Rattle.life_canon.specs.Walking.{TakesLine, BreaksOff};
 
+use crate::leaf_rows::eight_rows;
 use life_base::Kind;
 use life_mc::Line;
+use life_quad::{Id, Squares};
 
 /// What takes node lines one after another, and a device that it may empty itself into. Contracts speak of both together.
 pub(crate) trait LineSink<D> {
@@ -31,6 +37,23 @@ pub(crate) trait LineSink<D> {
         ensures broke { OnErr result
             (BreaksOff took broke (self.old, device.old) (self.new, device.new)) }
         ensures kind { IfErr result (refuses (self.new, device.new)) };
+
+    /// The same of the leaf line of a square of level 3. A sink that asks for less than its rows may be faster.
+    #[inline(always)]
+    fn take_leaf<S: Squares>(&mut self, device: &mut D, squares: &S, id: Id) -> Result<(), Kind>
+        requires ready { ready (self.old, device.old) }
+        requires known { S.knows squares.now id }
+        requires level { depth (S.content squares.now id) ≡ 3 }
+        requires states { HasStatesUpTo 1 (S.content squares.now id) }
+        ensures ready { OnOk result (ready (self.new, device.new)) }
+        ensures took { OnOk result (TakesLine took (self.old, device.old) (self.new, device.new)
+            (Leaf (rows_of (S.content squares.now id)))) }
+        ensures broke { OnErr result
+            (BreaksOff took broke (self.old, device.old) (self.new, device.new)) }
+        ensures kind { IfErr result (refuses (self.new, device.new)) }
+    {
+        self.take(device, &Line::Leaf(eight_rows(squares, id)))
+    }
 
     // At first it took nothing.
     ghost begins: { (a : Self × D) → took a a [] };

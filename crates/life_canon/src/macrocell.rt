@@ -15,8 +15,8 @@ ghost use Rattle.life_canon.specs.Least.{IsLeast};
 ghost use Rattle.life_canon.specs.Store.{IsTrimmed, universe_in};
 
 use crate::line_sink::LineSink;
-use crate::pattern::Pattern;
 use crate::node_walk::walk_pattern;
+use crate::pattern::Pattern;
 use crate::writer::begin_numbers;
 use life_base::{Fault, Items, Kind, MAX_LEVEL};
 use life_mc::{Line, McFile};

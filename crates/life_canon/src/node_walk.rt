@@ -5,27 +5,15 @@ ghost use Rattle.life_base.specs.declared.kind.Kind.TheVariants.{Memory};
 ghost use Rattle.life_base.specs.Tree.{depth, is_blank_tree};
 ghost use Rattle.life_mc.specs.Macrocell.{largest_state};
 ghost use Rattle.life_mc.specs.Squares.{HasStatesUpTo};
-ghost use Rattle.life_mc.specs.declared.line.Line.TheVariants.{Leaf};
 ghost use Rattle.life_canon.specs.Universe.{is_life, least_level};
-ghost use Rattle.life_canon.specs.Listing.{is_small, is_in, number_of, rows_of, listed, lines_for};
+ghost use Rattle.life_canon.specs.Listing.{is_small, is_in, number_of, listed, lines_for};
 ghost use Rattle.life_canon.specs.Walking.{MayWalk, Walked, LacksRoom};
 
-use crate::leaf_rows::eight_rows;
 use crate::line_sink::LineSink;
 use crate::pattern::Pattern;
 use life_base::{Kind, Rule};
 use life_mc::Line;
 use life_quad::{Id, IdNumbers, Quarters, SharedSquares, Squares, divide, is_blank_at};
-
-/// The leaf of a square of level 3.
-fn leaf<S: Squares>(squares: &S, id: Id) -> Line
-    requires known { S.knows squares.now id }
-    requires level { depth (S.content squares.now id) ≡ 3 }
-    requires states { HasStatesUpTo 1 (S.content squares.now id) }
-    ensures { result ≡ Leaf (rows_of (S.content squares.now id)) }
-{
-    Line::Leaf(eight_rows(squares, id))
-}
 
 /// Whether a square of a level is written as a leaf.
 fn is_leaf(rule: &Rule, level: u8) -> bool
@@ -126,7 +114,7 @@ fn walk_new_square<S: SharedSquares, D, L: LineSink<D>>(
 {
     if is_leaf(rule, level) {
         let number = numbers.push(id)?;
-        lines.take(device, &leaf(squares, id))?;
+        lines.take_leaf(device, squares, id)?;
         return Ok(number);
     }
     let Quarters { nw, ne, sw, se } = divide(squares, id);

@@ -17,8 +17,8 @@ ghost use Rattle.life_canon.specs.Store.{ForEachFile, RefusesIn, IsOfFile, IsTri
 ghost use Rattle.life_canon.specs.Texts.{IsShown, IsOrdered, AreOrdered, box_text, show_text};
 
 use crate::cell_counts::{Counts, count_all};
-use crate::pattern::Pattern;
 use crate::files::read;
+use crate::pattern::Pattern;
 use crate::writer::begin_numbers;
 use life_base::{Bounds, Fault, Kind, MAX_LEVEL, append, append_number};
 use life_quad::{Shared, bounds};

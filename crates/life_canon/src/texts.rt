@@ -9,8 +9,8 @@ ghost use Rattle.life_canon.specs.Least.{IsLeastText};
 ghost use Rattle.life_canon.specs.Store.{ForEachFile, RefusesIn, IsOfFile};
 ghost use Rattle.life_canon.specs.Texts.{IsCanonical, IsRleOf, HasMoreCells};
 
-use crate::pattern::Pattern;
 use crate::files::read;
+use crate::pattern::Pattern;
 use crate::writer::text_of;
 use life_base::{Fault, MAX_LEVEL};
 use life_quad::{Shared, cells};

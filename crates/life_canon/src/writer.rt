@@ -17,9 +17,9 @@ ghost use Rattle.life_canon.specs.Store.{IsTrimmed, universe_in, content};
 ghost use Rattle.life_canon.specs.Walking.{HasRoomFrom};
 
 use crate::line_sink::LineSink;
+use crate::node_walk::walk_pattern;
 use crate::pattern::{Pattern, least_level};
 use crate::piece::{PIECE, Piece};
-use crate::node_walk::walk_pattern;
 use life_base::{Fault, Kind, MAX_LEVEL, Rule, Sink, deliver};
 use life_mc::{Line, append_front, append_line};
 use life_quad::{IdNumbers, Shared, SharedSquares, Squares};

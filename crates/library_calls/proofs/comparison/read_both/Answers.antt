@@ -13,7 +13,8 @@ returns-in_err-a-clause-needed c =
     let p = err_from_is_err_and c.from_residual.result c.from_residual.ensures.1 in
     rw (p.1, p.2) (λ e empty. (
       inl (c.in_err-a.ensures.reads.needed (cc)),
-      tight-first c.args.first.now c.args.second.now c.args.store.now c.read.new.store empty c.in_err-a.ensures.reads.keeps.limit (c.in_err-a.ensures.reads.room (cc)),
+      tight-first c.args.first.now c.args.second.now c.args.store.now c.read.new.store empty c.in_err-a.ensures.reads.keeps.limit
+          (c.in_err-a.ensures.reads.room (cc)),
     ))
 
 pub returns-in-Ok-clause-one : goal.returns-in-Ok-clause-one

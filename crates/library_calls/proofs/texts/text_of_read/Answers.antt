@@ -58,7 +58,8 @@ pub returns-in_ok-moved-in-Moved-clause-text : goal.returns-in_ok-moved-in-Moved
 returns-in_ok-moved-in-Moved-clause-text c =
     of-form c.args.store.now c.args.pattern (λ text. text.items) c.text_of-in-Moved.result c.in-Moved.is
     (IfOk-weaker c.text_of-in-Moved.result _ _ (λ text is bytes read. moved-text c.patterns_fit.ensures bytes c.args.store.now c.moved_of.new.store
-    c.args.pattern c.in_ok-moved-in-Moved.moved text.items read c.in_ok-moved-in-Moved.ensures.few c.in_ok-moved-in-Moved.ensures.moved is) c.text_of-in-Moved.ensures.text)
+    c.args.pattern c.in_ok-moved-in-Moved.moved text.items read c.in_ok-moved-in-Moved.ensures.few c.in_ok-moved-in-Moved.ensures.moved is)
+    c.text_of-in-Moved.ensures.text)
 
 pub returns-in_ok-moved-in-Moved-clause-fault : goal.returns-in_ok-moved-in-Moved-clause-fault
 returns-in_ok-moved-in-Moved-clause-fault c =

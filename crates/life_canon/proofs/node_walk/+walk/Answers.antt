@@ -1,6 +1,7 @@
-use Rattle.std.proofs.Common.{map, sym, ◌∙◌}
+use Rattle.std.proofs.Common.{map, refl, sym, ◌∙◌}
+use Rattle.life_mc.specs.declared.line.Line.TheVariants.{Leaf}
 use Rattle.life_canon.specs.Universe.{least_level}
-use Rattle.life_canon.specs.Listing.{with_all, walk}
+use Rattle.life_canon.specs.Listing.{rows_of, with_all, walk}
 use Rattle.life_canon.proofs.WalkingFacts.{behind-all, refused-walk, walked-on, takes-none, takes-line, breaks-line, known-skip, absent-keys, big, leaf-level, leaf-line}
 use Rattle.life_canon.proofs.WalkingFacts.{leaf-walk, trees-more, number-pushed, breaks-nw, breaks-ne, breaks-sw, breaks-se, breaks-own, absent-own, took-own}
 use Rattle.life_canon.proofs.node_walk.+walk.Goals as goal
@@ -21,17 +22,17 @@ walk_square-returns-in-Some-clause-walked g t c =
       closed = c.requires.square.closed;
     }
 
-pub walk_new_square-returns-in_err-take-clause-walked : goal.walk_new_square-returns-in_err-take-clause-walked
-walk_new_square-returns-in_err-take-clause-walked g t c =
+pub walk_new_square-returns-in_err-take_leaf-clause-walked : goal.walk_new_square-returns-in_err-take_leaf-clause-walked
+walk_new_square-returns-in_err-take_leaf-clause-walked g t c =
     let took = g.L.LineSink.took in
     let broke = g.L.LineSink.broke in
     let content = g.S.Squares.content c.args.squares.now in
     let old = map content c.args.numbers.now.ids in
     let walked = walk (content c.args.id) (least_level c.args.rule.now) in
     refused-walk took broke (g.S.Squares.content c.args.squares.now) c.args.rule.now c.args.id _
-    c.from_residual-in_err-take.result c.from_residual-in_err-take.ensures.1
+    c.from_residual-in_err-take_leaf.result c.from_residual-in_err-take_leaf.ensures.1
     (breaks-line took broke c.args.rule.now old old (with_all old walked) (takes-none took c.args.rule.now old)
-    c.in_err-take.ensures.broke (behind-all old walked))
+    c.in_err-take_leaf.ensures.broke (behind-all old walked))
 
 pub walk_new_square-returns-in_err-number-clause-walked : goal.walk_new_square-returns-in_err-number-clause-walked
 walk_new_square-returns-in_err-number-clause-walked g t c =
@@ -67,9 +68,9 @@ walk_new_square-returns-then-is_leaf-clause-walked g t c =
           (big rule t c.args.level c.requires.square.level c.requires.square.high c.requires.more)
           (g.met.S.Squares.full _ _ c.requires.square.known) (leaf-level rule t c.args.level c.requires.square.level is) c.requires.new added;
       lines =
-          takes-line took broke rule old old (map content c.push.new.self.ids) t c.leaf.result added (takes-none took rule old)
-          c.in_ok-take.ensures.took
-          (λ all rest e. leaf-line rule t c.args.level c.leaf.result all c.requires.square.level is c.leaf.ensures);
+          takes-line took broke rule old old (map content c.push.new.self.ids) t (Leaf (rows_of t)) added (takes-none took rule old)
+          c.in_ok-take_leaf.ensures.took
+          (λ all rest e. leaf-line rule t c.args.level (Leaf (rows_of t)) all c.requires.square.level is refl);
     })
     (number-pushed content c.args.numbers.now.ids c.push.new.self.ids c.args.id c.in_ok-number.ensures.added c.in_ok-number.number
     c.in_ok-number.ensures.number c.requires.more c.requires.new)
@@ -112,15 +113,15 @@ walk_new_square-returns-in_err-se-clause-walked g t c =
     c.requires.square.level c.requires.square.high c.requires.more c.args.numbers.now.ids
     c.in_ok-nw.ensures.walked.wrote c.in_ok-ne.ensures.walked.wrote c.in_ok-sw.ensures.walked.wrote c.in_err-se.ensures.walked.part)
 
-pub walk_new_square-returns-in_err-take-2-clause-walked : goal.walk_new_square-returns-in_err-take-2-clause-walked
-walk_new_square-returns-in_err-take-2-clause-walked g t c =
+pub walk_new_square-returns-in_err-take-clause-walked : goal.walk_new_square-returns-in_err-take-clause-walked
+walk_new_square-returns-in_err-take-clause-walked g t c =
     let took = g.L.LineSink.took in
     let broke = g.L.LineSink.broke in
     refused-walk took broke (g.S.Squares.content c.args.squares.now) c.args.rule.now c.args.id _
-    c.from_residual-in_err-take-2.result c.from_residual-in_err-take-2.ensures.1
+    c.from_residual-in_err-take.result c.from_residual-in_err-take.ensures.1
     (breaks-own took broke (g.S.Squares.content c.args.squares.now) c.args.rule.now c.args.id c.divide.ensures.square
     c.in_ok-nw.ensures.walked.wrote c.in_ok-ne.ensures.walked.wrote c.in_ok-sw.ensures.walked.wrote c.in_ok-se.ensures.walked.wrote
-    c.requires.square.level c.requires.square.high c.requires.more c.in_err-take-2.ensures.broke)
+    c.requires.square.level c.requires.square.high c.requires.more c.in_err-take.ensures.broke)
 
 pub walk_new_square-returns-in_err-number-2-clause-walked : goal.walk_new_square-returns-in_err-number-2-clause-walked
 walk_new_square-returns-in_err-number-2-clause-walked g t c =
@@ -156,6 +157,6 @@ walk_new_square-returns-clause-walked g t c =
     c.requires.square.level c.requires.square.high c.requires.more c.push-2.new.self.ids c.in_ok-number-2.ensures.added
     (g.met.S.Squares.full _ _ c.requires.square.known) c.requires.new c.requires.square.closed (sym c.is_leaf.ensures ∙ c.if-is_leaf.false)
     c.in_ok-nw.ensures.walked.number c.in_ok-ne.ensures.walked.number c.in_ok-sw.ensures.walked.number c.in_ok-se.ensures.walked.number
-    c.in_ok-take-2.ensures.took)
+    c.in_ok-take.ensures.took)
     (number-pushed content c.walk_square-4.new.numbers.ids c.push-2.new.self.ids c.args.id c.in_ok-number-2.ensures.added
     c.in_ok-number-2.number c.in_ok-number-2.ensures.number c.requires.more own)

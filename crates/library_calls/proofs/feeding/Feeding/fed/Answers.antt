@@ -25,7 +25,8 @@ invariant_of-result c = (
   c.in_ok-feed.ensures.open.1,
   c.in_ok-feed.ensures.stands,
   subst (λ (bytes : List ℕ). HoldsFront [] bytes c.feed.new.store) (sym c.in_ok-feed.ensures.bytes)
-      ((c.fronts_hold.ensures c.self.inside.reader.bytes c.args.piece.now [] c.self.inside.store c.feed.new.store c.self.invariant.2).0 c.feed.ensures.feeds.adds),
+      ((c.fronts_hold.ensures c.self.inside.reader.bytes c.args.piece.now [] c.self.inside.store c.feed.new.store c.self.invariant.2).0
+      c.feed.ensures.feeds.adds),
 )
 
 pub returns-clause-front : goal.returns-clause-front
