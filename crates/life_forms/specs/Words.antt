@@ -1,5 +1,4 @@
 -- The words of the contracts of this crate.
-pub use Rattle.std.specs.Prelude.{◌≡◌, ◌↔◌, ◌⊎◌, Err, IfOk, IfErr, OnOk, IsTrue, ◌≢◌, ℕ, List, ◌^◌, ◌<◌, ◌≤◌, ◌+ℤ◌, ℤ, All, AllPairs}
 pub use Rattle.life_base.specs.Refusal.{OrMemory, fault_of}
 pub use Rattle.life_base.specs.Rules.{IsRule}
 pub use Rattle.life_base.specs.Tree.{depth, tree_cell}

@@ -1,6 +1,7 @@
 //! Two patterns, compared in a form.
 
-ghost use Rattle.life_forms.specs.Words.{◌≡◌, ◌↔◌, ◌⊎◌, Err, IfOk, IfErr, OnOk, IsTrue, OrMemory, fault_of, IsRule, Full, TooManyCells, IsTrimmed, IsWant, universe_in, IsShift, IsTurnedShift, IsFew, IsMany, LacksForMoved};
+ghost use Rattle.std.specs.Prelude.{◌≡◌, ◌↔◌, ◌⊎◌, Err, IfOk, IfErr, OnOk, IsTrue};
+ghost use Rattle.life_forms.specs.Words.{OrMemory, fault_of, IsRule, Full, TooManyCells, IsTrimmed, IsWant, universe_in, IsShift, IsTurnedShift, IsFew, IsMany, LacksForMoved};
 ghost use Rattle.life_canon.specs.Store.{Keeps};
 
 use crate::images::turned_text;

@@ -1,6 +1,7 @@
 //! Texts of a pattern's images.
 
-ghost use Rattle.life_forms.specs.Words.{◌≡◌, ◌≢◌, ◌⊎◌, IfOk, IfErr, OnOk, depth, MAX_LEVEL, Memory, TooManyCells, IsWantKind, IsTrimmed, universe_in, held, IsMoved, IsUpTo, IsImageText, IsTurnedText, numbered, IsFew, IsMany, RefusesTurning, turned_tree, image};
+ghost use Rattle.std.specs.Prelude.{◌≡◌, ◌≢◌, ◌⊎◌, IfOk, IfErr, OnOk};
+ghost use Rattle.life_forms.specs.Words.{depth, MAX_LEVEL, Memory, TooManyCells, IsWantKind, IsTrimmed, universe_in, held, IsMoved, IsUpTo, IsImageText, IsTurnedText, numbered, IsFew, IsMany, RefusesTurning, turned_tree, image};
 ghost use Rattle.life_quad.specs.Grows.{Keeps};
 
 use crate::patterns::moved_pattern;

@@ -1,6 +1,7 @@
 //! Cells, moved, as a square.
 
-ghost use Rattle.life_forms.specs.Words.{◌≡◌, ◌⊎◌, ◌^◌, ◌<◌, ◌≤◌, ◌+ℤ◌, ℕ, ℤ, All, AllPairs, Err, IfOk, IfErr, OnOk, MAX_LEVEL, Full, Memory, TooManyCells, Rule, IsOrdered, square_universe, IsInPlace, IsMoved, depth, tree_cell, RunValue, IsBefore, population, IsWantKind, state_by, moved_run, moved_runs, LiesOnPlane, IsWay, SomeOfPlane, SomeOfMoved};
+ghost use Rattle.std.specs.Prelude.{◌≡◌, ◌⊎◌, ◌^◌, ◌<◌, ◌≤◌, ◌+ℤ◌, ℕ, ℤ, All, AllPairs, Err, IfOk, IfErr, OnOk};
+ghost use Rattle.life_forms.specs.Words.{MAX_LEVEL, Full, Memory, TooManyCells, Rule, IsOrdered, square_universe, IsInPlace, IsMoved, depth, tree_cell, RunValue, IsBefore, population, IsWantKind, state_by, moved_run, moved_runs, LiesOnPlane, IsWay, SomeOfPlane, SomeOfMoved};
 ghost use Rattle.life_quad.specs.Grows.{Keeps};
 
 use life_base::{Cell, Kind, MAX_LEVEL, Run};

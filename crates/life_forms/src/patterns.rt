@@ -1,6 +1,7 @@
 //! Patterns, moved.
 
-ghost use Rattle.life_forms.specs.Words.{◌≡◌, ◌⊎◌, ◌^◌, ◌<◌, ◌≤◌, ℤ, Err, IfOk, IfErr, OnOk, fault_of, depth, tree_cell, MAX_LEVEL, Full, TooManyCells, largest_state, population, IsWantKind, held, IsKnown, IsTrimmed, IsWant, content, universe_in, least_level, square_universe, IsMoved, IsFew, IsMany, LacksForMoved};
+ghost use Rattle.std.specs.Prelude.{◌≡◌, ◌⊎◌, ◌^◌, ◌<◌, ◌≤◌, ℤ, Err, IfOk, IfErr, OnOk};
+ghost use Rattle.life_forms.specs.Words.{fault_of, depth, tree_cell, MAX_LEVEL, Full, TooManyCells, largest_state, population, IsWantKind, held, IsKnown, IsTrimmed, IsWant, content, universe_in, least_level, square_universe, IsMoved, IsFew, IsMany, LacksForMoved};
 ghost use Rattle.life_canon.specs.Store.{Keeps};
 
 use crate::moves::moved_plane;

@@ -1,6 +1,7 @@
 //! Where a turn puts the quarters of a square.
 
-ghost use Rattle.life_forms.specs.Words.{◌≡◌, id_of_four, side_of, end_of};
+ghost use Rattle.std.specs.Prelude.{◌≡◌};
+ghost use Rattle.life_forms.specs.Words.{id_of_four, side_of, end_of};
 
 use crate::turn::Turn;
 use life_quad::{Id, Quarters};

@@ -1,5 +1,4 @@
 -- The words of the contracts of this crate.
-pub use Rattle.std.specs.Prelude.{◌≡◌, ◌≢◌, ◌+◌, ◌^◌, ◌-◌, ◌≤◌, ◌↔◌, ℤ, Err, IfOk, IfErr, OnOk, IsTrue}
 pub use Rattle.life_base.specs.Refusal.{fault_of}
 pub use Rattle.life_base.specs.Rules.{IsRule}
 pub use Rattle.life_base.specs.Tree.{depth, tree_cell}

@@ -1,6 +1,7 @@
 //! The steps of the pattern in a file.
 
-ghost use Rattle.life_step.specs.Words.{◌≡◌, ◌≢◌, ◌+◌, ◌^◌, ◌-◌, ◌≤◌, ◌↔◌, ℤ, Err, IfOk, IfErr, OnOk, IsTrue, fault_of, IsRule, depth, tree_cell, NamedRule, IsNew, ForEachFile, Keeps, IsKnown, IsOfFile, IsWant, content, IsSame, least_level, square_universe, largest_state, TrimmedTo, LacksForLife, LacksForStep, LacksForStepBy, LacksForTable, LifeRefusal, RefusesFile, RefusesPattern, TableRefusal, IsStepped, IsSteppedBy, IsTextOf};
+ghost use Rattle.std.specs.Prelude.{◌≡◌, ◌≢◌, ◌+◌, ◌^◌, ◌-◌, ◌≤◌, ◌↔◌, ℤ, Err, IfOk, IfErr, OnOk, IsTrue};
+ghost use Rattle.life_step.specs.Words.{fault_of, IsRule, depth, tree_cell, NamedRule, IsNew, ForEachFile, Keeps, IsKnown, IsOfFile, IsWant, content, IsSame, least_level, square_universe, largest_state, TrimmedTo, LacksForLife, LacksForStep, LacksForStepBy, LacksForTable, LifeRefusal, RefusesFile, RefusesPattern, TableRefusal, IsStepped, IsSteppedBy, IsTextOf};
 
 use life_base::{Fault, Kind, MAX_LEVEL, Rule};
 use life_block::next_life_generation;
