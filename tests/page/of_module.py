@@ -167,7 +167,7 @@ def calls(browser, address):
 
 def version():
     """The version that the crate names."""
-    with open(os.path.join(TOP, "crates", "golly_canon_c", "src", "naming.rt"), encoding="utf-8") as it:
+    with open(os.path.join(TOP, "crates", "golly_canon_c", "src", "names.rt"), encoding="utf-8") as it:
         return it.read().split('= b"')[1].split('"')[0]
 
 
