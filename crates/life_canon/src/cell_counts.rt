@@ -1,6 +1,6 @@
 //! How many node lines and cells a pattern has, counted by its node lines as they come.
 
-ghost use Rattle.std.specs.Prelude.{◌≡◌, ◌-◌, ◌<◌, ◌≤◌, ◌^◌, [], length, slice_index_or, IfOk, IfErr, refl};
+ghost use Rattle.std.specs.Prelude.{◌≡◌, ◌==◌, false, ℕ, List, ◌-◌, ◌<◌, ◌≤◌, ◌^◌, [], length, slice_index_or, IfOk, IfErr, refl};
 ghost use Rattle.life_base.specs.declared.kind.Kind.TheVariants.{Memory};
 ghost use Rattle.life_base.specs.Tree.{depth};
 ghost use Rattle.life_mc.specs.Macrocell.{largest_state};
@@ -35,23 +35,28 @@ fn leaf_count(rows: &[u8; 8]) -> u128
     u128::from(u64::from_be_bytes(*rows).count_ones())
 }
 
-/// How many cells what a number stands for in a line of a level has, where the squares of the lines before have so many.
-fn number_count(counts: &[u128], level: u8, number: u64) -> u128
-    ensures { result ≡ number_count counts.now level number }
+/// Whether a number stands for a cell of a state other than 0 in a line of level 1: 1 or 0.
+#[inline(always)]
+fn cell_count(number: u64) -> u128
+    ensures count { (counts : List ℕ) → result ≡ number_count counts 1 number }
+    ensures few { result ≤ 1 }
 {
-    if number == 0 {
-        return 0;
-    }
-    if level == 1 {
-        return 1;
-    }
-    match counts.get(number as usize - 1) {
+    u128::from(number != 0)
+}
+
+/// How many cells what a number stands for in a line above level 1 has, where the squares of the lines before have so many.
+#[inline(always)]
+fn square_count(counts: &[u128], number: u64) -> u128
+    ensures { (level : ℕ) → (level == 1) ≡ false
+        → result ≡ number_count counts.now level number }
+{
+    match counts.get((number as usize).wrapping_sub(1)) {
         Some(count) => *count,
         None => 0,
     }
 }
 
-/// How many cells the square of a line has, where the squares of the lines before have so many.
+/// How many cells the square of a line has, where the squares of the lines before have so many. No sum of a pattern wraps.
 #[inline(always)]
 fn line_count(counts: &[u128], line: &Line) -> u128
     ensures { line_count counts.now line.now < 2 ^ 128
@@ -59,12 +64,13 @@ fn line_count(counts: &[u128], line: &Line) -> u128
 {
     match line {
         Line::Leaf(rows) => leaf_count(rows),
-        Line::Quad(level, nw, ne, sw, se) => {
-            let nw = number_count(counts, *level, *nw);
-            let ne = number_count(counts, *level, *ne);
-            let sw = number_count(counts, *level, *sw);
-            let se = number_count(counts, *level, *se);
-            nw.saturating_add(ne).saturating_add(sw).saturating_add(se)
+        Line::Quad(1, nw, ne, sw, se) => {
+            cell_count(*nw) + cell_count(*ne) + cell_count(*sw) + cell_count(*se)
+        }
+        Line::Quad(_, nw, ne, sw, se) => {
+            let north = square_count(counts, *nw).wrapping_add(square_count(counts, *ne));
+            let south = square_count(counts, *sw).wrapping_add(square_count(counts, *se));
+            north.wrapping_add(south)
         }
     }
 }

@@ -71,8 +71,8 @@ impl Marks {
         self.has_quarters
     }
 
-    /// Marks a small square. It is never inlined, so that the join of one that is there stays short.
-    #[inline(never)]
+    /// Marks a small square.
+    #[inline(always)]
     pub(crate) fn set(&mut self, id: Id) -> Result<(), Kind>
         ensures marked { OnOk result (value_of self.new id ≡ true) }
         ensures others { (q : IdValue) → q ≢ id → value_of self.new q ≡ value_of self.old q }
