@@ -24,6 +24,11 @@ module _ {S : Type 0} {knows : S → Id → Type 0} {content : S → Id → Tree
     limit = second.limit ∙ first.limit;
   }
 
+  -- a square that a call answered, behind others
+  pub still : {old new : S} {id : Id} {t : Tree} → KeepsSquares knows content stored most old new → knows old id → content old id ≡ t
+      → knows new id × (content new id ≡ t)
+  still keeps known square = let a = keeps.contents _ known in (a.0, a.1 ∙ square)
+
 -- what calls add to a store
 module _ {S : Type 0} {stored : S → List Tree} where
   pub adds-none : (Needs : (Tree → Type 0) → Type 0) (store : S) → AddsOnly stored Needs store store

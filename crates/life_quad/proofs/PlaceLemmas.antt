@@ -1,17 +1,14 @@
--- The table of a list of Ids.
-use Rattle.std.proofs.Common.{◌≡◌, ◌≢◌, ◌↔◌, ℕ, zero, suc, ◌+◌, ◌-◌, ◌<◌, List, [], ◌∷◌, ◌++◌, length, get_or, Some, slice_get, ◌⊎◌, inl, inr, refl, ap, sym, ◌∙◌, subst, arith, Contains, IsTrue, not, eqb, ◌≤◌, set, get_or-set_same, get_or-set_other, length-set, map, ◌^◌}
+-- The numbers of a list of Ids.
+use Rattle.std.proofs.Common.{◌≡◌, ◌≢◌, ℕ, zero, suc, ◌+◌, ◌-◌, ◌<◌, List, [], ◌∷◌, ◌++◌, length, get_or, Some, slice_get, ◌⊎◌, inl, inr, refl, ap, sym, ◌∙◌, subst, arith, Contains, ◌≤◌, set, get_or-set_same, get_or-set_other, length-set, map, ◌^◌}
 use Rattle.std.specs.Prelude.{AllPairs}
-use Rattle.std.proofs.lemmas.List.{get_or_append_left, get_or_past, map-append}
+use Rattle.std.proofs.lemmas.List.{get_or_append_left, map-append}
 use Rattle.std.proofs.Math.Seq.{get_or-append_seam}
-use Rattle.std.proofs.lemmas.Bool.{false≢true}
 use Rattle.std.proofs.lemmas.Bool.Decides.{nat_tests}
-use Rattle.std.proofs.lemmas.Grind.{common_steps}
 use Rattle.std.proofs.lemmas.Option.{slice_get-get_or, slice_get_within, get_or_from_slice_get, same_Some}
 use Rattle.std.proofs.Common.{length-append}
 use Rattle.life_quad.specs.declared.id.Id.{Id}
 use Rattle.indexmap.proofs.IndexTableLemmas.Probe.{pigeonhole}
-use Rattle.life_quad.specs.IdList.{HasPlaces}
-use Rattle.life_quad.specs.IdNumbers.{NumberRoom, HasNumberRoom, number_at, number_by}
+use Rattle.life_quad.specs.IdNumbers.{HasPlaces, number_at, number_by}
 use Rattle.life_quad.specs.Store.{id_of}
 use Rattle.life_quad.proofs.MapLemmas.{same_number}
 
@@ -22,16 +19,6 @@ distinct ids place h = λ i j d l m e.
     let b = h.listed j (get_or ids j d) (slice_get-get_or ids j d m) in
     let c : suc i ≡ suc j = sym a ∙ ap place e ∙ b in
     omega arith
-
--- a place counted from 1 tells whether an Id is in the list
-pub number_tells : (ids : List Id) (id : Id) (n : ℕ) → (n ≡ 0 → ¬ Contains ids id) → (0 < n → slice_get ids (n - 1) ≡ Some id)
-    → IsTrue (not (eqb n 0)) ↔ Contains ids id
-number_tells ids id zero absent there = (λ t. absurd (false≢true t), λ h. absurd (absent refl h))
-number_tells ids id (suc n) absent there = (
-  λ t. let s = there (omega arith) in
-      (suc n - 1, slice_get_within ids _ id s, get_or_from_slice_get ids _ id id s),
-  λ h. grind (arith, common_steps),
-)
 
 cases : (i n : ℕ) → i < suc n → (i < n) ⊎ (i ≡ n)
 cases i n h = grind arith
@@ -162,28 +149,6 @@ pub in_list : (first : ℕ) (numbers : List ℕ) (paged : Id → ℕ) → 0 < le
 in_list first [] paged some q = absurd (omega arith)
 in_list first (n ∷ numbers) paged some q = refl
 
--- the list has the number at its place from the first Id on
-pub number_there : (first : ℕ) (numbers : List ℕ) (paged : Id → ℕ) (q : Id) (index : ℕ) → (first ≤ q.0 → index ≡ q.0 - first) → (q.0 < first → 2 ^ 32 ≤ index)
-    → length numbers < 2 ^ 32 → index < length numbers → number_by first numbers paged q ≡ get_or numbers index 0
-number_there first numbers paged q index from before short lt = by (from-or-before first q.0)
-  where
-    by : (first ≤ q.0) ⊎ (q.0 < first) → number_by first numbers paged q ≡ get_or numbers index 0
-    by (inl le) =
-        in_list first numbers paged (omega (arith, lt)) q ∙ at_from first numbers q le ∙ ap (λ i. get_or numbers i 0) (sym (from le))
-    by (inr b) = let far = before b in absurd (omega (arith, far, short, lt))
-
--- and none elsewhere
-pub number_nowhere : (first : ℕ) (numbers : List ℕ) (paged : Id → ℕ) (q : Id) (index : ℕ) → (first ≤ q.0 → index ≡ q.0 - first) → 0 < length numbers
-    → length numbers ≤ index → number_by first numbers paged q ≡ 0
-number_nowhere first numbers paged q index from some out = by (from-or-before first q.0)
-  where
-    by : (first ≤ q.0) ⊎ (q.0 < first) → number_by first numbers paged q ≡ 0
-    by (inl le) =
-        let e = from le in
-        let far : length numbers ≤ q.0 - first = omega (arith, e, out) in
-        in_list first numbers paged some q ∙ at_from first numbers q le ∙ get_or_past numbers (q.0 - first) 0 far
-    by (inr b) = in_list first numbers paged some q ∙ at_before first numbers q b
-
 -- there is room for an Id whose number has a place in the list
 pub room_there : (first index size : ℕ) (q : Id) → (first ≤ q.0 → index ≡ q.0 - first) → (q.0 < first → 2 ^ 32 ≤ index) → size < 2 ^ 32 → index < size
     → (first ≤ q.0) × (index ≡ q.0 - first)
@@ -192,10 +157,6 @@ room_there first index size q from before short lt = by (from-or-before first q.
     by : (first ≤ q.0) ⊎ (q.0 < first) → (first ≤ q.0) × (index ≡ q.0 - first)
     by (inl le) = (le, from le)
     by (inr b) = let far = before b in absurd (omega (arith, far, short, lt))
-
--- and for no other
-pub no_room_there : (room : NumberRoom) (index : ℕ) (q : Id) → (room.first ≤ q.0 → index ≡ q.0 - room.first) → room.size ≤ index → ¬ HasNumberRoom room q
-no_room_there room index q from out = λ h. let e = from h.0 in omega (arith, e, out, h.0, h.1)
 
 -- one more Id, with the next number, in pages
 pub one_paged : (first : ℕ) (ids : List Id) (numbers : List ℕ) (old new : Id → ℕ) (id : Id) (number : ℕ) → length numbers ≡ 0

@@ -1,5 +1,5 @@
 -- Ids that are numbered in the order in which they come.
-use Rattle.std.specs.Prelude.{◌≤◌, ◌<◌, ◌+◌, ◌-◌, ℕ, nat_lt, if◌then◌else◌, List, [], ◌∷◌, slice_index_or}
+use Rattle.std.specs.Prelude.{◌≡◌, ◌≤◌, ◌<◌, ◌+◌, ◌-◌, ℕ, suc, nat_lt, if◌then◌else◌, List, [], ◌∷◌, Some, slice_get, slice_index_or}
 use Rattle.life_quad.specs.declared.id.Id.{Id}
 
 -- the least number of an Id that there is room for, and how many there are from it on
@@ -28,3 +28,8 @@ number_at first numbers id = if nat_lt id.0 first then 0 else slice_index_or num
 abbrev pub number_by : ℕ → List ℕ → (Id → ℕ) → Id → ℕ
 number_by first [] paged id = paged id
 number_by first (n ∷ ns) paged id = number_at first (n ∷ ns) id
+
+-- each Id of the list has its place, counted from 1, and what has a place is the Id at that place
+pub record HasPlaces (ids : List Id) (place : Id → ℕ) : Type 0 where
+  pub listed : (i : ℕ) (id : Id) → slice_get ids i ≡ Some id → place id ≡ suc i
+  pub placed : (id : Id) (i : ℕ) → place id ≡ suc i → slice_get ids i ≡ Some id

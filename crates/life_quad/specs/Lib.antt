@@ -10,7 +10,6 @@ pub mod Span
 pub mod Distances
 pub mod Bands
 pub mod Laws
-pub mod IdList
 pub mod Pages
 pub mod IdMap
 pub mod IdNumbers

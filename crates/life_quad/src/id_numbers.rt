@@ -34,8 +34,7 @@ pub struct IdNumbers {
 impl Model for IdNumbers {
     ghost use Rattle.std.specs.Prelude.{◌≡◌, ◌<◌, ◌≤◌, ◌^◌, length, map};
     ghost use Rattle.life_quad.specs.Store.{id_of};
-    ghost use Rattle.life_quad.specs.IdList.{HasPlaces};
-    ghost use Rattle.life_quad.specs.IdNumbers.{Numbered, number_by};
+    ghost use Rattle.life_quad.specs.IdNumbers.{HasPlaces, Numbered, number_by};
     ghost use Rattle.life_quad.specs.IdMap.{value_of};
 
     ghost Value = { Numbered };

@@ -3,7 +3,6 @@
 
 mod distances;
 mod id;
-mod id_list;
 mod id_map;
 mod id_numbers;
 mod join_log;
@@ -20,7 +19,6 @@ mod shared;
 mod squares;
 
 pub use id::Id;
-pub use id_list::IdList;
 pub use id_numbers::IdNumbers;
 pub use listing::cells;
 pub use memory::NeighbourhoodMemory;

@@ -6,7 +6,7 @@ ghost use Rattle.life_quad.specs.Keeping.{KeepsSquares};
 
 use life_base::{Bounds, Cell, Kind, MAX_LEVEL, Run};
 use life_quad::{
-    Id, IdList, NeighbourhoodMemory, Plain, Quarters, Seed, Shared, SharedSquares, Squares, bounds,
+    Id, NeighbourhoodMemory, Plain, Quarters, Seed, Shared, SharedSquares, Squares, bounds,
     cells, divide, grow, is_blank, is_blank_at, leaf_population, population, put_run, trim,
 };
 use std::alloc::Global;
@@ -597,34 +597,6 @@ fn squares_are_measured(rt: HostRuntime) {
     assert!(rt; found == Ok(true));
 }
 
-fn insert_all(list: &mut IdList, ids: &[Id]) -> Result<(), Kind> {
-    for id in ids {
-        list.insert(*id)?;
-    }
-    Ok(())
-}
-
-// Whether a list has the first three of these Ids, each once.
-fn are_listed(list: &IdList, ids: [Id; 5]) -> bool {
-    let [first, second, third, fourth, fifth] = ids;
-    list.as_slice() == [first, second, third].as_slice()
-        && list.place(first) == Some(0)
-        && list.place(second) == Some(1)
-        && list.place(third) == Some(2)
-        && list.place(fifth).is_none()
-        && list.contains(third)
-        && !list.contains(fourth)
-}
-
-// Whether an empty list takes the first three of these Ids, and each once.
-fn are_listed_once(alloc: Global, ids: [Id; 5]) -> Result<bool, Kind> {
-    let [first, second, third, _, _] = ids;
-    let mut list = IdList::new(alloc);
-    let is_empty = list.as_slice().is_empty() && !list.contains(first);
-    insert_all(&mut list, &[first, second, first, third, second])?;
-    Ok(is_empty && are_listed(&list, ids))
-}
-
 // Five Ids of a store.
 fn five_ids<S: Squares + Drop>(store: S) -> [Id; 5] {
     [
@@ -634,12 +606,6 @@ fn five_ids<S: Squares + Drop>(store: S) -> [Id; 5] {
         store.cell(4),
         store.empty(61),
     ]
-}
-
-#[test]
-fn ids_are_listed_once(rt: HostRuntime) {
-    let ids = five_ids(Shared::new(rt.alloc(), Seed::fixed(), 0));
-    assert!(rt; are_listed_once(rt.alloc(), ids) == Ok(true));
 }
 
 // Whether a memory knows nothing of nine squares, then the answer that was put for them, and still nothing of nine that differ in the last.

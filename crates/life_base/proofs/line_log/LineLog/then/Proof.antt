@@ -1,46 +1,18 @@
 -- A log with one more line. Assumes `Logic`.
-use Rattle.std.proofs.Common.{[], ◌∷◌, ◌++◌, refl}
-use Rattle.std.proofs.raw_atomic.Walks.{proved}
+use Rattle.std.proofs.Common.{◌≡◌, [], ◌∷◌, ◌++◌, refl, length}
 use mir.Syntax.{named}
-use types.Kit.{‵, raw, ◌⊛◌, ◌$◌, ◌∵◌, !, qed, move, keep, drop, split, fjoin, suffices, done}
-use types.Part.{agg}
-use types.Run.{enter, returns, no_more}
-use types.ByLocal.{alloc_all, pass_all, free_all, look_at, sets}
-use denote.Builtin.{u8, RefOf, SliceRefOf}
-use denote.Exit.{yes}
-use denote.RattleType.{owns}
-use denote.Ref.{shr_vals, shr_Tells}
-use denote.Signature.{plain, types_at}
-use denote.Slice.{shr_slice_vals, shr_slice_Tells}
-use denote.Steps.{nothing}
-use denote.Triple.Entry.{alive}
-use denote.Triple.Walked.{Stays, stay_dropped, walk_of, says, ends_at, Goes-dropped}
-use Rattle.life_base.proofs.EmptyValues.{empty, makes_empty}
+use denote.Builtin.{u8, SliceRefOf}
+use denote.Signature.{plain}
+use denote.Slice.{slice_val, shr_slice_Tells}
+use Rattle.life_base.proofs.EmptyValues.{follows}
 use Rattle.life_base.specs.contracts.line_log.LineLog as log
 use Rattle.life_base.specs.contracts.line_log.LineLog.then as f
 use Rattle.life_base.proofs.line_log.LineLog.then.Statement.{statement}
 use Rattle.life_base.proofs.line_log.LineLog.then.Code as code
 
-abbrev stayed : Stays f.ended.signature.params f.ended.kept
-stayed = (stay_dropped _ yes, (stay_dropped _ yes, tt))
-
 pub then_spec : {M : Type 1} → statement M
 then_spec 𝓤 𝓛 𝓜 𝓡 wired =
-    let c = f.clauses 𝓛 𝓜.mem 𝓡.returns in
-    let W = walk_of 𝓛 f.ended stayed c in
-    proved 𝓛 f.ended stayed c 𝓜 𝓡 (
-      Goes-dropped 𝓛 2 (RefOf (0 ∷ []) tt (plain (λ _. log.the_row)) (λ _. tt)) yes (λ κs x w. refl),
-      (Goes-dropped 𝓛 2 (SliceRefOf (1 ∷ []) tt (plain (λ _. u8)) (λ _. tt)) yes (λ κs x w. refl), tt),
-    )
-    f.Key.name code.function (code.unfolded 𝓤 𝓛.H 𝓜 𝓡 wired)
-    (λ κs. (shr_vals, (shr_slice_vals, tt))) (λ κs. (shr_Tells (named 0) κs.0 log.the_row, (shr_slice_Tells (named 1) κs.1.0 u8, tt))) (λ κs qs bounds a g are.
-    let y : W.Ghost = ((κs, qs, bounds, a, (shr_vals a.0, (shr_slice_vals a.1.0, tt))), g) in
-    let lines : (log.the_row).Denot = record { lines = a.0.now.lines ++ a.1.0.now ∷ [] } in
-    qed 𝓛 ((raw (alive 𝓛 f.signature κs qs) ⊛ ‵ (owns (types_at f.signature.params κs) a y.0.4)) ∷ raw ((c κs a).requires g) ∷ []) ∵
-    keep ! (0 ∷ []) $ split ! $ move ! (1 ∷ []) $ drop ! $
-    enter ! _ _ _ _ _ $ alloc_all ! (λ l. pass_all ! refl ((tt, tt), ((tt, (tt, (record { fits = are.1.0.0.1.0 }, tt))), tt)) $
-    sets ! (agg ! (no_more !)) refl (tt, tt) $
-    nothing ! $ makes_empty ! $ fjoin ! $
-    returns ! (look_at ! 0 refl) $ free_all ! refl $
-    suffices ! _ (ends_at 𝓛 f.ended stayed c y empty lines (tt, (tt, tt)) (tt, (tt, tt))) $ says ! refl $
-    nothing ! $ nothing ! $ fjoin ! $ nothing ! $ fjoin ! $ move ! (2 ∷ 0 ∷ 1 ∷ []) $ done !))
+    follows 𝓛 𝓜 𝓡 log.the_row log.struct.name (SliceRefOf (1 ∷ []) tt (plain (λ _. u8)) (λ _. tt)) _ (λ κs x. slice_val x.ref_ptr (length x.now))
+    (λ κs d x. record { lines = d.lines ++ x.now ∷ [] }) (λ κs d x r. r.lines ≡ d.lines ++ x.now ∷ []) _ f.Key.name (code.unfolded 𝓤 𝓛.H 𝓜 𝓡 wired)
+    (λ κs x w. refl) (λ κs x. tt) (λ κs. shr_slice_Tells (named 1) κs.1.0 u8) (λ κs x is. (tt, (tt, (record { fits = is.0.1.0 }, tt))))
+    (λ κs d x. refl) (λ d. refl)

@@ -1,9 +1,9 @@
 -- A square of four that are made one behind the other: what the five calls keep and add.
-use Rattle.std.proofs.Common.{◌∙◌, inl, inr, subst}
+use Rattle.std.proofs.Common.{inl, inr, subst}
 use Rattle.life_base.specs.Tree.{Tree, quad}
 use Rattle.life_quad.specs.Refused.{SomePart}
 use Rattle.life_quad.specs.Store.{four}
-use Rattle.life_quad.proofs.KeepingLemmas.{keeps-then, adds-as, adds-then}
+use Rattle.life_quad.proofs.KeepingLemmas.{keeps-then, still, adds-as, adds-then}
 use Rattle.life_quad.proofs.squares.Squares.small_of_quarters.Goals as goal
 
 pub returns-in_err-sw-clause-keeps : goal.returns-in_err-sw-clause-keeps
@@ -47,18 +47,12 @@ returns-clause-adds g c =
     let ne = c.in_ok-ne.ensures in
     let sw = c.in_ok-sw.ensures in
     let se = c.in_ok-se.ensures in
-    let nw_2 = ne.keeps.contents _ nw.known in
-    let nw_3 = sw.keeps.contents _ nw_2.0 in
-    let nw_4 = se.keeps.contents _ nw_3.0 in
-    let ne_3 = sw.keeps.contents _ ne.known in
-    let ne_4 = se.keeps.contents _ ne_3.0 in
-    let sw_4 = se.keeps.contents _ sw.known in
-    let a = nw_4.1 ∙ nw_3.1 ∙ nw_2.1 ∙ nw.square in
-    let b = ne_4.1 ∙ ne_3.1 ∙ ne.square in
-    let d = sw_4.1 ∙ sw.square in
+    let a = still (keeps-then (keeps-then ne.keeps sw.keeps) se.keeps) nw.known nw.square in
+    let b = still (keeps-then sw.keeps se.keeps) ne.known ne.square in
+    let d = still se.keeps sw.known sw.square in
     adds-then C
     (adds-then C
     (adds-then C (adds-then C nw.adds ne.adds (λ P p. inr (inl (inl p))) (λ P p. inr (inr (inl (inl p))))) sw.adds (λ P p. p)
     (λ P p. inr (inr (inr (inl (inl p))))))
     se.adds (λ P p. p) (λ P p. inr (inr (inr (inr (inl p))))))
-    c.join.ensures.adds (λ P p. p) (λ P p. inl (subst P (λ i. quad (a i) (b i) (d i) (se.square i)) p))
+    c.join.ensures.adds (λ P p. p) (λ P p. inl (subst P (λ i. quad (a.1 i) (b.1 i) (d.1 i) (se.square i)) p))

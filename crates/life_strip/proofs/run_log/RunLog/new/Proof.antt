@@ -1,36 +1,11 @@
 -- A log of no runs. Assumes `Logic`.
-use Rattle.std.proofs.Common.{[], ◌∷◌, refl}
-use Rattle.std.proofs.raw_atomic.Walks.{proved}
-use types.Kit.{‵, raw, ◌⊛◌, ◌$◌, ◌∵◌, !, qed, move, keep, drop, split, fjoin, suffices, done}
-use types.Part.{agg}
-use types.Run.{enter, returns, no_more}
-use types.ByLocal.{alloc_all, pass_all, free_all, look_at, sets}
-use denote.RattleType.{owns}
-use denote.Signature.{types_at}
-use denote.Steps.{nothing}
-use denote.Triple.Entry.{alive}
-use denote.Triple.Walked.{Stays, walk_of, says, ends_at}
-use Rattle.life_base.proofs.EmptyValues.{empty, makes_empty}
+use Rattle.std.proofs.Common.{◌≡◌, [], refl}
+use Rattle.life_base.proofs.EmptyValues.{begins}
 use Rattle.life_strip.specs.contracts.run_log.RunLog as log
 use Rattle.life_strip.specs.contracts.run_log.RunLog.new as f
 use Rattle.life_strip.proofs.run_log.RunLog.new.Statement.{statement}
 use Rattle.life_strip.proofs.run_log.RunLog.new.Code as code
 
-abbrev stayed : Stays f.ended.signature.params f.ended.kept
-stayed = tt
-
 pub new_spec : {M : Type 1} → statement M
 new_spec 𝓤 𝓛 𝓜 𝓡 wired =
-    let c = f.clauses 𝓛 𝓜.mem 𝓡.returns in
-    let W = walk_of 𝓛 f.ended stayed c in
-    let runs : (log.the_row).Denot = record { runs = [] } in
-    proved 𝓛 f.ended stayed c 𝓜 𝓡 tt f.Key.name code.function (code.unfolded 𝓤 𝓛.H 𝓜 𝓡 wired) (λ κs. tt) (λ κs. tt) (λ κs qs bounds a g are.
-    let y : W.Ghost = ((κs, qs, bounds, a, tt), g) in
-    qed 𝓛 ((raw (alive 𝓛 f.signature κs qs) ⊛ ‵ (owns (types_at f.signature.params κs) a tt)) ∷ raw ((c κs a).requires g) ∷ []) ∵
-    keep ! (0 ∷ []) $ split ! $ move ! (1 ∷ []) $ drop ! $
-    enter ! _ _ _ _ _ $ alloc_all ! (λ l. pass_all ! refl tt $
-    sets ! (agg ! (no_more !)) refl (tt, tt) $
-    nothing ! $ makes_empty ! $ fjoin ! $
-    returns ! (look_at ! 0 refl) $ free_all ! refl $
-    suffices ! _ (ends_at 𝓛 f.ended stayed c y empty runs tt tt) $ says ! refl $
-    nothing ! $ move ! (2 ∷ 0 ∷ 1 ∷ []) $ done !))
+    begins 𝓛 𝓜 𝓡 log.the_row log.struct.name (λ made. made.runs ≡ []) f.Key.name (code.unfolded 𝓤 𝓛.H 𝓜 𝓡 wired) (record { runs = [] }) refl refl
