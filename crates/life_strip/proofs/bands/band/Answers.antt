@@ -1,78 +1,77 @@
 use Rattle.life_base.specs.declared.cell.TheConstants.{MAX_LEVEL}
-use Rattle.std.proofs.Common.{◌≡◌, ℕ, ◌+◌, ◌*◌, ◌/◌, ◌^◌, ◌<◌, List, arith, rules, sym, subst}
+use Rattle.std.proofs.Common.{◌≡◌, ℕ, ◌+◌, ◌*◌, ◌/◌, ◌-◌, ◌^◌, ◌<◌, ◌≤◌, List, arith, rules, sym, subst}
 use Rattle.life_base.specs.Tree.{Tree}
-use Rattle.life_quad.specs.declared.id.Id.{Id}
 use Rattle.life_quad.specs.Refused.{SomePart}
 use Rattle.life_quad.specs.Store.{four}
 use Rattle.life_quad.proofs.KeepingLemmas.{keeps-then, adds-then}
 use Rattle.life_quad.proofs.GrowsLemmas.{grows-behind, grows-err, grows-still, grows-same}
 use Rattle.life_strip.specs.declared.spans.Span.{Span}
-use Rattle.life_strip.specs.declared.words.Words.{Words}
 use Rattle.life_strip.specs.Strip.{IsFound, IsPast, AreWithin, HaveColumns}
 use Rattle.life_strip.specs.Band.{four_at, cells_at}
 use Rattle.life_strip.specs.Needed.{SomeColumn}
-use Rattle.life_strip.proofs.SpanLemmas.{past_later, filled-all, filled-skip, before_columns, nearer-both, blank-before, ends-after}
-use Rattle.life_strip.proofs.BandLemmas.{nearest-inside, nearest-start, nearer-none, words-wanted, four-same, four-blank, four-unbegun}
+use Rattle.life_strip.proofs.SpanLemmas.{past_later, filled-all, filled-skip, before_columns, nearer-both}
+use Rattle.life_strip.proofs.BandLemmas.{IsNearest, nearest-inside, nearest-start, nearer-none, words-wanted, four-same, four-blank, four-unbegun}
+use Rattle.life_strip.proofs.bands.band.Given.{Over}
 use Rattle.life_strip.proofs.bands.band.Goals as goal
+use Rattle.life_strip.proofs.bands.band.Goals.{In-Some, In-Some-two_words-2}
+
+-- the nearest column where a row has a span again
+nearest : (g : Over) (c : In-Some g)
+    → IsNearest c.args.first.now c.args.second.now c.args.third.now c.args.fourth.now c.loop-first_column.a c.loop-first_column.b c.loop-first_column.c
+    c.loop-first_column.d (64 * c.loop-first_column.block) c.in-Some.first_column
+nearest g c =
+    let r = c.requires in
+    let inv = c.loop-first_column.invariant in
+    nearest-start inv.1 inv.2 inv.3 inv.4 r.first_within r.second_within r.third_within r.fourth_within c.nearer.ensures
+    c.nearer-in-loop-first_column.ensures c.in-Some.ensures
 
 pub stretch_at-a-requires-clause-ends : goal.stretch_at-a-requires-clause-ends
-stretch_at-a-requires-clause-ends g c =
-    let r = c.requires in
-    let inv = c.loop-first_column.invariant in
-    let near = nearest-start inv.1 inv.2 inv.3 inv.4 r.first_within r.second_within r.third_within r.fourth_within c.nearer.ensures
-    c.nearer-in-loop-first_column.ensures c.in-Some.ensures in
-    ends-after c.args.first.now (64 * c.loop-first_column.block) c.empty-blank.result c.loop-first_column.a inv.1 c.in-Some.first_column
-    (64 * (c.in-Some.first_column / 64)) near.a (omega arith)
+stretch_at-a-requires-clause-ends g c = (nearest g (goal.at.stretch_at-a-requires-clause-ends g c).In-Some).a.ends _ (omega arith)
 
 pub stretch_at-b-requires-clause-ends : goal.stretch_at-b-requires-clause-ends
-stretch_at-b-requires-clause-ends g c =
-    let r = c.requires in
-    let inv = c.loop-first_column.invariant in
-    let near = nearest-start inv.1 inv.2 inv.3 inv.4 r.first_within r.second_within r.third_within r.fourth_within c.nearer.ensures
-    c.nearer-in-loop-first_column.ensures c.in-Some.ensures in
-    ends-after c.args.second.now (64 * c.loop-first_column.block) c.empty-blank.result c.loop-first_column.b inv.2 c.in-Some.first_column
-    (64 * (c.in-Some.first_column / 64)) near.b (omega arith)
+stretch_at-b-requires-clause-ends g c = (nearest g (goal.at.stretch_at-b-requires-clause-ends g c).In-Some).b.ends _ (omega arith)
 
 pub stretch_at-c-requires-clause-ends : goal.stretch_at-c-requires-clause-ends
-stretch_at-c-requires-clause-ends g c =
-    let r = c.requires in
-    let inv = c.loop-first_column.invariant in
-    let near = nearest-start inv.1 inv.2 inv.3 inv.4 r.first_within r.second_within r.third_within r.fourth_within c.nearer.ensures
-    c.nearer-in-loop-first_column.ensures c.in-Some.ensures in
-    ends-after c.args.third.now (64 * c.loop-first_column.block) c.empty-blank.result c.loop-first_column.c inv.3 c.in-Some.first_column
-    (64 * (c.in-Some.first_column / 64)) near.c (omega arith)
+stretch_at-c-requires-clause-ends g c = (nearest g (goal.at.stretch_at-c-requires-clause-ends g c).In-Some).c.ends _ (omega arith)
 
 pub stretch_at-d-requires-clause-ends : goal.stretch_at-d-requires-clause-ends
-stretch_at-d-requires-clause-ends g c =
-    let r = c.requires in
-    let inv = c.loop-first_column.invariant in
-    let near = nearest-start inv.1 inv.2 inv.3 inv.4 r.first_within r.second_within r.third_within r.fourth_within c.nearer.ensures
-    c.nearer-in-loop-first_column.ensures c.in-Some.ensures in
-    ends-after c.args.fourth.now (64 * c.loop-first_column.block) c.empty-blank.result c.loop-first_column.d inv.4 c.in-Some.first_column
-    (64 * (c.in-Some.first_column / 64)) near.d (omega arith)
+stretch_at-d-requires-clause-ends g c = (nearest g (goal.at.stretch_at-d-requires-clause-ends g c).In-Some).d.ends _ (omega arith)
 
 pub two_words-requires-in-Some-clause-start : goal.two_words-requires-in-Some-clause-start
 two_words-requires-in-Some-clause-start g c =
-    let r = c.requires in
-    let inv = c.loop-first_column.invariant in
-    let near = nearest-start inv.1 inv.2 inv.3 inv.4 r.first_within r.second_within r.third_within r.fourth_within c.nearer.ensures
-    c.nearer-in-loop-first_column.ensures c.in-Some.ensures in
-    let within = near.within in
+    let within = (nearest g (goal.at.two_words-requires-in-Some-clause-start g c).In-Some).within in
     omega (arith, within)
+
+-- the nearest end of the four stretches lies behind their column, and in the plane
+inside : (g : Over) (c : In-Some-two_words-2 g) → (64 * (c.in-Some.first_column / 64) < c.in-Some-nearer.end) × (c.in-Some-nearer.end ≤ 4 * 2 ^ (MAX_LEVEL - 2))
+inside g c =
+    let r = c.requires in
+    nearest-inside c.stretch_at-a.ensures c.stretch_at-b.ensures c.stretch_at-c.ensures c.stretch_at-d.ensures r.first_within r.second_within
+    r.third_within r.fourth_within c.nearer-in-Some.ensures c.nearer-in-Some-2.ensures c.in-Some-nearer.ensures
 
 pub push_rows-requires-clause-within : goal.push_rows-requires-clause-within
 push_rows-requires-clause-within g c =
-    let r = c.requires in
-    let inside = nearest-inside c.stretch_at-a.ensures c.stretch_at-b.ensures c.stretch_at-c.ensures c.stretch_at-d.ensures r.first_within r.second_within
-    r.third_within r.fourth_within c.nearer-in-Some.ensures c.nearer-in-Some-2.ensures c.in-Some-nearer.ensures in
-    omega (arith, inside)
+    let ends = inside g (goal.at.push_rows-requires-clause-within g c).In-Some-two_words-2 in
+    omega (arith, ends)
 
--- a square of a block of columns is one of those that the call needs
-of-block : (content : Id → Tree) (a b c d : List Span) (block : ℕ) (upper lower : Words) → 64 * block < 2 ^ MAX_LEVEL
-    → ((square : ℕ) → square < 16 → four (cells_at upper lower square) ≡ four_at content a b c d (16 * block + square)) → (P : Tree → Type 0)
-    → (i : ℕ) × (i < 16) × SomePart P (four (cells_at upper lower i)) → SomeColumn (SomePart P) 2 (four_at content a b c d)
-of-block content a b c d block upper lower inside wanted P n =
-    (16 * block + n.0, omega (arith, inside, n.1), subst (SomePart P) (wanted n.0 n.1) n.2)
+-- the squares of the words are those of the rows
+wanted : (g : Over) (c : In-Some-two_words-2 g) → let C = g.S.Squares.content c.args.squares.now in
+    (i : ℕ) → i < 16 → four (cells_at c.in-Some-two_words.upper c.in-Some-two_words-2.lower i)
+    ≡ four_at C c.args.first.now c.args.second.now c.args.third.now c.args.fourth.now (16 * (c.in-Some.first_column / 64) + i)
+wanted g c =
+    let r = c.requires in
+    let u = c.in-Some-two_words.ensures in
+    let l = c.in-Some-two_words-2.ensures in
+    words-wanted c.loop-first_column.invariant.5 c.args.first.now c.args.second.now c.args.third.now c.args.fourth.now r.first r.second r.third r.fourth
+    (c.in-Some.first_column / 64) c.in-Some-two_words.upper c.in-Some-two_words-2.lower u.north u.south l.north l.south
+
+-- so a square of the words is one of those that the call needs
+needed : (g : Over) (c : In-Some-two_words-2 g) (P : Tree → Type 0) → let C = g.S.Squares.content c.args.squares.now in
+    (i : ℕ) × (i < 16) × SomePart P (four (cells_at c.in-Some-two_words.upper c.in-Some-two_words-2.lower i))
+    → SomeColumn (SomePart P) 2 (four_at C c.args.first.now c.args.second.now c.args.third.now c.args.fourth.now)
+needed g c P n =
+    let ends = inside g c in
+    (16 * (c.in-Some.first_column / 64) + n.0, omega (arith, ends, n.1), subst (SomePart P) (wanted g c n.0 n.1) n.2)
 
 -- the row goes on from a later block
 from_block : (spans : List Span) (index block next : ℕ) → AreWithin 0 spans → IsPast spans index (64 * block + 64) → block < next
@@ -96,23 +95,14 @@ loop-first_column-preserved g c =
     let block = c.in-Some.first_column / 64 in
     let r = c.requires in
     let inv = c.loop-first_column.invariant in
-    let near = nearest-start inv.1 inv.2 inv.3 inv.4 r.first_within r.second_within r.third_within r.fourth_within c.nearer.ensures
-    c.nearer-in-loop-first_column.ensures c.in-Some.ensures in
+    let k = goal.at.loop-first_column-preserved g c in
+    let near = nearest g k.In-Some in
+    let squares = wanted g k.In-Some-two_words-2 in
     let from = near.from in
     let skipped = filled-skip (g.S.Squares.knows c.loop-first_column.squares) (g.S.Squares.content c.loop-first_column.squares) 2 want
     c.loop-first_column.spans.items (16 * c.loop-first_column.block) (16 * block) inv.0 (omega (arith, from))
-    (λ x le lt. four-unbegun C c.args.first.now c.args.second.now c.args.third.now c.args.fourth.now (64 * c.loop-first_column.block) c.in-Some.first_column
-    (blank-before c.args.first.now (64 * c.loop-first_column.block) c.empty-blank.result c.loop-first_column.a inv.1 c.in-Some.first_column near.a)
-    (blank-before c.args.second.now (64 * c.loop-first_column.block) c.empty-blank.result c.loop-first_column.b inv.2 c.in-Some.first_column near.b)
-    (blank-before c.args.third.now (64 * c.loop-first_column.block) c.empty-blank.result c.loop-first_column.c inv.3 c.in-Some.first_column near.c)
-    (blank-before c.args.fourth.now (64 * c.loop-first_column.block) c.empty-blank.result c.loop-first_column.d inv.4 c.in-Some.first_column near.d)
-    x (omega (arith, le)) (omega (arith, lt))) in
-    let u = c.in-Some-two_words.ensures in
-    let l = c.in-Some-two_words-2.ensures in
-    let wanted = words-wanted inv.5 c.args.first.now c.args.second.now c.args.third.now c.args.fourth.now r.first r.second r.third r.fourth
-    (c.in-Some.first_column / 64) c.in-Some-two_words.upper c.in-Some-two_words-2.lower u.north u.south l.north l.south in
-    let inside = nearest-inside c.stretch_at-a.ensures c.stretch_at-b.ensures c.stretch_at-c.ensures c.stretch_at-d.ensures r.first_within r.second_within
-    r.third_within r.fourth_within c.nearer-in-Some.ensures c.nearer-in-Some-2.ensures c.in-Some-nearer.ensures in
+    (λ x le lt. four-unbegun C c.args.first.now c.args.second.now c.args.third.now c.args.fourth.now c.loop-first_column.a c.loop-first_column.b
+    c.loop-first_column.c c.loop-first_column.d (64 * c.loop-first_column.block) c.in-Some.first_column near x (omega (arith, le)) (omega (arith, lt))) in
     let at : 64 * block ≡ 4 * (16 * block) = omega arith in
     let fa = subst (λ k. IsFound c.args.first.now k c.empty-blank.result c.stretch_at-a.result) at c.stretch_at-a.ensures in
     let fb = subst (λ k. IsFound c.args.second.now k c.empty-blank.result c.stretch_at-b.result) at c.stretch_at-b.ensures in
@@ -128,16 +118,14 @@ loop-first_column-preserved g c =
     four-same K C c.empty-blank.result c.empty-blank.ensures.known c.empty-blank.ensures.square c.args.first.now c.args.second.now c.args.third.now
     c.args.fourth.now r.first r.second r.third r.fourth
     (16 * block) x c.stretch_at-a.result c.stretch_at-b.result c.stretch_at-c.result c.stretch_at-d.result fa fb fc fd lo north.0 north.1 south.0 south.1 in (
-      h.filled want skipped (λ i lt. sym (wanted i lt)) on,
+      h.filled want skipped (λ i lt. sym (squares i lt)) on,
       c.find-a-in-Some.ensures,
       c.find-b-in-Some.ensures,
       c.find-c-in-Some.ensures,
       c.find-d-in-Some.ensures,
       keeps-then inv.5 h.grows.keeps,
       h.within,
-      adds-then _ inv.7 h.grows.adds (λ P n. n)
-          (of-block C c.args.first.now c.args.second.now c.args.third.now c.args.fourth.now block c.in-Some-two_words.upper c.in-Some-two_words-2.lower
-          (omega (arith, inside)) wanted),
+      adds-then _ inv.7 h.grows.adds (λ P n. n) (needed g k.In-Some-two_words-2),
     )
 
 pub returns-clause-squares : goal.returns-clause-squares
@@ -165,20 +153,10 @@ returns-in_err-spans-clause-grows g c = grows-same _ c.args.squares.now (search 
 
 pub returns-in_err-block-clause-grows : goal.returns-in_err-block-clause-grows
 returns-in_err-block-clause-grows g c =
-    let r = c.requires in
-    let inv = c.loop-first_column.invariant in
     let C = g.S.Squares.content c.args.squares.now in
-    let block = c.in-Some.first_column / 64 in
-    let inside = nearest-inside c.stretch_at-a.ensures c.stretch_at-b.ensures c.stretch_at-c.ensures c.stretch_at-d.ensures r.first_within r.second_within
-    r.third_within r.fourth_within c.nearer-in-Some.ensures c.nearer-in-Some-2.ensures c.in-Some-nearer.ensures in
-    let u = c.in-Some-two_words.ensures in
-    let l = c.in-Some-two_words-2.ensures in
-    let wanted = words-wanted inv.5 c.args.first.now c.args.second.now c.args.third.now c.args.fourth.now r.first r.second r.third r.fourth
-    block c.in-Some-two_words.upper c.in-Some-two_words-2.lower u.north u.south l.north l.south in
+    let inv = c.loop-first_column.invariant in
     let M = λ (P : Tree → Type 0). SomeColumn (SomePart P) 2 (four_at C c.args.first.now c.args.second.now c.args.third.now c.args.fourth.now) in
-    grows-err M (grows-behind M inv.5 inv.7 c.in_err-block.ensures.grows
-    (of-block C c.args.first.now c.args.second.now c.args.third.now c.args.fourth.now block c.in-Some-two_words.upper c.in-Some-two_words-2.lower
-    (omega (arith, inside)) wanted))
+    grows-err M (grows-behind M inv.5 inv.7 c.in_err-block.ensures.grows (needed g (goal.at.returns-in_err-block-clause-grows g c).In-Some-two_words-2))
     c.from_residual-in_err-block.ensures.1 (λ P n. n)
 
 pub returns-clause-grows : goal.returns-clause-grows
