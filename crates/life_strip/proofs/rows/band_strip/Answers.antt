@@ -10,10 +10,10 @@ use Rattle.life_strip.specs.Needed.{SomeColumn, SomeSquare}
 use Rattle.life_strip.proofs.BandPictures.{spans-at, picture-read, SomeSquare-read}
 use Rattle.life_strip.proofs.rows.band_strip.Given.{Over}
 use Rattle.life_strip.proofs.rows.band_strip.Goals as goal
-use Rattle.life_strip.proofs.rows.band_strip.Goals.{After-band}
+use Rattle.life_strip.proofs.rows.band_strip.Goals.{After-band_spans}
 
-pub band-requires : goal.band-requires
-band-requires g c =
+pub band_spans-requires : goal.band_spans-requires
+band_spans-requires g c =
     let K = g.S.Squares.knows c.args.squares.now in
     let C = g.S.Squares.content c.args.squares.now in
     let rows = c.args.rows.now in
@@ -35,7 +35,7 @@ band-requires g c =
 pub returns-in-Some-clause-picture : goal.returns-in-Some-clause-picture
 returns-in-Some-clause-picture g c =
     let C = g.S.Squares.content c.args.squares.now in
-    let C' = g.S.Squares.content c.band.new.squares in
+    let C' = g.S.Squares.content c.band_spans.new.squares in
     let squares = subst (λ o. IfSome o
     (λ spans. (k : ℕ) → square_at C' 2 spans.items k ≡ four_at C c.as_slice-first.result.now c.as_slice-second.result.now c.as_slice-third.result.now
     c.as_slice-fourth.result.now k)) c.in-Some.is
@@ -46,7 +46,7 @@ returns-in-Some-clause-picture g c =
     C' (record { level = 2; spans = c.in-Some.spans }) refl squares
 
 -- a square of the four rows that the band needs is one of their picture
-needed : (g : Over) (c : After-band g) (P : Tree → Type 0) → let C = g.S.Squares.content c.args.squares.now in
+needed : (g : Over) (c : After-band_spans g) (P : Tree → Type 0) → let C = g.S.Squares.content c.args.squares.now in
     SomeColumn (SomePart P) 2
     (four_at C c.as_slice-first.result.now c.as_slice-second.result.now c.as_slice-third.result.now c.as_slice-fourth.result.now)
     → SomeSquare P 4 (picture C c.args.rows.now)
@@ -59,10 +59,10 @@ needed g c P n =
 
 pub returns-in_err-spans-clause-grows : goal.returns-in_err-spans-clause-grows
 returns-in_err-spans-clause-grows g c =
-    grows-err _ c.in_err-spans.ensures.grows c.from_residual.ensures.1 (needed g (goal.at.returns-in_err-spans-clause-grows g c).After-band)
+    grows-err _ c.in_err-spans.ensures.grows c.from_residual.ensures.1 (needed g (goal.at.returns-in_err-spans-clause-grows g c).After-band_spans)
 
 pub returns-in-Some-clause-grows : goal.returns-in-Some-clause-grows
-returns-in-Some-clause-grows g c = grows-ok _ c.in_ok-spans.ensures.grows (needed g (goal.at.returns-in-Some-clause-grows g c).After-band)
+returns-in-Some-clause-grows g c = grows-ok _ c.in_ok-spans.ensures.grows (needed g (goal.at.returns-in-Some-clause-grows g c).After-band_spans)
 
 pub returns-in-None-clause-grows : goal.returns-in-None-clause-grows
-returns-in-None-clause-grows g c = grows-ok _ c.in_ok-spans.ensures.grows (needed g (goal.at.returns-in-None-clause-grows g c).After-band)
+returns-in-None-clause-grows g c = grows-ok _ c.in_ok-spans.ensures.grows (needed g (goal.at.returns-in-None-clause-grows g c).After-band_spans)

@@ -11,9 +11,9 @@ use Rattle.life_strip.specs.Band.{four_at, cells_at}
 use Rattle.life_strip.specs.Needed.{SomeColumn}
 use Rattle.life_strip.proofs.SpanLemmas.{past_later, filled-all, filled-skip, before_columns, nearer-both}
 use Rattle.life_strip.proofs.BandLemmas.{IsNearest, nearest-inside, nearest-start, nearer-none, words-wanted, four-same, four-blank, four-unbegun}
-use Rattle.life_strip.proofs.bands.band.Given.{Over}
-use Rattle.life_strip.proofs.bands.band.Goals as goal
-use Rattle.life_strip.proofs.bands.band.Goals.{In-Some, In-Some-two_words-2}
+use Rattle.life_strip.proofs.bands.band_spans.Given.{Over}
+use Rattle.life_strip.proofs.bands.band_spans.Goals as goal
+use Rattle.life_strip.proofs.bands.band_spans.Goals.{In-Some, In-Some-two_words-2}
 
 -- the nearest column where a row has a span again
 nearest : (g : Over) (c : In-Some g)
@@ -49,9 +49,9 @@ inside g c =
     nearest-inside c.stretch_at-a.ensures c.stretch_at-b.ensures c.stretch_at-c.ensures c.stretch_at-d.ensures r.first_within r.second_within
     r.third_within r.fourth_within c.nearer-in-Some.ensures c.nearer-in-Some-2.ensures c.in-Some-nearer.ensures
 
-pub push_rows-requires-clause-within : goal.push_rows-requires-clause-within
-push_rows-requires-clause-within g c =
-    let ends = inside g (goal.at.push_rows-requires-clause-within g c).In-Some-two_words-2 in
+pub push_block-requires-clause-within : goal.push_block-requires-clause-within
+push_block-requires-clause-within g c =
+    let ends = inside g (goal.at.push_block-requires-clause-within g c).In-Some-two_words-2 in
     omega (arith, ends)
 
 -- the squares of the words are those of the rows
