@@ -26,10 +26,16 @@ at-first level spans within = record {
   column = omega arith;
 }
 
+-- where the next square begins, and up to where this one goes on in a strip
+record IsNextSquare (place : Place) (first end next side : ℕ) : Type 0 where
+  goes : end ≤ goes_to place (2 * (first / 2))
+  later : 2 * next ≤ 2 * (first / 2) + 2 ⊎ 2 * next ≤ end
+  from : 2 * (first / 2) + 1 ≤ 2 * next
+  inside : next ≤ side
+
 -- a strip goes on from a place, in a later column no farther than the end of the place before
-goes_on : (level : ℕ) (spans : List Span) (column : ℕ) (place joined : Place) (west end next : ℕ) → AreWithin level spans → Rise spans
-    → IsAt spans column place → IsAt spans (west + 1) joined
-    → end ≤ goes_to place west → place.end ≤ joined.end → 2 * next ≤ west + 2 ⊎ 2 * next ≤ end → west + 1 ≤ 2 * next → next ≤ 2 ^ (MAX_LEVEL - suc level)
+goes_on : (level : ℕ) (spans : List Span) {column first end next : ℕ} {place joined : Place} → AreWithin level spans → Rise spans → IsAt spans column place
+    → IsAt spans (2 * (first / 2) + 1) joined → place.end ≤ joined.end → IsNextSquare place first end next (2 ^ (MAX_LEVEL - suc level))
     → record {
       columns : HaveColumns spans;
       rises : Rise spans;
@@ -37,17 +43,23 @@ goes_on : (level : ℕ) (spans : List Span) (column : ℕ) (place joined : Place
       reach : 2 * next ≤ joined.end;
       column : 2 * next < NEVER;
     }
-goes_on level spans column place joined west end next within rises before at le later reach from inside = record {
-  columns = before_columns (2 ^ (MAX_LEVEL - level)) spans within;
-  rises = rises;
-  place = (west + 1, from, at);
-  reach = reached reach;
-  column = let small = pow_mono {i = MAX_LEVEL - suc level} {j = MAX_LEVEL} (omega arith) in omega (arith, inside, small);
-}
+goes_on level spans {column} {first} {end} {next} {place} {joined} within rises before at later n =
+    let small = pow_mono {i = MAX_LEVEL - suc level} {j = MAX_LEVEL} (omega arith) in
+    let inside = n.inside in
+    record {
+      columns = before_columns (2 ^ (MAX_LEVEL - level)) spans within;
+      rises = rises;
+      place = (2 * (first / 2) + 1, n.from, at);
+      reach = reached n.later;
+      column = omega (arith, inside, small);
+    }
   where
-    reached : 2 * next ≤ west + 2 ⊎ 2 * next ≤ end → 2 * next ≤ joined.end
+    reached : 2 * next ≤ 2 * (first / 2) + 2 ⊎ 2 * next ≤ end → 2 * next ≤ joined.end
     reached (inl short) = let beyond = at.beyond in omega (arith, short, beyond)
-    reached (inr long) = let goes = goes-end spans column place before west in omega (arith, long, le, goes, later)
+    reached (inr long) =
+        let ends = goes-end spans column place before (2 * (first / 2)) in
+        let goes = n.goes in
+        omega (arith, long, goes, ends, later)
 
 -- the next square begins beside the one before, or where that one ends
 split : (first end next : ℕ) → next ≡ max (end / 2) (first / 2 + 1) → 2 * next ≤ 2 * (first / 2) + 2 ⊎ 2 * next ≤ end
@@ -134,47 +146,35 @@ join_at-requires g c =
           (omega (arith, inv.lower)) f.south_end;
     }
 
--- where the next square begins, and up to where this one goes on in both strips
-record IsNextSquare (upper lower : Place) (first end next side : ℕ) : Type 0 where
-  north : end ≤ goes_to upper (2 * (first / 2))
-  south : end ≤ goes_to lower (2 * (first / 2))
-  later : 2 * next ≤ 2 * (first / 2) + 2 ⊎ 2 * next ≤ end
-  from : 2 * (first / 2) + 1 ≤ 2 * next
-  inside : next ≤ side
-
 next-square : (g : Over) (c : After-max-column g)
     → IsFront c.loop-first.north c.loop-first.south c.loop-first.column c.loop-first.first (2 ^ (MAX_LEVEL - suc c.args.level))
-    → IsNextSquare c.loop-first.north c.loop-first.south c.loop-first.first c.min-end.result c.max-column.result (2 ^ (MAX_LEVEL - suc c.args.level))
+    → record {
+      north : IsNextSquare c.loop-first.north c.loop-first.first c.min-end.result c.max-column.result (2 ^ (MAX_LEVEL - suc c.args.level));
+      south : IsNextSquare c.loop-first.south c.loop-first.first c.min-end.result c.max-column.result (2 ^ (MAX_LEVEL - suc c.args.level));
+    }
 next-square g c f =
     let within = f.within in
     let north = subst (λ z. c.min-end.result ≤ z) c.end_of.ensures (omega (arith, c.min-end.ensures)) in
     let south = subst (λ z. c.min-end.result ≤ z) c.end_of-in-loop-first.ensures (omega (arith, c.min-end.ensures)) in
     let reach = f.reach c.min-end.result north south in
+    let later = split c.loop-first.first c.min-end.result c.max-column.result c.max-column.ensures in
+    let inside : c.max-column.result ≤ 2 ^ (MAX_LEVEL - suc c.args.level) = omega (arith, c.max-column.ensures, reach, within) in
     record {
-      north = north;
-      south = south;
-      later = split c.loop-first.first c.min-end.result c.max-column.result c.max-column.ensures;
-      from = omega (arith, c.max-column.ensures);
-      inside = omega (arith, c.max-column.ensures, reach, within);
+      north = record { goes = north; later = later; from = omega (arith, c.max-column.ensures); inside = inside };
+      south = record { goes = south; later = later; from = omega (arith, c.max-column.ensures); inside = inside };
     }
 
 pub pass-north-requires : goal.pass-north-requires
 pass-north-requires g c =
-    let r = c.requires in
     let k = goal.at.pass-north-requires g c in
-    let n = next-square g k.After-max-column (begun g k.After-min-end) in
-    goes_on c.args.level c.args.upper.now (2 * c.loop-first.column) c.loop-first.north c.in_ok-joined.joined.north (2 * (c.loop-first.first / 2))
-    c.min-end.result c.max-column.result r.upper_within r.upper_rises c.loop-first.invariant.north c.in_ok-joined.ensures.north n.north
-    c.in_ok-joined.ensures.north_later n.later n.from n.inside
+    goes_on c.args.level c.args.upper.now c.requires.upper_within c.requires.upper_rises c.loop-first.invariant.north c.in_ok-joined.ensures.north
+    c.in_ok-joined.ensures.north_later (next-square g k.After-max-column (begun g k.After-min-end)).north
 
 pub pass-south-requires : goal.pass-south-requires
 pass-south-requires g c =
-    let r = c.requires in
     let k = goal.at.pass-south-requires g c in
-    let n = next-square g k.After-max-column (begun g k.After-min-end) in
-    goes_on c.args.level c.args.lower.now (2 * c.loop-first.column) c.loop-first.south c.in_ok-joined.joined.south (2 * (c.loop-first.first / 2))
-    c.min-end.result c.max-column.result r.lower_within r.lower_rises c.loop-first.invariant.south c.in_ok-joined.ensures.south n.south
-    c.in_ok-joined.ensures.south_later n.later n.from n.inside
+    goes_on c.args.level c.args.lower.now c.requires.lower_within c.requires.lower_rises c.loop-first.invariant.south c.in_ok-joined.ensures.south
+    c.in_ok-joined.ensures.south_later (next-square g k.After-max-column (begun g k.After-min-end)).south
 
 pub loop-first-smaller : goal.loop-first-smaller
 loop-first-smaller g c =
@@ -231,7 +231,7 @@ loop-first-preserved g c =
       south = c.pass-south.ensures.place;
       keeps = keeps-then inv.keeps h.grows.keeps;
       adds = adds-then _ inv.adds h.grows.adds (λ P n. n) (needed g k.After-min-end);
-      within = (next-square g k.After-max-column f).inside;
+      within = (next-square g k.After-max-column f).north.inside;
       upper = omega (arith, near);
       lower = omega (arith, near);
       one = λ le. omega (arith, near, le);
