@@ -143,34 +143,15 @@ cell-outside t x y apart = by (is_inside (half_side t) x y) refl
     by true e = absurd (apart (inside_facts (half_side t) x y e))
     by false e = cell_outside t x y e
 
--- the north-western corner of the square one level higher
-abbrev pub outer : Tree → ℤ
-outer t = neg_ℤ (pos (2 ^ depth t))
-
--- a square one level higher whose piece of the next states is the whole of it
-pub root-next : (rule : OuterTotalistic) (t r : Tree) → has_digit rule.sets.births 0 ≡ false → 1 ≤ depth t → IsFull r → depth r ≡ depth t + 1
-    → IsPiece (next_life rule (tree_cell t)) (outer t) (outer t) r → (x y : ℤ) → tree_cell r x y ≡ next_life rule (tree_cell t) x y
-root-next rule t r quiet high full level piece x y = by (is_inside (half_side r) x y) refl
+-- the whole of a plane is in a square that is a piece of it, where all is 0 outside
+cells-of_root : (cells : ℤ → ℤ → ℕ) (r : Tree) (start : ℤ) → IsFull r → 1 ≤ depth r → start ≡ corner r → IsPiece cells start start r
+    → ((x y : ℤ) → (Inside (half_side r) x y → ⊥) → cells x y ≡ 0) → (x y : ℤ) → tree_cell r x y ≡ cells x y
+cells-of_root cells r start full high from piece outside x y = by (is_inside (half_side r) x y) refl
   where
-    next : ℤ → ℤ → ℕ
-    next = next_life rule (tree_cell t)
-
     whole : half_side r + half_side r ≡ 2 ^ depth r
-    whole = side (depth r) (omega arith)
+    whole = side (depth r) high
 
-    same : depth r - 1 ≡ depth t
-    same = omega arith
-
-    halves : half_side r ≡ half_side t + half_side t
-    halves = ap (λ n. 2 ^ n) same ∙ sym (side (depth t) high)
-
-    from : outer t ≡ corner r
-    from = ap (λ n. neg_ℤ (pos (2 ^ n))) (sym same)
-
-    some : 0 < half_side t
-    some = pow_pos (depth t - 1)
-
-    by : (b : Bool) → is_inside (half_side r) x y ≡ b → tree_cell r x y ≡ next_life rule (tree_cell t) x y
+    by : (b : Bool) → is_inside (half_side r) x y ≡ b → tree_cell r x y ≡ cells x y
     by true e =
         let k = inside_facts (half_side r) x y e in
         let a = inside_offset (half_side r) x k.west k.east in
@@ -179,18 +160,37 @@ root-next rule t r quiet high full level piece x y = by (is_inside (half_side r)
         let at-y = b.1 in
         let ex : corner r +ℤ pos a.0 ≡ x = omega (arith, ints, at-x) in
         let ey : corner r +ℤ pos b.0 ≡ y = omega (arith, ints, at-y) in
-        cell_inside r x y a.0 b.0 e a.1 b.1 ∙ cells-of_piece (next_life rule (tree_cell t)) r (corner r) (corner r) full
-        (IsPiece-moved next _ _ _ _ r from from piece) a.0 b.0 (omega (arith, whole, a.2)) (omega (arith, whole, b.2))
-        ∙ (λ z. next_life rule (tree_cell t) (ex z) (ey z))
-    by false e =
-        let apart : Inside (half_side r) x y → ⊥ = (λ i. true≢false (sym (inside_test (half_side r) x y i) ∙ e)) in
-        cell_outside r x y e
-        ∙ sym (next-zero rule (tree_cell t) x y quiet (λ u v a b c d. cell-outside t u v (λ i. apart (record {
-          west = omega (arith, ints, halves, some, i.west, b);
-          east = omega (arith, ints, halves, some, i.east, a);
-          north = omega (arith, ints, halves, some, i.north, d);
-          south = omega (arith, ints, halves, some, i.south, c);
-        }))))
+        cell_inside r x y a.0 b.0 e a.1 b.1 ∙ cells-of_piece cells r (corner r) (corner r) full
+        (IsPiece-moved cells _ _ _ _ r from from piece) a.0 b.0 (omega (arith, whole, a.2)) (omega (arith, whole, b.2))
+        ∙ (λ z. cells (ex z) (ey z))
+    by false e = cell_outside r x y e ∙ sym (outside x y (λ i. true≢false (sym (inside_test (half_side r) x y i) ∙ e)))
+
+-- the north-western corner of the square one level higher
+abbrev pub outer : Tree → ℤ
+outer t = neg_ℤ (pos (2 ^ depth t))
+
+-- a square one level higher whose piece of the next states is the whole of it
+pub root-next : (rule : OuterTotalistic) (t r : Tree) → has_digit rule.sets.births 0 ≡ false → 1 ≤ depth t → IsFull r → depth r ≡ depth t + 1
+    → IsPiece (next_life rule (tree_cell t)) (outer t) (outer t) r → (x y : ℤ) → tree_cell r x y ≡ next_life rule (tree_cell t) x y
+root-next rule t r quiet high full level piece =
+    cells-of_root (next_life rule (tree_cell t)) r (outer t) full (omega arith) (ap (λ n. neg_ℤ (pos (2 ^ n))) (sym same)) piece outside
+  where
+    same : depth r - 1 ≡ depth t
+    same = omega arith
+
+    halves : half_side r ≡ half_side t + half_side t
+    halves = ap (λ n. 2 ^ n) same ∙ sym (side (depth t) high)
+
+    some : 0 < half_side t
+    some = pow_pos (depth t - 1)
+
+    outside : (x y : ℤ) → (Inside (half_side r) x y → ⊥) → next_life rule (tree_cell t) x y ≡ 0
+    outside x y apart = next-zero rule (tree_cell t) x y quiet (λ u v a b c d. cell-outside t u v (λ i. apart (record {
+      west = omega (arith, ints, halves, some, i.west, b);
+      east = omega (arith, ints, halves, some, i.east, a);
+      north = omega (arith, ints, halves, some, i.north, d);
+      south = omega (arith, ints, halves, some, i.south, c);
+    })))
 
 -- outside a square whose edge is clear the next states are 0
 pub next-outside : (rule : OuterTotalistic) (t : Tree) → has_digit rule.sets.births 0 ≡ false → HasClearEdge t → (x y : ℤ)
@@ -215,36 +215,12 @@ next-outside rule t quiet clear x y apart = next-zero rule (tree_cell t) x y qui
 -- a square whose edge is clear, with the next states of its own places
 pub plane-next : (rule : OuterTotalistic) (t r : Tree) → has_digit rule.sets.births 0 ≡ false → 1 ≤ depth t → IsFull r → depth r ≡ depth t → HasClearEdge t
     → IsPiece (next_life rule (tree_cell t)) (corner t) (corner t) r → (x y : ℤ) → tree_cell r x y ≡ next_life rule (tree_cell t) x y
-plane-next rule t r quiet high full level clear piece x y = by (is_inside (half_side r) x y) refl
+plane-next rule t r quiet high full level clear piece =
+    cells-of_root (next_life rule (tree_cell t)) r (corner t) full (omega (arith, high, level)) (ap (λ n. neg_ℤ (pos n)) halves) piece
+    (λ x y apart. next-outside rule t quiet clear x y (λ i. apart (subst (λ n. Inside n x y) halves i)))
   where
-    next : ℤ → ℤ → ℕ
-    next = next_life rule (tree_cell t)
-
-    whole : half_side r + half_side r ≡ 2 ^ depth r
-    whole = side (depth r) (omega (arith, high, level))
-
     halves : half_side t ≡ half_side r
     halves = ap (λ n. 2 ^ (n - 1)) (sym level)
-
-    from : corner t ≡ corner r
-    from = ap (λ n. neg_ℤ (pos n)) halves
-
-    by : (b : Bool) → is_inside (half_side r) x y ≡ b → tree_cell r x y ≡ next_life rule (tree_cell t) x y
-    by true e =
-        let k = inside_facts (half_side r) x y e in
-        let a = inside_offset (half_side r) x k.west k.east in
-        let b = inside_offset (half_side r) y k.north k.south in
-        let at-x = a.1 in
-        let at-y = b.1 in
-        let ex : corner r +ℤ pos a.0 ≡ x = omega (arith, ints, at-x) in
-        let ey : corner r +ℤ pos b.0 ≡ y = omega (arith, ints, at-y) in
-        cell_inside r x y a.0 b.0 e a.1 b.1 ∙ cells-of_piece (next_life rule (tree_cell t)) r (corner r) (corner r) full
-        (IsPiece-moved next _ _ _ _ r from from piece) a.0 b.0 (omega (arith, whole, a.2)) (omega (arith, whole, b.2))
-        ∙ (λ z. next_life rule (tree_cell t) (ex z) (ey z))
-    by false e =
-        cell_outside r x y e
-        ∙ sym (next-outside rule t quiet clear x y
-        (λ i. true≢false (sym (inside_test (half_side r) x y (subst (λ n. Inside n x y) halves i)) ∙ e)))
 
 -- ---- the quarters of a square in a corner of sixteen squares
 

@@ -1,9 +1,9 @@
 -- Squares of level 2 by their cells.
-use Rattle.std.proofs.Common.{◌≡◌, ℕ, zero, suc, ◌-◌, ◌<◌, ℤ, pos, ◌+ℤ◌, sym, ◌∙◌, ap, subst, arith}
+use Rattle.std.proofs.Common.{◌≡◌, ℕ, zero, suc, ◌+◌, ◌-◌, ◌/◌, ◌%◌, ◌<◌, ℤ, pos, ◌+ℤ◌, sym, ◌∙◌, ap, subst, arith}
 use Rattle.std.specs.Int.{bit_at}
 use Rattle.std.proofs.lemmas.Int.{ints}
 use Rattle.life_base.specs.Tree.{Tree, point}
-use Rattle.life_quad.specs.Store.{four}
+use Rattle.life_quad.specs.Store.{two, four}
 use Rattle.life_block.specs.Bits.{place_in, HasSquare}
 use Rattle.life_block.specs.Needed.{square_from}
 use Rattle.life_block.specs.Pieces.{IsPiece}
@@ -42,30 +42,26 @@ module _ (f : ℤ → ℤ → ℕ) (x y : ℤ) (n : ℕ) (small : n < 65536) whe
       → point v ≡ point (f s t)
   cell-of h r i lr li is es et = ap point (is ∙ h r i lr li ∙ (λ j. f (es j) (et j)))
 
+  -- four of them as a square of level 1
+  quarter : (m : ℕ) {s t : ℤ} → HasSquare f x y n → (r i : ℕ) → r < 3 → i < 3 → x +ℤ pos i ≡ s → y +ℤ pos r ≡ t → m / 8 ≡ bit_at n (15 - place_in r i)
+      → m / 4 % 2 ≡ bit_at n (15 - place_in r (i + 1)) → m / 2 % 2 ≡ bit_at n (15 - place_in (r + 1) i)
+      → m % 2 ≡ bit_at n (15 - place_in (r + 1) (i + 1)) → two m ≡ square_from f 1 s t
+  unfolding square_from
+  quarter m h r i lr li es et nw ne sw se =
+      quads _ _ _ _ _ _ _ _
+      (cell-of h r i (omega (arith, lr)) (omega (arith, li)) nw es et)
+      (cell-of h r (i + 1) (omega (arith, lr)) (omega (arith, li)) ne (omega (arith, ints, es)) et)
+      (cell-of h (r + 1) i (omega (arith, lr)) (omega (arith, li)) sw es (omega (arith, ints, et)))
+      (cell-of h (r + 1) (i + 1) (omega (arith, lr)) (omega (arith, li)) se (omega (arith, ints, es)) (omega (arith, ints, et)))
+
   pub square-is : HasSquare f x y n → four n ≡ square_from f 2 x y
   unfolding square_from
   square-is h =
       quads _ _ _ _ _ _ _ _
-      (quads _ _ _ _ _ _ _ _
-      (cell-of h 0 0 (omega arith) (omega arith) (omega (arith, small)) (omega (arith, ints)) (omega (arith, ints)))
-      (cell-of h 0 1 (omega arith) (omega arith) (omega (arith, small)) (omega (arith, ints)) (omega (arith, ints)))
-      (cell-of h 1 0 (omega arith) (omega arith) (omega (arith, small)) (omega (arith, ints)) (omega (arith, ints)))
-      (cell-of h 1 1 (omega arith) (omega arith) (omega (arith, small)) (omega (arith, ints)) (omega (arith, ints))))
-      (quads _ _ _ _ _ _ _ _
-      (cell-of h 0 2 (omega arith) (omega arith) (omega (arith, small)) (omega (arith, ints)) (omega (arith, ints)))
-      (cell-of h 0 3 (omega arith) (omega arith) (omega (arith, small)) (omega (arith, ints)) (omega (arith, ints)))
-      (cell-of h 1 2 (omega arith) (omega arith) (omega (arith, small)) (omega (arith, ints)) (omega (arith, ints)))
-      (cell-of h 1 3 (omega arith) (omega arith) (omega (arith, small)) (omega (arith, ints)) (omega (arith, ints))))
-      (quads _ _ _ _ _ _ _ _
-      (cell-of h 2 0 (omega arith) (omega arith) (omega (arith, small)) (omega (arith, ints)) (omega (arith, ints)))
-      (cell-of h 2 1 (omega arith) (omega arith) (omega (arith, small)) (omega (arith, ints)) (omega (arith, ints)))
-      (cell-of h 3 0 (omega arith) (omega arith) (omega (arith, small)) (omega (arith, ints)) (omega (arith, ints)))
-      (cell-of h 3 1 (omega arith) (omega arith) (omega (arith, small)) (omega (arith, ints)) (omega (arith, ints))))
-      (quads _ _ _ _ _ _ _ _
-      (cell-of h 2 2 (omega arith) (omega arith) (omega (arith, small)) (omega (arith, ints)) (omega (arith, ints)))
-      (cell-of h 2 3 (omega arith) (omega arith) (omega (arith, small)) (omega (arith, ints)) (omega (arith, ints)))
-      (cell-of h 3 2 (omega arith) (omega arith) (omega (arith, small)) (omega (arith, ints)) (omega (arith, ints)))
-      (cell-of h 3 3 (omega arith) (omega arith) (omega (arith, small)) (omega (arith, ints)) (omega (arith, ints))))
+      (quarter _ h 0 0 (omega arith) (omega arith) (omega (arith, ints)) (omega (arith, ints)) (omega (arith, small)) (omega arith) (omega arith) (omega arith))
+      (quarter _ h 0 2 (omega arith) (omega arith) (omega (arith, ints)) (omega (arith, ints)) (omega arith) (omega arith) (omega arith) (omega arith))
+      (quarter _ h 2 0 (omega arith) (omega arith) (omega (arith, ints)) (omega (arith, ints)) (omega arith) (omega arith) (omega arith) (omega arith))
+      (quarter _ h 2 2 (omega arith) (omega arith) (omega (arith, ints)) (omega (arith, ints)) (omega arith) (omega arith) (omega arith) (omega arith))
 
 -- of a piece whose cells are those of the number
 pub square-of : (f : ℤ → ℤ → ℕ) (x z y : ℤ) (t : Tree) (n : ℕ) → n < 65536 → x ≡ z → t ≡ four n → IsPiece f x y t → HasSquare f z y n

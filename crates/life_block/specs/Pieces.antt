@@ -26,6 +26,10 @@ IsPiece cells x y (quad nw ne sw se) =
 abbrev pub IsBinary : (ℤ → ℤ → ℕ) → Type 0
 IsBinary cells = (x y : ℤ) → cells x y < 2
 
+-- the square is this one, where it has only such states
+abbrev pub IsWhereBinary : Tree → Tree → Type 0
+IsWhereBinary t u = (cells : ℤ → ℤ → ℕ) (x y : ℤ) → IsBinary cells → IsPiece cells x y t → t ≡ u
+
 -- so far west or north
 abbrev pub back : ℤ → ℕ → ℤ
 back x side = x +ℤ neg_ℤ (pos side)

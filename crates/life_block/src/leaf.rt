@@ -7,7 +7,7 @@ ghost use Rattle.life_quad.specs.Store.{two, four};
 ghost use Rattle.life_sweep.specs.Generation.{next_life};
 ghost use Rattle.life_block.specs.Bits.{HasBand, AreBands};
 ghost use Rattle.life_block.specs.Needed.{square_from};
-ghost use Rattle.life_block.specs.Pieces.{IsPiece, IsBinary, IsAt, InFour, InSixteen, AreFour, AreSixteen, back};
+ghost use Rattle.life_block.specs.Pieces.{IsPiece, IsBinary, IsWhereBinary, IsAt, InFour, InSixteen, AreFour, AreSixteen, back};
 
 use crate::grid::{Four, Sixteen};
 use crate::words::{next_squares, rows_of_squares};
@@ -18,8 +18,7 @@ use life_quad::{Id, Quarters, Squares, divide};
 fn one_cell<S: Squares>(squares: &S, id: Id) -> u16
     requires { IsAt (S.knows squares.now) (S.content squares.now) 0 id }
     ensures small { result < 2 }
-    ensures square { (cells : ℤ → ℤ → ℕ) (x y : ℤ) → IsBinary cells
-        → IsPiece cells x y (S.content squares.now id) → S.content squares.now id ≡ point result }
+    ensures square { IsWhereBinary (S.content squares.now id) (point result) }
 {
     match squares.state(id) {
         Some(state) => u16::from(state) % 2,
@@ -31,8 +30,7 @@ fn one_cell<S: Squares>(squares: &S, id: Id) -> u16
 fn two_by_two<S: Squares>(squares: &S, id: Id) -> u16
     requires { IsAt (S.knows squares.now) (S.content squares.now) 1 id }
     ensures small { result < 16 }
-    ensures square { (cells : ℤ → ℤ → ℕ) (x y : ℤ) → IsBinary cells
-        → IsPiece cells x y (S.content squares.now id) → S.content squares.now id ≡ two result }
+    ensures square { IsWhereBinary (S.content squares.now id) (two result) }
 {
     let Quarters { nw, ne, sw, se } = divide(squares, id);
     one_cell(squares, nw) * 8
@@ -45,8 +43,7 @@ fn two_by_two<S: Squares>(squares: &S, id: Id) -> u16
 #[inline(never)]
 fn four_by_four<S: Squares>(squares: &S, id: Id) -> u16
     requires { IsAt (S.knows squares.now) (S.content squares.now) 2 id }
-    ensures { (cells : ℤ → ℤ → ℕ) (x y : ℤ) → IsBinary cells
-        → IsPiece cells x y (S.content squares.now id) → S.content squares.now id ≡ four result }
+    ensures { IsWhereBinary (S.content squares.now id) (four result) }
 {
     let Quarters { nw, ne, sw, se } = divide(squares, id);
     two_by_two(squares, nw) * 4096
@@ -59,8 +56,7 @@ fn four_by_four<S: Squares>(squares: &S, id: Id) -> u16
 fn cells_in<S: Squares>(squares: &S, id: Id) -> u64
     requires { IsAt (S.knows squares.now) (S.content squares.now) 2 id }
     ensures small { result < 65536 }
-    ensures square { (cells : ℤ → ℤ → ℕ) (x y : ℤ) → IsBinary cells
-        → IsPiece cells x y (S.content squares.now id) → S.content squares.now id ≡ four result }
+    ensures square { IsWhereBinary (S.content squares.now id) (four result) }
 {
     match squares.small_cells(id) {
         Some(cells) => u64::from(cells),

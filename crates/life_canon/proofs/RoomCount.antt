@@ -10,6 +10,7 @@ use Rattle.life_mc.specs.Squares.{leaf_tree}
 use Rattle.life_quad.specs.Refused.{SomePart}
 use Rattle.life_quad.specs.Store.{Nodes, held}
 use Rattle.life_strip.specs.Needed.{SomeSquare}
+use Rattle.life_strip.proofs.NeededLemmas.{SomeSquare-as}
 use Rattle.life_canon.specs.Needs.{SomeOfLine, SomeOfLines, of_node_line, of_runs, SomeRoot, trimmed_root, grown_root, of_plane, of_root, SomeOfFile, of_lines, at_end, IsNew}
 use Rattle.life_canon.specs.Room.{RoomSuffices, HoldsOnly, room_for}
 use Rattle.life_canon.specs.Universe.{Universe, centred, whole}
@@ -40,21 +41,7 @@ find-line P lines (Quad level nw ne sw se) h = record { square = _; holds = h; s
 
 find-square : (P : Tree → Type 0) (rows : ℕ) (states : ℕ → ℕ → ℕ) → SomeSquare P rows states → Found P (λ Q. SomeSquare Q rows states)
 find-square P rows states s =
-    record {
-      square = s.square;
-      holds = s.property;
-      some = record {
-        square = s.square;
-        full = s.full;
-        deep = s.deep;
-        column = s.column;
-        row = s.row;
-        east = s.east;
-        south = s.south;
-        cells = s.cells;
-        property = refl;
-      };
-    }
+    record { square = s.square; holds = s.property; some = SomeSquare-as (omega arith) (λ i j li lj. refl) s refl }
 
 find-lines : (P : Tree → Type 0) (lines : List (List ℕ)) → SomeOfLines MAX_LEVEL P lines → Found P (λ Q. SomeOfLines MAX_LEVEL Q lines)
 find-lines P lines (of_node_line before line behind square e prefix squares some) =

@@ -8,7 +8,7 @@ use Rattle.life_quad.specs.Store.{two, four}
 use Rattle.life_base.specs.Tree.{Tree, quad, blank}
 use Rattle.life_strip.specs.declared.spans.Span.{Span}
 use Rattle.life_strip.specs.declared.spans.Stretch.{Stretch}
-use Rattle.life_strip.specs.Strip.{id_at, square_or_blank, square_at, quad_at, IsStrip, IsFound, IsBefore, IsNearer, AreBefore, AreWithin, IsExtended, Rise}
+use Rattle.life_strip.specs.Strip.{id_at, square_or_blank, square_at, quad_at, IsStrip, IsFound, IsBefore, IsNearer, AreBefore, AreWithin, EndsAfter, IsExtended, Rise}
 use Rattle.life_strip.specs.declared.words.Words.{Words}
 use Rattle.life_strip.specs.Band.{four_at, cell_in, IsWord, west_at, east_at, cells_at}
 use Rattle.std.proofs.Math.ListN.{set, length-set}
@@ -16,7 +16,7 @@ use Rattle.std.proofs.lemmas.List.{get_or-set_same, get_or-set_other}
 use Rattle.std.proofs.lemmas.List.Elements.{All-set}
 use Rattle.life_strip.proofs.GivenLemmas.{all_rest}
 use Rattle.life_strip.proofs.WordLemmas.{west-square, east-square, west-small, east-small}
-use Rattle.life_strip.proofs.SpanLemmas.{Keeps, id_at-in, id_at-after, before_more, get_any, strip-kept, quad-keeps, quad-same, nearer-beyond, nearer-within, found-within, before_earlier, none-left, nearer-both, first-column, quad-blank}
+use Rattle.life_strip.proofs.SpanLemmas.{Keeps, id_at-in, id_at-after, before_more, get_any, strip-kept, quad-keeps, quad-same, nearer-beyond, nearer-within, found-within, before_earlier, none-left, nearer-both, first-column, quad-blank, blank-before, ends-after}
 
 -- spans rise while the last of them gets a new end
 last-rises : (spans : List Span) (n : ℕ) (s : Span) → Rise spans → n + 1 ≡ length spans → ((d : Span) → (get_or spans n d).start ≡ s.start)
@@ -158,12 +158,33 @@ module _ (content : Id → Tree) (column : ℕ) (i : Id) where
           let se = none-blank l fl hl el (2 * k + 1) (omega (arith, le, more)) in
           λ j. quad (nw j) (ne j) (sw j) (se j)
 
+-- a row has no span up to a column, and the one that was found ends after it
+pub record IsUnbegun (spans : List Span) (found : Stretch) (column first : ℕ) : Type 0 where
+  pub none : (y : ℕ) → column ≤ y → y < first → id_at spans y ≡ None
+  pub ends : (y : ℕ) → y ≤ first → EndsAfter spans found.index y
+
+unbegun : (spans : List Span) (column : ℕ) (i : Id) (f : Stretch) (first : ℕ) → IsFound spans column i f → ((x : ℕ) → x < first → IsBefore x f.start)
+    → IsUnbegun spans f column first
+unbegun spans column i f first h before =
+    record { none = blank-before spans column i f h first before; ends = λ y le. ends-after spans column i f h first y before le }
+
+-- the nearest of the columns where four rows have a span: none of them has one before it
+pub record IsNearest (ra rb rc rd : List Span) (fa fb fc fd : Stretch) (column first : ℕ) : Type 0 where
+  pub from : column ≤ first
+  pub within : first < 2 ^ MAX_LEVEL
+  pub a : IsUnbegun ra fa column first
+  pub b : IsUnbegun rb fb column first
+  pub c : IsUnbegun rc fc column first
+  pub d : IsUnbegun rd fd column first
+
 -- four rows without a span in the columns of a square of level 2
-pub four-unbegun : (content : Id → Tree) (a b c d : List Span) (column first : ℕ) → ((y : ℕ) → column ≤ y → y < first → id_at a y ≡ None)
-    → ((y : ℕ) → column ≤ y → y < first → id_at b y ≡ None) → ((y : ℕ) → column ≤ y → y < first → id_at c y ≡ None)
-    → ((y : ℕ) → column ≤ y → y < first → id_at d y ≡ None)
+pub four-unbegun : (content : Id → Tree) (a b c d : List Span) (fa fb fc fd : Stretch) (column first : ℕ) → IsNearest a b c d fa fb fc fd column first
     → (x : ℕ) → column ≤ 4 * x → 4 * x + 3 < first → four_at content a b c d x ≡ blank 2
-four-unbegun content a b c d column first na nb nc nd x le lt =
+four-unbegun content a b c d fa fb fc fd column first near x le lt =
+    let na = near.a.none in
+    let nb = near.b.none in
+    let nc = near.c.none in
+    let nd = near.d.none in
     let west : column ≤ 2 * (2 * x) = omega (arith, le) in
     let east : column ≤ 2 * (2 * x + 1) = omega (arith, le) in
     let nw = quad-blank content 0 a b column (2 * x) (λ y from to. na y from (omega (arith, to, lt))) (λ y from to. nb y from (omega (arith, to, lt))) west in
@@ -174,30 +195,21 @@ four-unbegun content a b c d column first na nb nc nd x le lt =
     east in
     λ i. quad (nw i) (ne i) (sw i) (se i)
 
--- the nearest of the columns where four rows have a span: none of them starts before it
-pub record IsNearest (fa fb fc fd : Stretch) (column first : ℕ) : Type 0 where
-  pub from : column ≤ first
-  pub within : first < 2 ^ MAX_LEVEL
-  pub a : (x : ℕ) → x < first → IsBefore x fa.start
-  pub b : (x : ℕ) → x < first → IsBefore x fb.start
-  pub c : (x : ℕ) → x < first → IsBefore x fc.start
-  pub d : (x : ℕ) → x < first → IsBefore x fd.start
-
 pub nearest-start : {a b c d : List Span} {column first : ℕ} {i : Id} {fa fb fc fd : Stretch} {n s : Option ℕ}
     → IsFound a column i fa → IsFound b column i fb → IsFound c column i fc → IsFound d column i fd → AreWithin 0 a → AreWithin 0 b → AreWithin 0 c
     → AreWithin 0 d
     → MatchOption n ((fa.start ≡ None) × (fb.start ≡ None)) (λ e. IsNearer e fa.start fb.start)
     → MatchOption s ((fc.start ≡ None) × (fd.start ≡ None)) (λ e. IsNearer e fc.start fd.start) → IsNearer first n s
-    → IsNearest fa fb fc fd column first
+    → IsNearest a b c d fa fb fc fd column first
 nearest-start {a} {b} {c} {d} {column} {first} {i} {fa} {fb} {fc} {fd} {n} {s} ha hb hc hd wa wb wc wd north south near =
     let place = by near.one in
     record {
       from = place.0;
       within = place.1;
-      a = λ x lt. (nearer-both n fa.start fb.start x north (near.upper x lt)).0;
-      b = λ x lt. (nearer-both n fa.start fb.start x north (near.upper x lt)).1;
-      c = λ x lt. (nearer-both s fc.start fd.start x south (near.lower x lt)).0;
-      d = λ x lt. (nearer-both s fc.start fd.start x south (near.lower x lt)).1;
+      a = unbegun a column i fa first ha (λ x lt. (nearer-both n fa.start fb.start x north (near.upper x lt)).0);
+      b = unbegun b column i fb first hb (λ x lt. (nearer-both n fa.start fb.start x north (near.upper x lt)).1);
+      c = unbegun c column i fc first hc (λ x lt. (nearer-both s fc.start fd.start x south (near.lower x lt)).0);
+      d = unbegun d column i fd first hd (λ x lt. (nearer-both s fc.start fd.start x south (near.lower x lt)).1);
     }
   where
     by : (n ≡ Some first) ⊎ (s ≡ Some first) → (column ≤ first) × (first < 2 ^ MAX_LEVEL)

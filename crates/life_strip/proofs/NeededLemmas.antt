@@ -17,10 +17,10 @@ use Rattle.life_strip.specs.Needed.{SomeSquare}
 use Rattle.life_strip.proofs.SpanLemmas.{double, depth-square_at}
 use Rattle.life_strip.proofs.PictureLemmas.{height-push, lowest-init}
 
--- the same square of another picture with the same states on the plane above the rows, and with as many rows or more
-pub SomeSquare-within : {P : Tree → Type 0} {f g : ℕ → ℕ → ℕ} {rows more : ℕ} → rows ≤ more → ((i j : ℕ) → i < 2 ^ MAX_LEVEL → j < rows → f i j ≡ g i j)
-    → SomeSquare P rows f → SomeSquare P more g
-SomeSquare-within le e s =
+-- the same square, of another property, in another picture with the same states on the plane above the rows, and with as many rows or more
+pub SomeSquare-as : {P Q : Tree → Type 0} {f g : ℕ → ℕ → ℕ} {rows more : ℕ} → rows ≤ more
+    → ((i j : ℕ) → i < 2 ^ MAX_LEVEL → j < rows → f i j ≡ g i j) → (s : SomeSquare P rows f) → Q s.square → SomeSquare Q more g
+SomeSquare-as le e s p =
     record {
       square = s.square;
       full = s.full;
@@ -33,8 +33,13 @@ SomeSquare-within le e s =
           ∙ e (s.column * 2 ^ depth s.square + i) (s.row * 2 ^ depth s.square + j)
           (let h = s.east in let one = add-mul s.column 1 (2 ^ depth s.square) in omega (arith, h, one, li))
           (let h = s.south in let one = add-mul s.row 1 (2 ^ depth s.square) in omega (arith, h, one, lj));
-      property = s.property;
+      property = p;
     }
+
+-- of the same property
+pub SomeSquare-within : {P : Tree → Type 0} {f g : ℕ → ℕ → ℕ} {rows more : ℕ} → rows ≤ more → ((i j : ℕ) → i < 2 ^ MAX_LEVEL → j < rows → f i j ≡ g i j)
+    → SomeSquare P rows f → SomeSquare P more g
+SomeSquare-within le e s = SomeSquare-as le e s s.property
 
 -- of another picture with the same states everywhere
 pub SomeSquare-same : {P : Tree → Type 0} {f g : ℕ → ℕ → ℕ} {rows more : ℕ} → rows ≤ more → ((i j : ℕ) → f i j ≡ g i j) → SomeSquare P rows f

@@ -186,10 +186,6 @@ pub on_ok_map : {T E : Type 0} {P Q : Type 0} (r : Result T E) → (P → Q) →
 on_ok_map (Ok x) f p = f p
 on_ok_map (Err e) f p = tt
 
-pub on_ok_map2 : {T E : Type 0} {P Q R : Type 0} (r : Result T E) → (P → Q → R) → OnOk r P → OnOk r Q → OnOk r R
-on_ok_map2 (Ok x) f p q = f p q
-on_ok_map2 (Err e) f p q = tt
-
 pub on_ok_map3 : {T E : Type 0} {P Q R S : Type 0} (r : Result T E) → (P → Q → R → S) → OnOk r P → OnOk r Q → OnOk r R → OnOk r S
 on_ok_map3 (Ok x) f p q s = f p q s
 on_ok_map3 (Err e) f p q s = tt

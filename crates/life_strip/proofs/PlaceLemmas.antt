@@ -188,21 +188,18 @@ module _ (level : ℕ) (upper lower : List Span) (low : level < MAX_LEVEL) (u : 
           by true e = let w = h.within most before (grind arith) in let a = w.0 in omega (arith, le, a)
           by false e = let long : NEVER ≤ p.start = grind arith in let o = h.order in omega (arith, long, small, o)
 
+      -- the span of a strip that has the first column ends in the plane
+      ended : (spans : List Span) → AreWithin level spans → (p : Place) → IsAt spans (2 * column) p → first ≡ p.start
+          → (first / 2 < side) × ((e : ℕ) → e ≤ goes_to p (2 * (first / 2)) → e ≤ 2 * side)
+      ended spans within p h same =
+          let w = h.within (2 ^ (MAX_LEVEL - level)) within (omega (arith, same, small)) in
+          let t = twice in
+          let a = w.0 in
+          let b = w.1 in
+          let g = goes-end spans (2 * column) p h (2 * (first / 2)) in
+          (omega (arith, same, t, a, b), λ e goes. omega (arith, goes, g, b, t))
+
       cases : (b : Bool) → nat_le n.start s.start ≡ b
           → (first / 2 < side) × ((e : ℕ) → e ≤ goes_to n (2 * (first / 2)) → e ≤ goes_to s (2 * (first / 2)) → e ≤ 2 * side)
-      cases true e =
-          let same = one (grind arith) in
-          let w = hn.within (2 ^ (MAX_LEVEL - level)) u (omega (arith, same, small)) in
-          let t = twice in
-          let a = w.0 in
-          let b = w.1 in
-          let g = goes-end upper (2 * column) n hn (2 * (first / 2)) in
-          (omega (arith, same, t, a, b), λ x hx hy. omega (arith, hx, g, b, t))
-      cases false e =
-          let same = other (grind arith) in
-          let w = hs.within (2 ^ (MAX_LEVEL - level)) l (omega (arith, same, small)) in
-          let t = twice in
-          let a = w.0 in
-          let b = w.1 in
-          let g = goes-end lower (2 * column) s hs (2 * (first / 2)) in
-          (omega (arith, same, t, a, b), λ x hx hy. omega (arith, hy, g, b, t))
+      cases true e = let w = ended upper u n hn (one (grind arith)) in (w.0, λ x hx hy. w.1 x hx)
+      cases false e = let w = ended lower l s hs (other (grind arith)) in (w.0, λ x hx hy. w.1 x hy)

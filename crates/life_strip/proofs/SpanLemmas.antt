@@ -1,6 +1,6 @@
 -- Facts about spans and strips.
 use Rattle.life_base.specs.declared.cell.TheConstants.{MAX_LEVEL}
-use Rattle.std.proofs.Common.{◌≡◌, ℕ, zero, suc, ◌+◌, ◌-◌, ◌*◌, ◌/◌, ◌^◌, ◌≤◌, ◌<◌, ◌⊎◌, inl, inr, Bool, true, false, ◌&&◌, nat_lt, nat_le, List, [], ◌∷◌, ◌++◌, length, get_or, Option, Some, None, refl, sym, ◌∙◌, ap, subst, arith}
+use Rattle.std.proofs.Common.{◌≡◌, ℕ, zero, suc, ◌+◌, ◌-◌, ◌*◌, ◌^◌, ◌≤◌, ◌<◌, ◌⊎◌, inl, inr, Bool, true, false, ◌&&◌, nat_lt, nat_le, List, [], ◌∷◌, ◌++◌, length, get_or, Option, Some, None, refl, sym, ◌∙◌, ap, subst, arith}
 use Rattle.std.specs.Prelude.{if◌then◌else◌, MatchOption, IfSome}
 use Rattle.std.proofs.lemmas.List.Elements.{All-push}
 use Rattle.std.proofs.lemmas.List.Quantifiers.{all_pairs_push}
@@ -10,7 +10,7 @@ use Rattle.life_base.specs.Tree.{Tree, quad, depth, blank}
 use Rattle.life_base.proofs.Squares.{depth-blank}
 use Rattle.life_strip.specs.declared.spans.Span.{Span}
 use Rattle.life_strip.specs.declared.spans.Stretch.{Stretch}
-use Rattle.life_strip.specs.Strip.{id_at, square_or_blank, square_at, id_or, quad_at, IsStrip, IsPast, EndsAfter, IsStart, IsFound, IsBefore, IsNearer, AreBefore, AreWithin, HaveColumns, IsExtended, FilledTo}
+use Rattle.life_strip.specs.Strip.{id_at, square_or_blank, square_at, id_or, quad_at, IsStrip, IsPast, EndsAfter, IsStart, IsFound, IsBefore, IsNearer, AreBefore, HaveColumns, IsExtended, FilledTo}
 use Rattle.life_strip.proofs.GivenLemmas.{all_rest}
 
 -- a store knows what it knew, with the same square
@@ -302,10 +302,6 @@ pub none-left : (spans : List Span) (column : ℕ) (b : Id) (f : Stretch) → Is
     → id_at spans c ≡ None
 none-left spans column b f h e = subst (λ o. MatchOption o ((c : ℕ) → column ≤ c → id_at spans c ≡ None) (IsStart spans column)) e h.start
 
--- nor does one end
-pub end-none : (spans : List Span) (column : ℕ) (b : Id) (f : Stretch) → IsFound spans column b f → f.end ≡ None → f.start ≡ None
-end-none spans column b f h e = subst (λ o. MatchOption o (f.start ≡ None) (λ end. (n : ℕ) → AreBefore n spans → end ≤ n)) e h.last
-
 -- what comes before the nearer end comes before both
 pub nearer-both : (o north south : Option ℕ) (column : ℕ) → MatchOption o ((north ≡ None) × (south ≡ None)) (λ e. IsNearer e north south) → IsBefore column o
     → IsBefore column north × IsBefore column south
@@ -375,18 +371,6 @@ module _ (side : ℕ) (upper lower : List Span) (u : AreBefore side upper) (l : 
       by : (n.start ≡ Some first) ⊎ (s.start ≡ Some first) → (column ≤ first) × (first < side)
       by (inl e) = at upper n u hn e
       by (inr e) = at lower s l hs e
-
--- a square of the next level begins in the plane, where one of two strips has the first span
-pub first-place : (level : ℕ) (upper lower : List Span) → level < MAX_LEVEL → AreWithin level upper → AreWithin level lower
-    → (column : ℕ) (b : Id) (n s : Stretch)
-    → IsFound upper (2 * column) b n → IsFound lower (2 * column) b s → (first : ℕ) → IsNearer first n.start s.start
-    → (column ≤ first / 2) × (first / 2 < 2 ^ (MAX_LEVEL - suc level))
-first-place level upper lower low u l column b n s hn hs first near =
-    let side = half-side level low in
-    let p = first-column (2 ^ (MAX_LEVEL - level)) upper lower u l (2 * column) b n s hn hs first near in
-    let from = p.from in
-    let within = p.within in
-    (omega (arith, from), omega (arith, side, within))
 
 -- what comes after all smaller numbers isn't smaller
 not-beyond : (n x : ℕ) → ((y : ℕ) → y < n → y < x) → n ≤ x

@@ -43,32 +43,38 @@ no-cells : (upper lower : Words) (i : ℕ) → nibble_of upper.north.cells i ≡
     → cells_at upper lower i ≡ 0
 no-cells upper lower i a b c d = omega (arith, a, b, c, d)
 
--- the squares from one on that lie before the first cell of the four words are blank
-pub blank-before : (upper lower : Words) (square mask : ℕ) → mask + 1 ≡ 2 ^ (64 - 4 * square) → (i : ℕ) → square ≤ i
-    → i < count_leading_zeros 64 (bit_and (bit_or (bit_or (bit_or upper.north.cells upper.south.cells) lower.north.cells) lower.south.cells) mask) / 4
-    → cells_at upper lower i ≡ 0
-blank-before upper lower square mask ones i from before =
-    let n = 64 - 4 * square in
+-- nor where a word has none whose lowest digits are at most those of all four
+no-digits-of : (upper lower : Words) (i n rest : ℕ)
+    → bit_or (bit_or (bit_or upper.north.cells upper.south.cells) lower.north.cells) lower.south.cells % 2 ^ n ≡ rest
+    → ((w : ℕ) → w % 2 ^ n ≤ rest → nibble_of w i ≡ 0) → cells_at upper lower i ≡ 0
+no-digits-of upper lower i n rest same none =
     let a = upper.north.cells in
     let b = upper.south.cells in
     let c = lower.north.cells in
     let d = lower.south.cells in
-    let all = bit_or (bit_or (bit_or a b) c) d in
-    let rest = bit_and all mask in
-    let full : mask ≡ 2 ^ n - 1 = omega (arith, ones) in
-    let same : rest ≡ all % 2 ^ n = ap (bit_and all) full ∙ and_mask all n in
-    let short : rest < 2 ^ n = subst (λ z. bit_and all z < 2 ^ n) (sym full) (mask_lt all n) in
-    let wide : 2 ^ n ≤ 2 ^ 64 = pow_mono {i = n} {j = 64} (omega arith) in
-    let l = leading_length 64 rest (omega (arith, short, wide)) in
     let first = low-left a b n in
     let second = low-right a b n in
     let two = low-left (bit_or a b) c n in
     let third = low-right (bit_or a b) c n in
     let three = low-left (bit_or (bit_or a b) c) d n in
     let fourth = low-right (bit_or (bit_or a b) c) d n in
-    let none = λ (w : ℕ) (le : w % 2 ^ n ≤ rest). no-nibble w rest square i (count_leading_zeros 64 rest) l.0 le l.2 l.1 from before in
     no-cells upper lower i (none a (omega (arith, first, two, three, same))) (none b (omega (arith, second, two, three, same)))
     (none c (omega (arith, third, three, same))) (none d (omega (arith, fourth, same)))
+
+-- the squares from one on that lie before the first cell of the four words are blank
+pub blank-before : (upper lower : Words) (square mask : ℕ) → mask + 1 ≡ 2 ^ (64 - 4 * square) → (i : ℕ) → square ≤ i
+    → i < count_leading_zeros 64 (bit_and (bit_or (bit_or (bit_or upper.north.cells upper.south.cells) lower.north.cells) lower.south.cells) mask) / 4
+    → cells_at upper lower i ≡ 0
+blank-before upper lower square mask ones i from before =
+    let n = 64 - 4 * square in
+    let all = bit_or (bit_or (bit_or upper.north.cells upper.south.cells) lower.north.cells) lower.south.cells in
+    let rest = bit_and all mask in
+    let full : mask ≡ 2 ^ n - 1 = omega (arith, ones) in
+    let same : rest ≡ all % 2 ^ n = ap (bit_and all) full ∙ and_mask all n in
+    let short : rest < 2 ^ n = subst (λ z. bit_and all z < 2 ^ n) (sym full) (mask_lt all n) in
+    let wide : 2 ^ n ≤ 2 ^ 64 = pow_mono {i = n} {j = 64} (omega arith) in
+    let l = leading_length 64 rest (omega (arith, short, wide)) in
+    no-digits-of upper lower i n rest (sym same) (λ w le. no-nibble w rest square i (count_leading_zeros 64 rest) l.0 le l.2 l.1 from before)
 
 -- as many of the lowest digits as there are trailing zeros make no number
 low-zeros : (k n : ℕ) → n % 2 ^ count_trailing_zeros k n ≡ 0
@@ -90,24 +96,11 @@ pub blank-behind : (upper lower : Words) (all : ℕ)
     → 16 - count_trailing_zeros 64 all / 4 ≤ i → i < 16 → cells_at upper lower i ≡ 0
 blank-behind upper lower all same i from within =
     let t = count_trailing_zeros 64 all in
-    let a = upper.north.cells in
-    let b = upper.south.cells in
-    let c = lower.north.cells in
-    let d = lower.south.cells in
-    let low : bit_or (bit_or (bit_or a b) c) d % 2 ^ t ≡ 0 = subst (λ z. z % 2 ^ t ≡ 0) same (low-zeros 64 all) in
     let most = trailing_le 64 all in
-    let first = low-left a b t in
-    let second = low-right a b t in
-    let two = low-left (bit_or a b) c t in
-    let third = low-right (bit_or a b) c t in
-    let three = low-left (bit_or (bit_or a b) c) d t in
-    let fourth = low-right (bit_or (bit_or a b) c) d t in
     let k = 60 - 4 * i in
     let place : t ≡ t - (4 + k) + 4 + k = omega (arith, most, from, within) in
-    let none = λ (w : ℕ) (le : w % 2 ^ t ≤ 0). no-digits w k (t - (4 + k)) (let some = pow_pos k in
-    let zero : w % 2 ^ (t - (4 + k) + 4 + k) ≤ 0 = subst (λ z. w % 2 ^ z ≤ 0) place le in omega (arith, some, zero)) in
-    no-cells upper lower i (none a (omega (arith, first, two, three, low))) (none b (omega (arith, second, two, three, low)))
-    (none c (omega (arith, third, three, low))) (none d (omega (arith, fourth, low)))
+    no-digits-of upper lower i t 0 (subst (λ z. z % 2 ^ t ≡ 0) same (low-zeros 64 all)) (λ w le. no-digits w k (t - (4 + k)) (let some = pow_pos k in
+    let zero : w % 2 ^ (t - (4 + k) + 4 + k) ≤ 0 = subst (λ z. w % 2 ^ z ≤ 0) place le in omega (arith, some, zero)))
 
 -- the columns of squares without cells are blank
 pub blank-columns : (want : ℕ → Tree) (upper lower : Words) (block from after : ℕ) → after ≤ 16

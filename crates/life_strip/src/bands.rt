@@ -38,7 +38,7 @@ fn push_square<S: Squares>(
 }
 
 // The squares of level 2 of 64 columns, and the block of columns up to which they go on, where the rows go on to a column of cells.
-fn push_rows<S: Squares>(
+fn push_block<S: Squares>(
     squares: &mut S,
     spans: &mut Vec<Span>,
     upper: Words,
@@ -78,7 +78,7 @@ fn push_rows<S: Squares>(
 }
 
 // The strip of level 2 of four rows of cells, if none of their cells has a state above 1.
-pub(crate) fn band<S: Squares>(
+pub(crate) fn band_spans<S: Squares>(
     squares: &mut S,
     spare: &mut Spare,
     first: &[Span],
@@ -135,7 +135,7 @@ pub(crate) fn band<S: Squares>(
         let Some(lower) = two_words(squares, third, fourth, c.index, d.index, start) else {
             return Ok(None);
         };
-        block = push_rows(squares, &mut spans, upper, lower, block, end)?;
+        block = push_block(squares, &mut spans, upper, lower, block, end)?;
         let next = 64 * block;
         a = find(first, upper.north.index, next, blank);
         b = find(second, upper.south.index, next, blank);

@@ -6,7 +6,7 @@ ghost use Rattle.life_strip.specs.Strip.{quad_at};
 ghost use Rattle.life_strip.specs.Picture.{picture, height, AreFalling, AreStacked, IsLowest, IsNotLast, IsRow, IsSound, IsStack};
 ghost use Rattle.life_strip.specs.Needed.{SomeColumn, SomeSquare};
 
-use crate::bands::band;
+use crate::bands::band_spans;
 use crate::spans::{Strip, find, pair};
 use crate::spare::Spare;
 use life_base::{Kind, MAX_LEVEL};
@@ -132,7 +132,7 @@ pub(crate) fn band_strip<S: Squares>(
     let second = rows[1].spans.as_slice();
     let third = rows[2].spans.as_slice();
     let fourth = rows[3].spans.as_slice();
-    match band(squares, spare, first, second, third, fourth)? {
+    match band_spans(squares, spare, first, second, third, fourth)? {
         Some(spans) => Ok(Some(Strip { level: 2, spans })),
         None => Ok(None),
     }

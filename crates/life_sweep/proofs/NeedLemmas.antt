@@ -1,8 +1,8 @@
 -- The squares that a refused call lacked: of the runs that were drawn, and so of the next generation.
-use Rattle.std.proofs.Common.{◌≡◌, ℕ, ◌+◌, ◌*◌, ◌^◌, ◌<◌, ◌≤◌, Bool, false, inl, inr, ◌⊎◌, ℤ, pos, neg_ℤ, ◌+ℤ◌, ◌-ℤ◌, ◌<ℤ◌, ◌≤ℤ◌, List, [], ◌∷◌, ◌++◌, refl, sym, ◌∙◌, ap, subst, arith}
+use Rattle.std.proofs.Common.{◌≡◌, ℕ, ◌+◌, ◌<◌, ◌≤◌, Bool, false, inl, inr, ◌⊎◌, ℤ, pos, neg_ℤ, ◌+ℤ◌, ◌-ℤ◌, ◌<ℤ◌, ◌≤ℤ◌, List, [], ◌∷◌, ◌++◌, refl, sym, ◌∙◌, ap, subst, arith}
 use Rattle.std.specs.Prelude.{nat_abs, Result, Err}
 use Rattle.std.proofs.lemmas.Int.{ints}
-use Rattle.life_base.specs.Tree.{Tree, depth}
+use Rattle.life_base.specs.Tree.{Tree}
 use Rattle.life_base.specs.Refusal.{fault_of}
 use Rattle.life_base.specs.declared.fault.Fault.{Fault}
 use Rattle.life_base.specs.declared.kind.Kind.{Kind}
@@ -10,6 +10,7 @@ use Rattle.life_base.specs.declared.kind.Kind.TheVariants.{Full, Ambiguous}
 use Rattle.life_quad.specs.Cells.{IsInRun}
 use Rattle.life_strip.specs.Given.{AreInOrder, state_by, by_columns, half_plane}
 use Rattle.life_strip.specs.Needed.{SomeSquare}
+use Rattle.life_strip.proofs.NeededLemmas.{SomeSquare-within}
 use Rattle.life_table.specs.Meaning.{Answer, Becomes}
 use Rattle.life_base.specs.declared.cell.Run.{Run}
 use Rattle.life_sweep.specs.Refused.{SomeAbove, SomeOfAll, SomeNext, above_cell, of_plane}
@@ -20,32 +21,14 @@ use Rattle.life_sweep.specs.Sweep.{IsDrawnAt, IsSwept}
 use Rattle.life_sweep.proofs.PenLemmas.{inside-last, outside-last}
 use Rattle.life_sweep.proofs.RowLemmas.{less-or-not}
 
-below : (row side j rows : ℕ) → j < side → (row + 1) * side ≤ rows → row * side + j < rows
-below row side j rows l h = grind arith
-
 north : (row : ℕ) (y : ℤ) → neg_ℤ (pos half_plane) ≤ℤ y → row < nat_abs (y +ℤ pos half_plane) → (pos row -ℤ pos half_plane) <ℤ y
 north row y on l = omega (arith, ints, on, l)
 
 -- the same square of a plane with the same cells above a row of the plane
 same-above : (P : Tree → Type 0) (f g : ℤ → ℤ → ℕ) (y : ℤ) → neg_ℤ (pos half_plane) ≤ℤ y → ((c r : ℤ) → r <ℤ y → f c r ≡ g c r)
     → SomeSquare P (nat_abs (y +ℤ pos half_plane)) (by_columns f) → SomeSquare P (nat_abs (y +ℤ pos half_plane)) (by_columns g)
-same-above P f g y on same s =
-    record {
-      square = s.square;
-      full = s.full;
-      deep = s.deep;
-      column = s.column;
-      row = s.row;
-      east = s.east;
-      south = s.south;
-      cells = λ i j li lj.
-          let side = 2 ^ depth s.square in
-          let row = s.row * side + j in
-          s.cells i j li lj
-          ∙ same (pos (s.column * side + i) -ℤ pos half_plane) (pos row -ℤ pos half_plane)
-          (north row y on (below s.row side j (nat_abs (y +ℤ pos half_plane)) lj s.south));
-      property = s.property;
-    }
+same-above P f g y on same =
+    SomeSquare-within (omega arith) (λ i j li lj. same (pos i -ℤ pos half_plane) (pos j -ℤ pos half_plane) (north j y on lj))
 
 -- a run that can't be given is above none of the cells before it
 pub open-needs : (P : Tree → Type 0) (runs : List Run) (run : Run) → AreInOrder runs → IsOpen runs run

@@ -5,7 +5,7 @@ use Rattle.std.proofs.lemmas.Int.{ints}
 use Rattle.std.proofs.lemmas.Bool.{cases_lt, eqb-true}
 use Rattle.std.proofs.lemmas.List.Elements.{All-head}
 use Rattle.life_base.specs.declared.cell.Cell.{Cell}
-use Rattle.life_sweep.specs.Rows.{Rows, IsRest, StartsFrom, StartsAt, SomeStartsAt, InRows, AreRows, IsInside, far, column_at, no_column, is_blank_column, left_in}
+use Rattle.life_sweep.specs.Rows.{Rows, IsRest, StartsFrom, StartsAt, SomeStartsAt, InRows, AreRows, IsInside, far, column_at, no_column, is_blank_column}
 use Rattle.life_sweep.specs.declared.column.Column.{Column}
 
 -- what is left from a column on is what is left from a later one that isn't behind the first cell
@@ -59,13 +59,6 @@ AreRows-gap cells y x m rows s h c l u =
     let e = IsRest-gap _ x m _ s.here h.here c l u in
     let w = IsRest-gap _ x m _ s.south h.south c l u in
     column-is _ _ _ 0 0 0 n e w
-
-pub AreRows-none : (cells : ℤ → ℤ → ℕ) (y x : ℤ) (rows : Rows) → left_in rows ≡ 0 → AreRows cells y x rows → (c : ℤ) → x ≤ℤ c → column_at cells y c ≡ no_column
-AreRows-none cells y x rows e h c l =
-    let n = IsRest-none _ x _ (omega (arith, e)) h.north c l in
-    let e' = IsRest-none _ x _ (omega (arith, e)) h.here c l in
-    let w = IsRest-none _ x _ (omega (arith, e)) h.south c l in
-    column-is _ _ _ 0 0 0 n e' w
 
 pub AreRows-first : (cells : ℤ → ℤ → ℕ) (y x m : ℤ) (rows : Rows) → SomeStartsAt m rows → AreRows cells y x rows → x ≤ℤ m
 AreRows-first cells y x m rows (inl s) h = IsRest-first _ x m _ s h.north

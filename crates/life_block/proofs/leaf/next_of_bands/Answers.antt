@@ -1,4 +1,4 @@
-use Rattle.std.proofs.Common.{◌≡◌, inl, inr, ℤ, ℕ, ◌∙◌, subst, arith}
+use Rattle.std.proofs.Common.{◌≡◌, ◌⊎◌, inl, inr, ℤ, ℕ, ◌∙◌, arith}
 use Rattle.std.proofs.lemmas.Int.{ints}
 use Rattle.std.proofs.lemmas.Result.{IfOk-weaker}
 use Rattle.life_base.specs.Tree.{Tree}
@@ -8,9 +8,10 @@ use Rattle.life_quad.specs.Store.{four}
 use Rattle.life_quad.proofs.KeepingLemmas.{keeps-then}
 use Rattle.life_sweep.specs.Generation.{next_life}
 use Rattle.life_block.specs.Bits.{AreBands}
+use Rattle.life_block.specs.Needed.{square_from}
 use Rattle.life_block.specs.Pieces.{back, ahead}
 use Rattle.life_block.proofs.BandLemmas.{HasBand-moved}
-use Rattle.life_block.proofs.NeedLemmas.{AreParts, is-piece, joined-is, own-part, quarter-part, still-needs}
+use Rattle.life_block.proofs.NeedLemmas.{AreParts, is-piece, joined-is, own-part, part-of_parts, still-needs}
 use Rattle.life_block.proofs.leaf.next_of_bands.Given.{Over}
 use Rattle.life_block.proofs.leaf.next_of_bands.Goals as goal
 use Rattle.life_block.proofs.leaf.next_of_bands.Goals.{After-next_squares-south}
@@ -70,41 +71,31 @@ returns-clause-next g c =
     let p = words g (goal.at.returns-clause-next g c).After-next_squares-south cells x y h in is-piece _ _ x y _ (e ∙ joined-is (parts g c _ x y p)))
     c.join.ensures.square
 
--- a part that a refused call lacked
-part : (P : Tree → Type 0) (t u : Tree) → t ≡ u → SomePart P t → SomePart P u
-part P t u e = subst (SomePart P) e
+-- a part of one of them that a refused call lacked
+lacked : (g : Over) (c : After-next_squares-south g) (P : Tree → Type 0) → let north = c.next_squares-north.result in
+    let south = c.next_squares-south.result in
+    SomePart P (four north.0) ⊎ SomePart P (four north.1) ⊎ SomePart P (four south.0) ⊎ SomePart P (four south.1)
+    → (cells : ℤ → ℤ → ℕ) (x y : ℤ) → AreBands cells x y c.args.bands.now → SomePart P (square_from (next_life c.args.rule.now cells) 3 x y)
+lacked g c P some cells x y h = part-of_parts P _ 2 x y (words g c cells x y h) some
 
 pub returns-in_err-nw-clause-needed : goal.returns-in_err-nw-clause-needed
-returns-in_err-nw-clause-needed g c =
-    let P = g.S.Squares.needs_node c.small.new.self in
-    on_err_any c.from_residual.result
-    (λ cells x y h.
-    let p = words g (goal.at.returns-in_err-nw-clause-needed g c).After-next_squares-south cells x y h in
-    quarter-part P _ 2 x y (inl (part P _ _ p.nw c.in_err-nw.ensures.needed)))
+returns-in_err-nw-clause-needed g c = on_err_any c.from_residual.result
+    (lacked g (goal.at.returns-in_err-nw-clause-needed g c).After-next_squares-south (g.S.Squares.needs_node c.small.new.self) (inl c.in_err-nw.ensures.needed))
 
 pub returns-in_err-ne-clause-needed : goal.returns-in_err-ne-clause-needed
-returns-in_err-ne-clause-needed g c =
-    let P = g.S.Squares.needs_node c.small-2.new.self in
-    on_err_any c.from_residual-in_err-ne.result
-    (λ cells x y h.
-    let p = words g (goal.at.returns-in_err-ne-clause-needed g c).After-next_squares-south cells x y h in
-    quarter-part P _ 2 x y (inr (inl (part P _ _ p.ne c.in_err-ne.ensures.needed))))
+returns-in_err-ne-clause-needed g c = on_err_any c.from_residual-in_err-ne.result
+    (lacked g (goal.at.returns-in_err-ne-clause-needed g c).After-next_squares-south (g.S.Squares.needs_node c.small-2.new.self)
+    (inr (inl c.in_err-ne.ensures.needed)))
 
 pub returns-in_err-sw-clause-needed : goal.returns-in_err-sw-clause-needed
-returns-in_err-sw-clause-needed g c =
-    let P = g.S.Squares.needs_node c.small-3.new.self in
-    on_err_any c.from_residual-in_err-sw.result
-    (λ cells x y h.
-    let p = words g (goal.at.returns-in_err-sw-clause-needed g c).After-next_squares-south cells x y h in
-    quarter-part P _ 2 x y (inr (inr (inl (part P _ _ p.sw c.in_err-sw.ensures.needed)))))
+returns-in_err-sw-clause-needed g c = on_err_any c.from_residual-in_err-sw.result
+    (lacked g (goal.at.returns-in_err-sw-clause-needed g c).After-next_squares-south (g.S.Squares.needs_node c.small-3.new.self)
+    (inr (inr (inl c.in_err-sw.ensures.needed))))
 
 pub returns-in_err-se-clause-needed : goal.returns-in_err-se-clause-needed
-returns-in_err-se-clause-needed g c =
-    let P = g.S.Squares.needs_node c.small-4.new.self in
-    on_err_any c.from_residual-in_err-se.result
-    (λ cells x y h.
-    let p = words g (goal.at.returns-in_err-se-clause-needed g c).After-next_squares-south cells x y h in
-    quarter-part P _ 2 x y (inr (inr (inr (part P _ _ p.se c.in_err-se.ensures.needed)))))
+returns-in_err-se-clause-needed g c = on_err_any c.from_residual-in_err-se.result
+    (lacked g (goal.at.returns-in_err-se-clause-needed g c).After-next_squares-south (g.S.Squares.needs_node c.small-4.new.self)
+    (inr (inr (inr c.in_err-se.ensures.needed))))
 
 pub returns-clause-needed : goal.returns-clause-needed
 returns-clause-needed g c =

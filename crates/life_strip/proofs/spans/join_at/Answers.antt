@@ -1,4 +1,4 @@
-use Rattle.std.proofs.Common.{◌≡◌, ℕ, ◌+◌, ◌*◌, ◌<◌, List, arith, rules, sym, ◌∙◌, ap, subst}
+use Rattle.std.proofs.Common.{◌≡◌, ℕ, ◌+◌, ◌*◌, ◌^◌, ◌<◌, ◌≤◌, List, arith, rules, sym, ◌∙◌, ap, subst}
 use Rattle.std.proofs.lemmas.Result.{err_from_is_err_and}
 use Rattle.life_base.specs.declared.cell.TheConstants.{MAX_LEVEL}
 use Rattle.life_base.specs.Tree.{Tree, quad, depth, blank}
@@ -6,9 +6,12 @@ use Rattle.life_quad.specs.declared.id.Id.{Id}
 use Rattle.life_quad.proofs.KeepingLemmas.{adds-as}
 use Rattle.life_strip.specs.declared.spans.Span.{Span}
 use Rattle.life_strip.specs.declared.spans.Place.{Place}
-use Rattle.life_strip.specs.Strip.{quad_at, square_in, IsAt, IsStrip}
+use Rattle.life_strip.specs.declared.spans.TheConstants.{NEVER}
+use Rattle.life_strip.specs.Strip.{quad_at, square_in, HaveColumns, IsAt, IsStrip, Rise}
 use Rattle.life_strip.proofs.PlaceLemmas.{at-known, at-content, at-depth}
+use Rattle.life_strip.proofs.spans.join_at.Given.{Over}
 use Rattle.life_strip.proofs.spans.join_at.Goals as goal
+use Rattle.life_strip.proofs.spans.join_at.Goals.{After-join}
 
 -- the squares of two columns of two strips, by the places of the strips in each
 module _ (K : Id → Type 0) (C : Id → Tree) (level : ℕ) (upper lower : List Span) (empty : Id) (column : ℕ) {n e s f : Place} (u : IsStrip K C level upper)
@@ -55,29 +58,28 @@ module _ (K : Id → Type 0) (C : Id → Tree) (level : ℕ) (upper lower : List
         room = omega (arith, p, low);
       }
 
-pub pass-north_east-requires : goal.pass-north_east-requires
-pass-north_east-requires g c =
-    let r = c.requires in
-    let beyond = r.north.beyond in
-    record {
-      columns = r.upper_columns;
-      rises = r.upper_rises;
-      place = (2 * c.args.column, omega arith, r.north);
-      reach = omega (arith, beyond);
-      column = omega (arith, r.column);
+-- a strip goes on to the eastern column
+eastern : (spans : List Span) (column : ℕ) (p : Place) → column ≤ 2 ^ MAX_LEVEL → HaveColumns spans → Rise spans → IsAt spans (2 * column) p
+    → record {
+      columns : HaveColumns spans;
+      rises : Rise spans;
+      place : (before : ℕ) × (before ≤ 2 * column + 1) × IsAt spans before p;
+      reach : 2 * column + 1 ≤ p.end;
+      column : 2 * column + 1 < NEVER;
     }
+eastern spans column p inside columns rises at = let beyond = at.beyond in record {
+  columns = columns;
+  rises = rises;
+  place = (2 * column, omega arith, at);
+  reach = omega (arith, beyond);
+  column = omega (arith, inside);
+}
+
+pub pass-north_east-requires : goal.pass-north_east-requires
+pass-north_east-requires g c = let r = c.requires in eastern c.args.upper.now c.args.column c.args.north r.column r.upper_columns r.upper_rises r.north
 
 pub pass-south_east-requires : goal.pass-south_east-requires
-pass-south_east-requires g c =
-    let r = c.requires in
-    let beyond = r.south.beyond in
-    record {
-      columns = r.lower_columns;
-      rises = r.lower_rises;
-      place = (2 * c.args.column, omega arith, r.south);
-      reach = omega (arith, beyond);
-      column = omega (arith, r.column);
-    }
+pass-south_east-requires g c = let r = c.requires in eastern c.args.lower.now c.args.column c.args.south r.column r.lower_columns r.lower_rises r.south
 
 pub join-requires : goal.join-requires
 join-requires g c =
@@ -86,22 +88,24 @@ join-requires g c =
     c.args.column r.upper r.lower r.known r.blank r.north c.pass-north_east.ensures.place r.south c.pass-south_east.ensures.place _ _ _ _
     c.square_of-nw.ensures c.square_of-ne.ensures c.square_of-sw.ensures c.square_of-se.ensures r.low
 
-pub returns-clause-square : goal.returns-clause-square
-returns-clause-square g c =
+-- the squares that are joined
+joined : (g : Over) (c : After-join g) → let C = g.S.Squares.content c.args.squares.now in
+    quad (C c.square_of-nw.result) (C c.square_of-ne.result) (C c.square_of-sw.result) (C c.square_of-se.result)
+    ≡ quad_at C c.args.level c.args.upper.now c.args.lower.now c.args.column
+joined g c =
     let r = c.requires in
-    c.in_ok-square.ensures.square
-    ∙ are_quarters (g.S.Squares.knows c.args.squares.now) (g.S.Squares.content c.args.squares.now) c.args.level c.args.upper.now c.args.lower.now c.args.empty
+    are_quarters (g.S.Squares.knows c.args.squares.now) (g.S.Squares.content c.args.squares.now) c.args.level c.args.upper.now c.args.lower.now c.args.empty
     c.args.column r.upper r.lower r.known r.blank r.north c.pass-north_east.ensures.place r.south c.pass-south_east.ensures.place _ _ _ _
     c.square_of-nw.ensures c.square_of-ne.ensures c.square_of-sw.ensures c.square_of-se.ensures
 
+pub returns-clause-square : goal.returns-clause-square
+returns-clause-square g c = c.in_ok-square.ensures.square ∙ joined g (goal.at.returns-clause-square g c).After-join
+
 pub returns-in_err-square-clause-grows : goal.returns-in_err-square-clause-grows
 returns-in_err-square-clause-grows g c =
-    let r = c.requires in
     let s = c.args.squares.now in
     let C = g.S.Squares.content s in
-    let same = are_quarters (g.S.Squares.knows s) C c.args.level c.args.upper.now c.args.lower.now c.args.empty c.args.column r.upper r.lower r.known r.blank
-    r.north c.pass-north_east.ensures.place r.south c.pass-south_east.ensures.place _ _ _ _
-    c.square_of-nw.ensures c.square_of-ne.ensures c.square_of-sw.ensures c.square_of-se.ensures in
+    let same = joined g (goal.at.returns-in_err-square-clause-grows g c).After-join in
     let p = err_from_is_err_and c.from_residual.result c.from_residual.ensures.1 in
     let join = c.in_err-square.ensures in
     record {
@@ -115,12 +119,8 @@ returns-in_err-square-clause-grows g c =
 
 pub returns-clause-grows : goal.returns-clause-grows
 returns-clause-grows g c =
-    let r = c.requires in
-    let s = c.args.squares.now in
-    let C = g.S.Squares.content s in
-    let same = are_quarters (g.S.Squares.knows s) C c.args.level c.args.upper.now c.args.lower.now c.args.empty c.args.column r.upper r.lower r.known r.blank
-    r.north c.pass-north_east.ensures.place r.south c.pass-south_east.ensures.place _ _ _ _
-    c.square_of-nw.ensures c.square_of-ne.ensures c.square_of-sw.ensures c.square_of-se.ensures in
+    let C = g.S.Squares.content c.args.squares.now in
+    let same = joined g (goal.at.returns-clause-grows g c).After-join in
     let join = c.in_ok-square.ensures in
     record {
       keeps = join.keeps;

@@ -8,11 +8,13 @@ use Rattle.life_quad.proofs.GrowsLemmas.{grows-behind, grows-err, grows-still, g
 use Rattle.life_strip.specs.declared.spans.Span.{Span}
 use Rattle.life_strip.specs.declared.spans.Place.{Place}
 use Rattle.life_strip.specs.declared.spans.TheConstants.{NEVER}
-use Rattle.life_strip.specs.Strip.{FilledTo, IsAt, AreWithin, HaveColumns, EndsAfter, IsPast, Rise, quad_at}
+use Rattle.life_strip.specs.Strip.{FilledTo, IsAt, AreWithin, HaveColumns, EndsAfter, IsPast, Rise, goes_to, quad_at}
 use Rattle.life_strip.specs.Needed.{SomeColumn}
 use Rattle.life_strip.proofs.SpanLemmas.{before_columns, depth-square_at, filled-skip, filled-more, filled-all, extended-push, from-first, quad-blank, quad-keeps, strip-keeps}
-use Rattle.life_strip.proofs.PlaceLemmas.{front, at-later, at-over, goes-end, quad-goes}
+use Rattle.life_strip.proofs.PlaceLemmas.{IsFront, front, at-later, at-over, goes-end, quad-goes}
+use Rattle.life_strip.proofs.spans.pair.Given.{Over}
 use Rattle.life_strip.proofs.spans.pair.Goals as goal
+use Rattle.life_strip.proofs.spans.pair.Goals.{After-min-end, After-max-column}
 
 -- a strip stands at its first span
 at-first : (level : ℕ) (spans : List Span) → AreWithin level spans
@@ -24,9 +26,16 @@ at-first level spans within = record {
   column = omega arith;
 }
 
+-- where the next square begins, and up to where this one goes on in a strip
+record IsNextSquare (place : Place) (first end next side : ℕ) : Type 0 where
+  goes : end ≤ goes_to place (2 * (first / 2))
+  later : 2 * next ≤ 2 * (first / 2) + 2 ⊎ 2 * next ≤ end
+  from : 2 * (first / 2) + 1 ≤ 2 * next
+  inside : next ≤ side
+
 -- a strip goes on from a place, in a later column no farther than the end of the place before
-goes_on : (level : ℕ) (spans : List Span) (place joined : Place) (west end next : ℕ) → AreWithin level spans → Rise spans → IsAt spans (west + 1) joined
-    → end ≤ place.end → place.end ≤ joined.end → 2 * next ≤ west + 2 ⊎ 2 * next ≤ end → west + 1 ≤ 2 * next → next ≤ 2 ^ (MAX_LEVEL - suc level)
+goes_on : (level : ℕ) (spans : List Span) {column first end next : ℕ} {place joined : Place} → AreWithin level spans → Rise spans → IsAt spans column place
+    → IsAt spans (2 * (first / 2) + 1) joined → place.end ≤ joined.end → IsNextSquare place first end next (2 ^ (MAX_LEVEL - suc level))
     → record {
       columns : HaveColumns spans;
       rises : Rise spans;
@@ -34,17 +43,23 @@ goes_on : (level : ℕ) (spans : List Span) (place joined : Place) (west end nex
       reach : 2 * next ≤ joined.end;
       column : 2 * next < NEVER;
     }
-goes_on level spans place joined west end next within rises at le later reach from inside = record {
-  columns = before_columns (2 ^ (MAX_LEVEL - level)) spans within;
-  rises = rises;
-  place = (west + 1, from, at);
-  reach = reached reach;
-  column = let small = pow_mono {i = MAX_LEVEL - suc level} {j = MAX_LEVEL} (omega arith) in omega (arith, inside, small);
-}
+goes_on level spans {column} {first} {end} {next} {place} {joined} within rises before at later n =
+    let small = pow_mono {i = MAX_LEVEL - suc level} {j = MAX_LEVEL} (omega arith) in
+    let inside = n.inside in
+    record {
+      columns = before_columns (2 ^ (MAX_LEVEL - level)) spans within;
+      rises = rises;
+      place = (2 * (first / 2) + 1, n.from, at);
+      reach = reached n.later;
+      column = omega (arith, inside, small);
+    }
   where
-    reached : 2 * next ≤ west + 2 ⊎ 2 * next ≤ end → 2 * next ≤ joined.end
+    reached : 2 * next ≤ 2 * (first / 2) + 2 ⊎ 2 * next ≤ end → 2 * next ≤ joined.end
     reached (inl short) = let beyond = at.beyond in omega (arith, short, beyond)
-    reached (inr long) = omega (arith, long, le, later)
+    reached (inr long) =
+        let ends = goes-end spans column place before (2 * (first / 2)) in
+        let goes = n.goes in
+        omega (arith, long, goes, ends, later)
 
 -- the next square begins beside the one before, or where that one ends
 split : (first end next : ℕ) → next ≡ max (end / 2) (first / 2 + 1) → 2 * next ≤ 2 * (first / 2) + 2 ⊎ 2 * next ≤ end
@@ -68,6 +83,35 @@ place_at-north-requires g c = at-first c.args.level c.args.upper.now c.requires.
 pub place_at-south-requires : goal.place_at-south-requires
 place_at-south-requires g c = at-first c.args.level c.args.lower.now c.requires.lower_within
 
+-- the first column where a strip has a span again
+begun : (g : Over) (c : After-min-end g)
+    → IsFront c.loop-first.north c.loop-first.south c.loop-first.column c.loop-first.first (2 ^ (MAX_LEVEL - suc c.args.level))
+begun g c =
+    let r = c.requires in
+    let inv = c.loop-first.invariant in
+    front c.args.level c.args.upper.now c.args.lower.now r.low r.upper_within r.lower_within c.loop-first.column c.loop-first.north c.loop-first.south
+    inv.north inv.south c.loop-first.first inv.upper inv.lower inv.one inv.other c.loop-first-test.true
+
+-- the square there, as it was before
+same-square : (g : Over) (c : After-min-end g) → let C = g.S.Squares.content in
+    quad_at (C c.loop-first.squares) c.args.level c.args.upper.now c.args.lower.now (c.loop-first.first / 2)
+    ≡ quad_at (C c.args.squares.now) c.args.level c.args.upper.now c.args.lower.now (c.loop-first.first / 2)
+same-square g c =
+    let K = g.S.Squares.knows in
+    let C = g.S.Squares.content in
+    let old = c.args.squares.now in
+    let now = c.loop-first.squares in
+    quad-keeps {knows = K old} {knows' = K now} {old = C old} {now = C now} c.loop-first.invariant.keeps.contents c.args.level c.args.upper.now
+    c.args.lower.now c.requires.upper c.requires.lower (c.loop-first.first / 2)
+
+-- it is one of those that the call needs
+needed : (g : Over) (c : After-min-end g) (P : Tree → Type 0) → let C = g.S.Squares.content in
+    P (quad_at (C c.loop-first.squares) c.args.level c.args.upper.now c.args.lower.now (c.loop-first.first / 2))
+    → SomeColumn P (c.args.level + 1) (quad_at (C c.args.squares.now) c.args.level c.args.upper.now c.args.lower.now)
+needed g c =
+    one-column c.args.level (g.S.Squares.content c.args.squares.now) (g.S.Squares.content c.loop-first.squares) c.args.upper.now c.args.lower.now
+    (c.loop-first.first / 2) (same-square g c) (begun g c).within
+
 pub join_at-requires : goal.join_at-requires
 join_at-requires g c =
     let r = c.requires in
@@ -78,8 +122,7 @@ join_at-requires g c =
     let upper = c.args.upper.now in
     let lower = c.args.lower.now in
     let level = c.args.level in
-    let f = front level upper lower r.low r.upper_within r.lower_within c.loop-first.column c.loop-first.north c.loop-first.south inv.north inv.south
-    c.loop-first.first inv.upper inv.lower inv.one inv.other c.loop-first-test.true in
+    let f = begun g (goal.at.join_at-requires g c).After-min-end in
     let begin = f.begin in
     let within = f.within in
     let small = pow_mono {i = MAX_LEVEL - suc level} {j = MAX_LEVEL} (omega arith) in
@@ -103,48 +146,39 @@ join_at-requires g c =
           (omega (arith, inv.lower)) f.south_end;
     }
 
+next-square : (g : Over) (c : After-max-column g)
+    → IsFront c.loop-first.north c.loop-first.south c.loop-first.column c.loop-first.first (2 ^ (MAX_LEVEL - suc c.args.level))
+    → record {
+      north : IsNextSquare c.loop-first.north c.loop-first.first c.min-end.result c.max-column.result (2 ^ (MAX_LEVEL - suc c.args.level));
+      south : IsNextSquare c.loop-first.south c.loop-first.first c.min-end.result c.max-column.result (2 ^ (MAX_LEVEL - suc c.args.level));
+    }
+next-square g c f =
+    let within = f.within in
+    let north = subst (λ z. c.min-end.result ≤ z) c.end_of.ensures (omega (arith, c.min-end.ensures)) in
+    let south = subst (λ z. c.min-end.result ≤ z) c.end_of-in-loop-first.ensures (omega (arith, c.min-end.ensures)) in
+    let reach = f.reach c.min-end.result north south in
+    let later = split c.loop-first.first c.min-end.result c.max-column.result c.max-column.ensures in
+    let inside : c.max-column.result ≤ 2 ^ (MAX_LEVEL - suc c.args.level) = omega (arith, c.max-column.ensures, reach, within) in
+    record {
+      north = record { goes = north; later = later; from = omega (arith, c.max-column.ensures); inside = inside };
+      south = record { goes = south; later = later; from = omega (arith, c.max-column.ensures); inside = inside };
+    }
+
 pub pass-north-requires : goal.pass-north-requires
 pass-north-requires g c =
-    let r = c.requires in
-    let inv = c.loop-first.invariant in
-    let f = front c.args.level c.args.upper.now c.args.lower.now r.low r.upper_within r.lower_within c.loop-first.column c.loop-first.north
-    c.loop-first.south inv.north inv.south c.loop-first.first inv.upper inv.lower inv.one inv.other c.loop-first-test.true in
-    let place = c.loop-first.north in
-    let goes = subst (λ z. z ≤ place.end) (sym c.end_of.ensures)
-    (goes-end c.args.upper.now (2 * c.loop-first.column) place inv.north (2 * (c.loop-first.first / 2))) in
-    let within = f.within in
-    let reach = f.reach c.min-end.result (subst (λ z. c.min-end.result ≤ z) c.end_of.ensures (omega (arith, c.min-end.ensures)))
-    (subst (λ z. c.min-end.result ≤ z) c.end_of-in-loop-first.ensures (omega (arith, c.min-end.ensures))) in
-    goes_on c.args.level c.args.upper.now place c.in_ok-joined.joined.north (2 * (c.loop-first.first / 2)) c.min-end.result c.max-column.result
-    r.upper_within r.upper_rises c.in_ok-joined.ensures.north
-    (omega (arith, goes, c.min-end.ensures)) c.in_ok-joined.ensures.north_later
-    (split c.loop-first.first c.min-end.result c.max-column.result c.max-column.ensures) (omega (arith, c.max-column.ensures))
-    (omega (arith, c.max-column.ensures, reach, within))
+    let k = goal.at.pass-north-requires g c in
+    goes_on c.args.level c.args.upper.now c.requires.upper_within c.requires.upper_rises c.loop-first.invariant.north c.in_ok-joined.ensures.north
+    c.in_ok-joined.ensures.north_later (next-square g k.After-max-column (begun g k.After-min-end)).north
 
 pub pass-south-requires : goal.pass-south-requires
 pass-south-requires g c =
-    let r = c.requires in
-    let inv = c.loop-first.invariant in
-    let f = front c.args.level c.args.upper.now c.args.lower.now r.low r.upper_within r.lower_within c.loop-first.column c.loop-first.north
-    c.loop-first.south inv.north inv.south c.loop-first.first inv.upper inv.lower inv.one inv.other c.loop-first-test.true in
-    let place = c.loop-first.south in
-    let goes = subst (λ z. z ≤ place.end) (sym c.end_of-in-loop-first.ensures)
-    (goes-end c.args.lower.now (2 * c.loop-first.column) place inv.south (2 * (c.loop-first.first / 2))) in
-    let within = f.within in
-    let reach = f.reach c.min-end.result (subst (λ z. c.min-end.result ≤ z) c.end_of.ensures (omega (arith, c.min-end.ensures)))
-    (subst (λ z. c.min-end.result ≤ z) c.end_of-in-loop-first.ensures (omega (arith, c.min-end.ensures))) in
-    goes_on c.args.level c.args.lower.now place c.in_ok-joined.joined.south (2 * (c.loop-first.first / 2)) c.min-end.result c.max-column.result
-    r.lower_within r.lower_rises c.in_ok-joined.ensures.south
-    (omega (arith, goes, c.min-end.ensures)) c.in_ok-joined.ensures.south_later
-    (split c.loop-first.first c.min-end.result c.max-column.result c.max-column.ensures) (omega (arith, c.max-column.ensures))
-    (omega (arith, c.max-column.ensures, reach, within))
+    let k = goal.at.pass-south-requires g c in
+    goes_on c.args.level c.args.lower.now c.requires.lower_within c.requires.lower_rises c.loop-first.invariant.south c.in_ok-joined.ensures.south
+    c.in_ok-joined.ensures.south_later (next-square g k.After-max-column (begun g k.After-min-end)).south
 
 pub loop-first-smaller : goal.loop-first-smaller
 loop-first-smaller g c =
-    let r = c.requires in
-    let inv = c.loop-first.invariant in
-    let f = front c.args.level c.args.upper.now c.args.lower.now r.low r.upper_within r.lower_within c.loop-first.column c.loop-first.north
-    c.loop-first.south inv.north inv.south c.loop-first.first inv.upper inv.lower inv.one inv.other c.loop-first-test.true in
+    let f = begun g (goal.at.loop-first-smaller g c).After-min-end in
     let begin = f.begin in
     let within = f.within in
     omega (arith, begin, within, c.max-column.ensures)
@@ -168,17 +202,15 @@ loop-first-preserved g c =
     let start = first / 2 in
     let next = c.max-column.result in
     let h = c.in_ok-joined.ensures in
-    let f = front level upper lower r.low r.upper_within r.lower_within column north south inv.north inv.south first inv.upper inv.lower inv.one inv.other
-    c.loop-first-test.true in
+    let k = goal.at.loop-first-preserved g c in
+    let f = begun g k.After-min-end in
     let begin = f.begin in
-    let within = f.within in
     let later : start < next = omega (arith, c.max-column.ensures) in
     let want = quad_at (C old) level upper lower in
     let skipped = filled-skip (K now) (C now) (suc level) want c.loop-first.spans.items column start inv.filled begin
     (λ x le lt. quad-blank (C old) level upper lower (2 * column) x (λ y from to. inv.north.none y from (omega (arith, lt, to, inv.upper)))
     (λ y from to. inv.south.none y from (omega (arith, lt, to, inv.lower))) (omega (arith, le))) in
-    let square : C new c.in_ok-joined.joined.square ≡ want start = h.square
-    ∙ quad-keeps {knows = K old} {knows' = K now} {old = C old} {now = C now} inv.keeps.contents level upper lower r.upper r.lower start in
+    let square : C new c.in_ok-joined.joined.square ≡ want start = h.square ∙ same-square g k.After-min-end in
     let deep : depth (C new c.in_ok-joined.joined.square) ≡ suc level = ap depth square
     ∙ ap suc (depth-square_at (K old) (C old) level upper r.upper (2 * start)) in
     let hn = at-later upper (2 * column) north inv.north (2 * start) (omega (arith, begin)) (omega (arith, inv.upper)) f.north_end in
@@ -193,17 +225,13 @@ loop-first-preserved g c =
     start next c.in_ok-joined.joined.square skipped
     (extended-push start next c.in_ok-joined.joined.square later c.loop-first.spans.items skipped.before) h.known deep
     (from-first want (C new c.in_ok-joined.joined.square) start next (sym square) same) in
-    let reach = f.reach c.min-end.result (subst (λ z. c.min-end.result ≤ z) c.end_of.ensures (omega (arith, c.min-end.ensures)))
-    (subst (λ z. c.min-end.result ≤ z) c.end_of-in-loop-first.ensures (omega (arith, c.min-end.ensures))) in
     let near = c.min-first-in-loop-first.ensures in record {
       filled = subst (λ z. FilledTo (K new) (C new) (suc level) want z next) (sym c.in_ok-push.ensures.items) pushed;
       north = c.pass-north.ensures.place;
       south = c.pass-south.ensures.place;
       keeps = keeps-then inv.keeps h.grows.keeps;
-      adds = adds-then _ inv.adds h.grows.adds (λ P n. n)
-          (one-column level (C old) (C now) upper lower start
-          (quad-keeps {knows = K old} {knows' = K now} {old = C old} {now = C now} inv.keeps.contents level upper lower r.upper r.lower start) within);
-      within = omega (arith, c.max-column.ensures, reach, within);
+      adds = adds-then _ inv.adds h.grows.adds (λ P n. n) (needed g k.After-min-end);
+      within = (next-square g k.After-max-column f).north.inside;
       upper = omega (arith, near);
       lower = omega (arith, near);
       one = λ le. omega (arith, near, le);
@@ -232,43 +260,19 @@ returns-in_err-spans-clause-grows g c = grows-same _ c.args.squares.now (search 
 
 pub returns-in_err-joined-clause-grows : goal.returns-in_err-joined-clause-grows
 returns-in_err-joined-clause-grows g c =
-    let r = c.requires in
-    let K = g.S.Squares.knows in
-    let C = g.S.Squares.content in
-    let old = c.args.squares.now in
-    let now = c.loop-first.squares in
-    let upper = c.args.upper.now in
-    let lower = c.args.lower.now in
-    let level = c.args.level in
+    let M = λ (P : Tree → Type 0). SomeColumn P (c.args.level + 1)
+    (quad_at (g.S.Squares.content c.args.squares.now) c.args.level c.args.upper.now c.args.lower.now) in
     let inv = c.loop-first.invariant in
-    let start = c.loop-first.first / 2 in
-    let same = quad-keeps {knows = K old} {knows' = K now} {old = C old} {now = C now} inv.keeps.contents level upper lower r.upper r.lower start in
-    let f = front level upper lower r.low r.upper_within r.lower_within c.loop-first.column c.loop-first.north c.loop-first.south inv.north inv.south
-    c.loop-first.first inv.upper inv.lower inv.one inv.other c.loop-first-test.true in
-    let M = λ (P : Tree → Type 0). SomeColumn P (level + 1) (quad_at (C old) level upper lower) in
     grows-err M (grows-behind M inv.keeps inv.adds (only-grows c.in_err-joined.ensures.grows)
-    (one-column level (C old) (C now) upper lower start same f.within))
+    (needed g (goal.at.returns-in_err-joined-clause-grows g c).After-min-end))
     c.from_residual-in_err-joined.ensures.1 (λ P n. n)
 
 pub returns-in_err-push-clause-grows : goal.returns-in_err-push-clause-grows
 returns-in_err-push-clause-grows g c =
-    let r = c.requires in
-    let K = g.S.Squares.knows in
-    let C = g.S.Squares.content in
-    let old = c.args.squares.now in
-    let now = c.loop-first.squares in
-    let upper = c.args.upper.now in
-    let lower = c.args.lower.now in
-    let level = c.args.level in
     let inv = c.loop-first.invariant in
-    let start = c.loop-first.first / 2 in
-    let same = quad-keeps {knows = K old} {knows' = K now} {old = C old} {now = C now} inv.keeps.contents level upper lower r.upper r.lower start in
-    let f = front level upper lower r.low r.upper_within r.lower_within c.loop-first.column c.loop-first.north c.loop-first.south inv.north inv.south
-    c.loop-first.first inv.upper inv.lower inv.one inv.other c.loop-first-test.true in
-    let M = λ (P : Tree → Type 0). SomeColumn P (level + 1) (quad_at (C old) level upper lower) in
     let join = c.in_ok-joined.ensures.grows in
-    grows-still M (keeps-then inv.keeps join.keeps)
-    (adds-then M inv.adds join.adds (λ P n. n) (one-column level (C old) (C now) upper lower start same f.within)) (search rules)
+    grows-still _ (keeps-then inv.keeps join.keeps)
+    (adds-then _ inv.adds join.adds (λ P n. n) (needed g (goal.at.returns-in_err-push-clause-grows g c).After-min-end)) (search rules)
 
 pub returns-clause-grows : goal.returns-clause-grows
 returns-clause-grows g c = let inv = c.loop-first.invariant in grows-still _ inv.keeps inv.adds tt

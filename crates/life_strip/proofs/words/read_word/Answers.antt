@@ -39,43 +39,34 @@ bit-requires-clause-cell g c =
     (span-at c.args.row.now c.loop-index.index c.loop-index.column none inv.past within c.max.result (omega (arith, c.max.ensures))
     (omega (arith, c.max.ensures)) (omega (arith, c.max.ensures, some, c.if-column-span.true)))).0
 
+-- the word up to the first column of a span that ends in it
+begun-in : (g : Over) (c : goal.In_ok-cells g)
+    → IsBegun (cell_in (g.S.Squares.content c.args.squares.now) c.args.row.now) c.args.start c.max.result c.loop-index.cells
+begun-in g c =
+    let within = c.loop-index-test.true in
+    let some = c.requires.columns c.loop-index.index none within in
+    let less = c.if-row-index.true in
+    let m : Meets (slice_index_or c.args.row.now c.loop-index.index none) c.loop-index.column c.max.result = record {
+      later = omega (arith, c.max.ensures);
+      from = omega (arith, c.max.ensures);
+      gap = λ x le lt. omega (arith, c.max.ensures, le, lt);
+    } in
+    begun-first (g.S.Squares.content c.args.squares.now) c.args.row.now c.loop-index.index c.loop-index.column c.args.start c.loop-index.cells c.max.result
+    c.loop-index.invariant.past within c.loop-index.invariant.begun m (omega (arith, c.max.ensures, some, c.if-column-span.true, less)) c.requires.columns
+
 pub overflow_sub-cells : goal.overflow_sub-cells
 overflow_sub-cells g c =
     let f = cell_in (g.S.Squares.content c.args.squares.now) c.args.row.now in
     let within = c.loop-index-test.true in
     let some = c.requires.columns c.loop-index.index none within in
-    let less = c.if-row-index.true in
     let end = (slice_index_or c.args.row.now c.loop-index.index none).end in
-    let first = c.max.result in
-    let m : Meets (slice_index_or c.args.row.now c.loop-index.index none) c.loop-index.column first =
-    record {
-      later = omega (arith, c.max.ensures);
-      from = omega (arith, c.max.ensures);
-      gap = λ x le lt. omega (arith, c.max.ensures, le, lt);
-    } in
-    let p = begun-first (g.S.Squares.content c.args.squares.now) c.args.row.now c.loop-index.index c.loop-index.column c.args.start c.loop-index.cells first
-    c.loop-index.invariant.past within c.loop-index.invariant.begun m
-    (omega (arith, c.max.ensures, some, c.if-column-span.true, less)) c.requires.columns in
-    begun-less f c.args.start first c.loop-index.cells p end c.bits_after-from.result c.bits_after-after.result
+    begun-less f c.args.start c.max.result c.loop-index.cells (begun-in g c) end c.bits_after-from.result c.bits_after-after.result
     (omega (arith, c.max.ensures, some, c.if-column-span.true)) c.bits_after-from.ensures c.bits_after-after.ensures
 
 pub overflow_add-cells : goal.overflow_add-cells
 overflow_add-cells g c =
     let f = cell_in (g.S.Squares.content c.args.squares.now) c.args.row.now in
-    let within = c.loop-index-test.true in
-    let some = c.requires.columns c.loop-index.index none within in
-    let less = c.if-row-index.true in
-    let first = c.max.result in
-    let m : Meets (slice_index_or c.args.row.now c.loop-index.index none) c.loop-index.column first =
-    record {
-      later = omega (arith, c.max.ensures);
-      from = omega (arith, c.max.ensures);
-      gap = λ x le lt. omega (arith, c.max.ensures, le, lt);
-    } in
-    let p = begun-first (g.S.Squares.content c.args.squares.now) c.args.row.now c.loop-index.index c.loop-index.column c.args.start c.loop-index.cells first
-    c.loop-index.invariant.past within c.loop-index.invariant.begun m
-    (omega (arith, c.max.ensures, some, c.if-column-span.true, less)) c.requires.columns in
-    let fits = begun-fits f c.args.start first c.loop-index.cells p c.bits_after-from.result c.in_ok-cells.field-0
+    let fits = begun-fits f c.args.start c.max.result c.loop-index.cells (begun-in g c) c.bits_after-from.result c.in_ok-cells.field-0
     (c.bits_after-from.result - c.bits_after-after.result) c.bits_after-from.ensures c.in_ok-cells.ensures.small (omega arith) in
     omega (arith, fits)
 

@@ -5,7 +5,7 @@ use Rattle.life_quad.specs.Refused.{SomePart}
 use Rattle.life_strip.specs.Strip.{IsFound, FilledTo}
 use Rattle.life_strip.specs.Band.{four_at}
 use Rattle.life_strip.specs.Needed.{SomeColumn}
-use Rattle.life_strip.proofs.bands.band.Given as goal
+use Rattle.life_strip.proofs.bands.band_spans.Given as goal
 
 abbrev pub invariant-loop-first_column : goal.invariant-loop-first_column
 invariant-loop-first_column g l =

@@ -9,7 +9,7 @@ use Rattle.life_strip.specs.Band.{cells_at}
 use Rattle.life_strip.specs.Strip.{FilledTo}
 use Rattle.life_strip.proofs.SpanLemmas.{from-first, filled-skip}
 use Rattle.life_strip.proofs.StretchLemmas.{same-columns, blank-columns}
-use Rattle.life_strip.proofs.bands.push_rows.Goals as goal
+use Rattle.life_strip.proofs.bands.push_block.Goals as goal
 
 -- a square of the cells in some columns is one of those that the call needs
 one-of : (upper lower : Words) (square cells : ℕ) → cells ≡ cells_at upper lower square → square < 16 → (P : Tree → Type 0) → SomePart P (four cells)

@@ -5,7 +5,7 @@ use Rattle.life_quad.specs.Refused.{SomePart}
 use Rattle.life_quad.specs.Store.{four}
 use Rattle.life_strip.specs.Band.{cells_at}
 use Rattle.life_strip.specs.Strip.{FilledTo}
-use Rattle.life_strip.proofs.bands.push_rows.Given as goal
+use Rattle.life_strip.proofs.bands.push_block.Given as goal
 
 abbrev pub invariant-loop-square : goal.invariant-loop-square
 invariant-loop-square g l =
