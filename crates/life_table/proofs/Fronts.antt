@@ -72,10 +72,6 @@ split_list : {X : Type 0} (xs : List X) → ((y : X) × (ys : List X) × (xs ≡
 split_list [] = inr refl
 split_list (x ∷ xs) = inl (x, xs, refl)
 
-known : (b : Bool) → (b ≡ true) ⊎ (b ≡ false)
-known true = inl refl
-known false = inr refl
-
 abbrev pub is_section : Numbered → Bool
 is_section line = is_section_line line.1
 
