@@ -14,9 +14,6 @@ use Rattle.life_mc.proofs.TestFacts.{weigh, at_most_one}
 
 -- ---- marks of bytes
 
-abbrev is_other : ℕ → Bool
-is_other b = not (is_cell b)
-
 one_of : (b : ℕ) → cond (b == 42) 1 0 + cond (b == 46) 1 0 ≡ cond (is_cell b) 1 0
 one_of b = grind (arith, nat_tests)
 
