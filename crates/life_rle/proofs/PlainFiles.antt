@@ -4,6 +4,7 @@ use Rattle.std.specs.Prelude.{int_lt, int_le}
 use Rattle.std.specs.List.{slice_get}
 use Rattle.std.proofs.lemmas.Int.{ints}
 use Rattle.std.proofs.lemmas.Bool.Decides.{nat_tests}
+use Rattle.std.proofs.lemmas.Bool.{and_parts}
 use Rattle.life_base.specs.declared.kind.Kind.{Kind}
 use Rattle.life_base.specs.declared.kind.Kind.TheVariants.{LineTooLong, NoHeader, LateHeader, SecondHeader, StateRange, OutOfPlane}
 use Rattle.life_base.specs.declared.rule.Rule.{Rule}
@@ -26,11 +27,11 @@ use Rattle.life_rle.specs.Pattern.{Rle, Placed, placed, item_fault, placed_fault
 use Rattle.life_rle.specs.Grammar.{opening_of, later_of, IsPreamble, LineSpells, BodySpells, IsUnmarked, IsMarked, IsRle}
 use Rattle.life_rle.specs.PlainPosition.{IsPositionText}
 use Rattle.life_rle.specs.PlainFile.{IsShort, IsComment, ArePreamble, IsRuleLine, IsData, IsBodyLine, IsLastLine, AreBody, MayStand, IsOpenFile, IsEndedFile, FilesArePlain}
-use Rattle.life_rle.proofs.Texts.{both_true}
 use Rattle.life_rle.proofs.Progress.{option_or-both, IsOpenBy-map, IsEndedBy-map}
 use Rattle.life_rle.proofs.PlainItems.{items_are_plain}
 use Rattle.life_rle.proofs.PlainHeader.{headers_are_plain}
 use Rattle.life_rle.proofs.PlainPosition.{positions_are_plain}
+use Rattle.life_rle.proofs.RowLimits.{is-on, le-true}
 
 -- ---- lengths
 
@@ -48,7 +49,7 @@ hash-first b rest h = grind (arith, nat_tests)
 position-first : (line : List ℕ) → is_position_line line ≡ true → (rest : List ℕ) × (line ≡ 35 ∷ rest)
 position-first [] h = cc
 position-first (b ∷ rest) h =
-    let front = (both_true (begins_with (b ∷ rest) (codes "#CXRLE")) (is_blank (take 1 (drop 6 (b ∷ rest)))) h).0 in
+    let front = (and_parts (begins_with (b ∷ rest) (codes "#CXRLE")) (is_blank (take 1 (drop 6 (b ∷ rest)))) h).0 in
     (rest, ap (λ c. c ∷ rest) (hash-first b rest front))
 
 no-position : (line : List ℕ) → begins_with line (codes "#") ≡ false → is_position_line line ≡ false
@@ -298,15 +299,8 @@ is-inside false row column e = cc
 inside-is : (state row column : Bool) → state ≡ true → row ≡ true → column ≡ true → cells-by state row column ≡ None
 inside-is state row column s r c = ap (λ b. cells-by b row column) s ∙ ap (λ b. cells-by true b column) r ∙ ap (cells-by true true) c
 
-is-on : (row : Bool) → cond row None (Some OutOfPlane) ≡ None → row ≡ true
-is-on true e = refl
-is-on false e = cc
-
 lt-true : (a b : ℤ) → int_lt a b ≡ true → a <ℤ b
 lt-true a b e = grind (arith, ints)
-
-le-true : (a b : ℤ) → int_le a b ≡ true → a ≤ℤ b
-le-true a b e = grind (arith, ints)
 
 true-lt : (a b : ℤ) → a <ℤ b → int_lt a b ≡ true
 true-lt a b e = grind (arith, ints)

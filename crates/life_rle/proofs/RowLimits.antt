@@ -43,14 +43,14 @@ is-inside true true false e = cc
 is-inside true false column e = cc
 is-inside false row column e = cc
 
-is-on : (row : Bool) → cond row None (Some OutOfPlane) ≡ None → row ≡ true
+pub is-on : (row : Bool) → cond row None (Some OutOfPlane) ≡ None → row ≡ true
 is-on true e = refl
 is-on false e = cc
 
-le-true : (a b : ℤ) → int_le a b ≡ true → a ≤ℤ b
+pub le-true : (a b : ℤ) → int_le a b ≡ true → a ≤ℤ b
 le-true a b e = grind (arith, ints)
 
-further : (low z : ℤ) (n : ℕ) → low ≤ℤ z → low ≤ℤ (z +ℤ pos n)
+pub further : (low z : ℤ) (n : ℕ) → low ≤ℤ z → low ≤ℤ (z +ℤ pos n)
 further low z n h = omega (arith, ints)
 
 up-to : (a b : ℤ) → a <ℤ b → a ≤ℤ b
