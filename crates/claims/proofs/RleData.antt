@@ -4,6 +4,7 @@ use Rattle.std.specs.Prelude.{◌==◌, bytes_eq, codes, Option, Some, None, Res
 use Rattle.std.specs.Option.{option_or}
 use Rattle.std.proofs.lemmas.Bool.Decides.{nat_tests}
 use Rattle.std.proofs.lemmas.List.{append-nil}
+use Rattle.std.proofs.lemmas.Bool.{cases_Bool}
 use Rattle.life_base.specs.Text.{is_whitespace, is_blank, trim_start}
 use Rattle.life_base.specs.declared.kind.Kind.{Kind}
 use Rattle.life_rle.specs.declared.item.Item.{Item as LayerItem}
@@ -11,7 +12,6 @@ use Rattle.life_rle.specs.Items.{Next, End, Mark, Spelled, Broken, next_of, Spel
 use Rattle.life_rle.specs.Pattern.{Rle as LayerRle, placed_item, placed_behind, placed_fault, first_fault}
 use Rattle.claims.specs.Outcomes.{◌>>=◌}
 use Rattle.claims.specs.Rle.{Item, Rle, Lines, behind_header, behind_end, item_of, with_item, with_texts, texts_of}
-use Rattle.claims.proofs.McLaw.{decided}
 use Rattle.claims.proofs.RlePlane.{file_in, item_answer, with_item_is}
 use Rattle.claims.proofs.RleTexts.{text_of, rest_of, texts_cut, text_begins, Found, spelled, broken, item_found}
 
@@ -42,7 +42,7 @@ space_text b bytes h = by (three (b == 32) (b == 9) (b == 13) refl refl refl h)
 -- whitespace in front is passed over
 spaces : (file : Rle) (bytes : List ℕ) → with_texts file (texts_of bytes) ≡ with_texts file (texts_of (trim_start bytes))
 spaces file [] = refl
-spaces file (b ∷ bytes) = elim (decided (is_whitespace b)) [
+spaces file (b ∷ bytes) = elim (cases_Bool (is_whitespace b)) [
   | inl h ↦
       let e : trim_start (b ∷ bytes) ≡ trim_start bytes = ap (λ v. cond v (trim_start bytes) (b ∷ bytes)) h in
       ap (with_texts file) (space_text b bytes h) ∙ blank_first (texts_of bytes) (ap (λ v. v && true) h) ∙ spaces file bytes
@@ -59,7 +59,7 @@ spaces file (b ∷ bytes) = elim (decided (is_whitespace b)) [
 -- what stands in front after whitespace is none
 trimmed_first : (bytes : List ℕ) (b : ℕ) (rest : List ℕ) → trim_start bytes ≡ b ∷ rest → is_whitespace b ≡ false
 trimmed_first [] b rest e = cc
-trimmed_first (a ∷ bytes) b rest e = elim (decided (is_whitespace a)) [
+trimmed_first (a ∷ bytes) b rest e = elim (cases_Bool (is_whitespace a)) [
   | inl h ↦ trimmed_first bytes b rest (sym (ap (λ v. cond v (trim_start bytes) (a ∷ bytes)) h) ∙ e)
   | inr h ↦
       let k : a ∷ bytes ≡ b ∷ rest = sym (ap (λ v. cond v (trim_start bytes) (a ∷ bytes)) h) ∙ e in
@@ -97,7 +97,7 @@ opened file b u w m =
 without_space : (file : LayerRle) (u : List ℕ) → ((b : ℕ) (rest : List ℕ) → u ≡ b ∷ rest → is_whitespace b ≡ false)
     → with_texts (file_in file) (texts_of u) ≡ from_here file (layer_item_in 62 u)
 without_space file [] w = refl
-without_space file (b ∷ u) w = elim (decided (b == 33)) [
+without_space file (b ∷ u) w = elim (cases_Bool (b == 33)) [
   | inl m ↦ let e : b ≡ 33 = grind (arith, nat_tests) in marked file b u e
   | inr m ↦
       let e : layer_item_in 62 (b ∷ u) ≡ counted 62 (front_digits (b ∷ u)) (behind_digits (b ∷ u)) =
