@@ -6,6 +6,7 @@ use Rattle.std.specs.Option.{unwrap_or}
 use Rattle.std.proofs.lemmas.Bool.Decides.{eqb_tells}
 use Rattle.std.proofs.lemmas.List.Elements.{All-contains}
 use Rattle.std.proofs.lemmas.Bool.{or_left, or_right}
+use Rattle.std.proofs.lemmas.Option.{same_Some}
 use Rattle.life_table.proofs.LawProofs.{permute_law}
 use Rattle.life_table.specs.Grammar.{symmetry_word}
 use Rattle.life_table.specs.Meaning.{Gives, count_of}
@@ -22,7 +23,7 @@ use Rattle.claims.specs.Table.{variable, Transition, Table, states_of, gives}
 use Rattle.table_laws.specs.ByCounts.{state_of, GivesByCounts, PermuteByCounts}
 use Rattle.table_laws.specs.Tables.{entry_in, transition_in, IsTable}
 use Rattle.table_laws.proofs.Decided.{in_head, in_tail, in_either, in_none, gave, gets}
-use Rattle.table_laws.proofs.Given.{turned_about, some_of, has_state_of, is_state_of}
+use Rattle.table_laws.proofs.Given.{turned_about, has_state_of, is_state_of}
 use Rattle.table_laws.proofs.Read.{tables_read}
 use Rattle.table_laws.proofs.Text.{word_listed}
 use Rattle.table_laws.proofs.Words.{length_is}
@@ -77,7 +78,7 @@ count_is : (t : ℕ) (xs : List ℕ) → count_by (λ s. s == t) xs ≡ count_of
 count_is t xs = λ i. count_by (λ s. turned_about s t i) xs
 
 permutes : (y : Symmetry) → symmetry_word y ≡ codes "permute" → y ≡ Permute
-permutes y e = some_of y Permute (sym (word_listed y).1 ∙ ap symmetry_named e)
+permutes y e = same_Some y Permute (sym (word_listed y).1 ∙ ap symmetry_named e)
 
 module _ (layer : LayerTable) (table : Table) (is : IsTable layer table) (y : layer.symmetry ≡ Permute) (centre : ℕ) (around : List ℕ)
     (long : length around ≡ neighbour_count layer.neighborhood) (line : LayerTransition) (there : Contains layer.lines line) (state : ℕ) where
@@ -127,7 +128,7 @@ permute_by_counts bytes table e permute line there centre around long state =
     let r = (tables_read bytes).1 table e in
     let layer = r.0 in
     let is = r.2 in
-    let y : layer.symmetry ≡ Permute = permutes layer.symmetry (some_of _ _ (sym is.symmetry ∙ permute)) in
+    let y : layer.symmetry ≡ Permute = permutes layer.symmetry (same_Some _ _ (sym is.symmetry ∙ permute)) in
     let l = from_map transition_in layer.lines line (subst (λ (ts : List Transition). Contains ts line) is.transitions there) in
     let count : length around ≡ neighbour_count layer.neighborhood = long ∙ ap (λ (o : Option ℕ). unwrap_or o 0) is.neighbours in
     let P : Transition → Type 0 = λ (t : Transition). Contains (gives table centre around t) state ↔ GivesByCounts table.variables t centre around state in

@@ -1,11 +1,11 @@
 -- What a table decides is what the layer says that it decides.
-use Rattle.std.proofs.Common.{◌≡◌, ◌≢◌, ℕ, zero, suc, ◌+◌, ◌<◌, List, [], ◌∷◌, length, map, true, false, cond, refl, ap, ◌∙◌, sym, subst, arith, ◌⊎◌, inl, inr, ◌↔◌, ◌&&◌, eq-eqb}
+use Rattle.std.proofs.Common.{◌≡◌, ◌≢◌, ℕ, zero, suc, ◌+◌, ◌<◌, List, [], ◌∷◌, length, map, true, false, cond, refl, ap, ◌∙◌, sym, subst, arith, ◌⊎◌, inl, inr, ◌↔◌, ◌&&◌, eq-eqb, eqb-true}
 use Rattle.std.specs.Prelude.{Option, Some, None, IfSome, All, Contains, filter_map, slice_get, slice_index_or, ◌==◌}
 use Rattle.std.specs.List.{list_all, list_any, cons_option}
 use Rattle.std.specs.Option.{option_map_or, unwrap_or}
 use Rattle.std.proofs.lemmas.Bool.Decides.{eqb_tells}
 use Rattle.std.proofs.lemmas.List.Elements.{All-nil, All-cons, All-head, All-tail, All-contains}
-use Rattle.std.proofs.lemmas.Bool.{or_left}
+use Rattle.std.proofs.lemmas.Bool.{or_left, cases_Bool}
 use Rattle.life_base.proofs.Numbers.{first, second}
 use Rattle.life_table.proofs.LawProofs.{one_law}
 use Rattle.life_table.specs.Meaning.{has_state, HasState, IsChoice, Gives, GivesNothing, LineAnswers, Decides}
@@ -18,7 +18,7 @@ use Rattle.life_table.specs.declared.table.Table.{Table as LayerTable}
 use Rattle.claims.specs.Table.{Variable, variable, Transition, Table, states_of, images, given, gives, decided, Answer, becomes, ambiguous}
 use Rattle.table_laws.specs.Laws.{TablesDecide}
 use Rattle.table_laws.specs.Tables.{transition_in, answer_in, AreVariables, IsTable}
-use Rattle.table_laws.proofs.Given.{known, same_number, given_is_choice, choice_is_given}
+use Rattle.table_laws.proofs.Given.{given_is_choice, choice_is_given}
 use Rattle.table_laws.proofs.Imaged.{images_agree, image_length, Agrees}
 
 -- ---- lists
@@ -69,7 +69,7 @@ module _ {X : Type 0} (f : X → Option ℕ) where
 all_same : (s : ℕ) (xs : List ℕ) → list_all (λ t. t == s) xs ≡ true → (t : ℕ) → Contains xs t → t ≡ s
 all_same s [] h t c = absurd (in_none t c)
 all_same s (x ∷ xs) h t c = elim (in_either x t xs c) [
-  | inl e ↦ sym e ∙ same_number x s (first (x == s) _ h)
+  | inl e ↦ sym e ∙ eqb-true x s (first (x == s) _ h)
   | inr d ↦ all_same s xs (second (x == s) _ h) t d
 ]
 
@@ -199,7 +199,7 @@ module _ (layer : LayerTable) (table : Table) (is : IsTable layer table) (centre
       by [] e below = behind line lines _ (λ s g. in_none s (subst (λ (xs : List ℕ). Contains xs s) e (gets line t s g))) below
       by (s ∷ states) e below =
           let first_given : GivesOne line s = gave line t s (subst (λ (xs : List ℕ). Contains xs s) (sym e) (in_head s states)) in
-          elim (known (list_all (λ r. r == s) states)) [
+          elim (cases_Bool (list_all (λ r. r == s) states)) [
             | inl h ↦ subst (λ v. Decide (line ∷ lines) (answer_out (cond v (becomes s) (ambiguous line.line)))) (sym h)
                 (at_first line lines (Becomes s) (
                   first_given,
