@@ -1,5 +1,5 @@
 -- A macrocell file says what it says in the layer below.
-use Rattle.std.proofs.Common.{◌≡◌, ℕ, zero, suc, ◌+◌, ◌<◌, List, [], ◌∷◌, ◌++◌, length, take, drop, map, Bool, true, false, cond, refl, ap, ◌∙◌, sym, subst, arith, append_assoc}
+use Rattle.std.proofs.Common.{◌≡◌, ℕ, zero, suc, ◌+◌, ◌<◌, List, [], ◌∷◌, ◌++◌, length, take, drop, map, Bool, true, false, cond, refl, ap, ◌∙◌, sym, subst, arith, append_assoc, length-take-le}
 use Rattle.std.specs.Prelude.{Option, Some, None, Result, Ok, Err, ℤ, codes, filter_map, slice_index_or}
 use Rattle.std.specs.Option.{option_to_list, unwrap_or}
 use Rattle.std.proofs.lemmas.List.{append-nil}
@@ -25,7 +25,7 @@ use Rattle.claims.proofs.RuleLaw.{rule_in}
 use Rattle.claims.proofs.NodeLaw.{line_in, Fits, passes, fails}
 use Rattle.claims.proofs.McLaw.{Gives, line_fits, broken_line}
 use Rattle.claims.proofs.McPlane.{plane_is}
-use Rattle.claims.proofs.Running.{Runs, refused_behind, ended_behind, cut_at, length_front}
+use Rattle.claims.proofs.Running.{Runs, refused_behind, ended_behind, cut_at}
 
 -- the lines say this in the layer
 pub record Stands (lines : List (List ℕ)) (file : Macrocell) : Type 0 where
@@ -205,7 +205,7 @@ macrocell_refuses (header ∷ rest) zero kind h u b =
     ap (λ (found : Result Macrocell Kind). on_line 1 found >>= λ (f : Macrocell). read_lines with_line end_of 2 f rest) (first_err header kind b)
 macrocell_refuses (header ∷ rest) (suc k) kind h u b =
     let front = take k rest in
-    let short : length front ≡ k = length_front rest k (omega arith) in
+    let short : length front ≡ k = length-take-le k rest (omega arith) in
     let r = runs front (header ∷ []) begun refl (begun_stands header)
     (λ i l. let below : i < k = omega (arith, short) in
     ap (λ (t : List (List ℕ)). broken 62 (header ∷ t) (slice_index_or front i [])) (take_take rest i k below)

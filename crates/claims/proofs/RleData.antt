@@ -1,10 +1,10 @@
 -- A line of data says what it says in the layer below.
 use Rattle.std.proofs.Common.{◌≡◌, ℕ, List, [], ◌∷◌, ◌++◌, Bool, true, false, cond, ◌&&◌, ◌||◌, refl, ap, ◌∙◌, sym, subst, arith, append_assoc, ◌⊎◌, inl, inr}
-use Rattle.std.specs.Prelude.{◌==◌, bytes_eq, codes, Option, Some, None, Result, Ok, Err}
-use Rattle.std.specs.Option.{option_or}
+use Rattle.std.specs.Prelude.{◌==◌, bytes_eq, codes, Option, None, Result, Ok, Err}
 use Rattle.std.proofs.lemmas.Bool.Decides.{nat_tests}
 use Rattle.std.proofs.lemmas.List.{append-nil}
 use Rattle.std.proofs.lemmas.Bool.{cases_Bool}
+use Rattle.life_rle.proofs.Progress.{option_or-both}
 use Rattle.life_base.specs.Text.{is_whitespace, is_blank, trim_start}
 use Rattle.life_base.specs.declared.kind.Kind.{Kind}
 use Rattle.life_rle.specs.declared.item.Item.{Item as LayerItem}
@@ -124,10 +124,6 @@ with_more : (file : LayerRle) (item : LayerItem) (items : List LayerItem)
     → with_items (with_items file (item ∷ [])) items ≡ with_items file (item ∷ items)
 with_more file item items = ap (λ (t : List LayerItem). record file { items = t }) (append_assoc file.items (item ∷ []) items)
 
-pub no_faults : (a b : Option Kind) → option_or a b ≡ None → (a ≡ None) × (b ≡ None)
-no_faults None b e = (refl, e)
-no_faults (Some kind) b e = cc
-
 -- the items that bytes spell, none of which breaks a rule, and what stands behind them
 pub spelled_is : (items : List LayerItem) (bytes : List ℕ) (file : LayerRle) (last : Next) → Spells 62 bytes items last
     → first_fault 62 file.rule (placed_behind file.position file.items items) ≡ None
@@ -135,7 +131,7 @@ pub spelled_is : (items : List LayerItem) (bytes : List ℕ) (file : LayerRle) (
 spelled_is [] bytes file last e sound =
     line_from_here file bytes ∙ ap (from_here file) e ∙ ap (λ (f : LayerRle). from_here f last) (sym (with_none file))
 spelled_is (item ∷ items) bytes file last s sound =
-    let none = no_faults (placed_fault 62 file.rule (placed_item file.position file.items item))
+    let none = option_or-both (placed_fault 62 file.rule (placed_item file.position file.items item))
     (first_fault 62 file.rule (placed_behind file.position (file.items ++ item ∷ []) items)) sound in
     line_from_here file bytes ∙ ap (from_here file) s.1
     ∙ ap (λ (o : Option Kind). item_answer file item o >>= λ now. with_texts now (texts_of s.0)) none.0

@@ -1,4 +1,5 @@
 -- The first text of a line of data is the item that the layer below reads in front of it.
+use mathlib.Core.Bool.{and-false}
 use Rattle.std.proofs.Common.{◌≡◌, ℕ, suc, ◌+◌, ◌-◌, ◌*◌, ◌^◌, ◌<◌, ◌≤◌, List, [], ◌∷◌, take, drop, Bool, true, false, cond, ◌&&◌, ◌||◌, refl, ap, ◌∙◌, sym, subst, arith, ◌⊎◌, inl, inr}
 use Rattle.std.specs.Prelude.{nat_le, nat_lt, ◌==◌, bytes_eq, codes, take_while, Option, Some, None, Result, Ok, Err}
 use Rattle.std.specs.Char.{is_ascii_digit}
@@ -133,11 +134,7 @@ between n low high h = by (nat_le low n) (nat_le n high) refl refl h
 
 outside : (n low high : ℕ) → (n < low) ⊎ (high < n) → (nat_le low n && nat_le n high) ≡ false
 outside n low high (inl h) = let e : nat_le low n ≡ false = grind (arith, nat_tests) in ap (λ v. v && nat_le n high) e
-outside n low high (inr h) = let e : nat_le n high ≡ false = grind (arith, nat_tests) in ap (λ v. nat_le low n && v) e ∙ none (nat_le low n)
-  where
-    none : (v : Bool) → (v && false) ≡ false
-    none true = refl
-    none false = refl
+outside n low high (inr h) = let e : nat_le n high ≡ false = grind (arith, nat_tests) in ap (λ v. nat_le low n && v) e ∙ and-false (nat_le low n)
 
 letter_is : (b : ℕ) → letter_state b ≡ cond (nat_le 65 b && nat_le b 88) (Some (b - 64)) None
 letter_is b = elim (cases_Bool (nat_le 65 b && nat_le b 88)) [
