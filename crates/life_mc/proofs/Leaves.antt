@@ -3,7 +3,7 @@ use Rattle.std.proofs.Common.{◌≡◌, ℕ, zero, suc, ◌+◌, ◌-◌, ◌/�
 use Rattle.std.specs.Prelude.{◌==◌, nat_le, nat_lt, replicate}
 use Rattle.std.specs.List.{list_all}
 use Rattle.std.proofs.lemmas.Bool.{lt-leb}
-use mathlib.Core.Bool.{and-false}
+use mathlib.Core.Bool.{and-false, or-true, or-false}
 use Rattle.life_base.specs.Text.{is_empty, onto_first}
 use Rattle.life_mc.specs.Reading.{is_leaf, is_leaf_byte, leaf_rows, leaf_bytes, row_byte, is_at_end}
 use Rattle.life_mc.specs.Grammar.{is_cell, is_row}
@@ -87,21 +87,9 @@ bytes_step : (v : Bool) (b : ℕ) (text : List ℕ) (r : List ℕ) (rs : List (L
     → (is_leaf_byte b && list_all is_leaf_byte text) ≡ list_all (list_all is_cell) (cond v ([] ∷ r ∷ rs) ((b ∷ r) ∷ rs))
 bytes_step true b text r rs e f ih = ap (λ w. (is_cell b || w) && list_all is_leaf_byte text) e
     ∙ ap (λ w. w && list_all is_leaf_byte text) (or-true (is_cell b)) ∙ ih
-  where
-    or-true : (a : Bool) → (a || true) ≡ true
-    or-true true = refl
-    or-true false = refl
 bytes_step false b text r rs e f ih =
     ap (λ w. (is_cell b || w) && list_all is_leaf_byte text) e ∙ ap (λ w. w && list_all is_leaf_byte text) (or-false (is_cell b)) ∙ ap (λ w. is_cell b && w) ih
-    ∙ assoc (is_cell b) (list_all is_cell r) _
-  where
-    or-false : (a : Bool) → (a || false) ≡ a
-    or-false true = refl
-    or-false false = refl
-
-    assoc : (a b c : Bool) → (a && (b && c)) ≡ ((a && b) && c)
-    assoc true b c = refl
-    assoc false b c = refl
+    ∙ sym (and_assoc (is_cell b) (list_all is_cell r) _)
 
 abbrev head_of : List (List ℕ) → List ℕ
 head_of [] = []

@@ -1,9 +1,10 @@
 -- Node lines whose numbers are read into a type with a greatest number.
 use Rattle.std.proofs.Common.{◌≡◌, ℕ, zero, suc, ◌-◌, ◌^◌, ◌<◌, ◌≤◌, List, [], ◌∷◌, length, map, Bool, true, false, cond, not, ◌&&◌, ◌||◌, refl, ap, sym, ◌∙◌, arith, ◌⊎◌, inl, inr, true≢false}
 use Rattle.std.specs.Prelude.{Option, Some, None, ◌==◌, nat_le, slice_index, Result, Ok, Err, MatchResult}
-use Rattle.std.specs.List.{list_all, slice_get}
+use Rattle.std.specs.List.{list_all}
 use Rattle.std.proofs.lemmas.Bool.{lt-leb}
 use Rattle.std.proofs.lemmas.Bool.Decides.{nat_tests}
+use Rattle.std.proofs.lemmas.Option.{slice_get_past, same_Some}
 use Rattle.life_mc.proofs.TestFacts.{all_four, few_states}
 use mathlib.Core.Bool.{and-false}
 use Rattle.life_base.specs.Text.{words_of, value_of, is_digit_text}
@@ -29,14 +30,9 @@ top_number = 2 ^ 64 - 1
 small_or_large : (n : ℕ) → (capped n ≡ n) ⊎ ((top_number < n) × (capped n ≡ top_number))
 small_or_large n = grind arith
 
-past : (levels : List ℕ) (i : ℕ) → length levels ≤ i → slice_get levels i ≡ None
-past [] i h = refl
-past (l ∷ levels) zero h = absurd (omega arith)
-past (l ∷ levels) (suc i) h = past levels i (omega arith)
-
 numbered_past : (levels : List ℕ) (n : ℕ) → length levels < n → numbered levels n ≡ None
 numbered_past levels zero h = absurd (omega arith)
-numbered_past levels (suc i) h = past levels i (omega arith)
+numbered_past levels (suc i) h = slice_get_past levels i (omega arith)
 
 not_zero_number : (n : ℕ) → 0 < n → (n == 0) ≡ false
 not_zero_number n h = grind (arith, nat_tests)
@@ -124,9 +120,6 @@ module _ (top : ℕ) (rule : Rule) (levels : List ℕ) (low : top ≤ 255) (few 
   abbrev directive : Bool → List (List ℕ) → Option Line
   directive v words = cond v (quad_of (map (λ word. capped (value_of word)) words)) None
 
-  some_is : (a b : Line) → Some a ≡ Some b → a ≡ b
-  some_is a b h = cc
-
   quad_by : (v : Bool) (words : List (List ℕ)) (q : Line) → Some q ≡ directive v words
       → (broken_by_square top rule levels (Some q) ≡ broken_by_square top rule levels (plain v words))
       × (broken_by_square top rule levels (Some q) ≡ None → plain v words ≡ Some q)
@@ -135,7 +128,7 @@ module _ (top : ℕ) (rule : Rule) (levels : List ℕ) (low : top ≤ 255) (few 
       no : Some q ≡ None → ⊥
       no e = cc
   quad_by true (a ∷ b ∷ c ∷ d ∷ e ∷ []) q h =
-      let is = some_is q (Quad (capped (value_of a)) (capped (value_of b)) (capped (value_of c)) (capped (value_of d)) (capped (value_of e))) h in (
+      let is = same_Some q (Quad (capped (value_of a)) (capped (value_of b)) (capped (value_of c)) (capped (value_of d)) (capped (value_of e))) h in (
         ap (λ s. broken_by_square top rule levels (Some s)) is ∙ numbers_same (value_of a) (value_of b) (value_of c) (value_of d) (value_of e),
         λ n. ap Some (sym (is ∙ numbers_are (value_of a) (value_of b) (value_of c) (value_of d) (value_of e)
             (ap (λ s. broken_by_square top rule levels (Some s)) (sym is) ∙ n))),

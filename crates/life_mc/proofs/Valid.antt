@@ -1,5 +1,5 @@
 -- The squares of a file are squares.
-use Rattle.std.proofs.Common.{◌≡◌, ℕ, zero, suc, ◌<◌, ◌≤◌, List, [], ◌∷◌, ◌++◌, length, take, drop, get_or, map, Bool, true, false, cond, not, ◌&&◌, ◌||◌, refl, ap, sym, subst, ◌∙◌, arith, length-append, add-one, ◌⊎◌, inl, inr, eqb-true}
+use Rattle.std.proofs.Common.{◌≡◌, ℕ, zero, suc, ◌<◌, ◌≤◌, List, [], ◌∷◌, ◌++◌, length, take, drop, get_or, map, Bool, true, false, cond, not, ◌&&◌, ◌||◌, refl, ap, sym, subst, ◌∙◌, arith, length-append, add-one, ◌⊎◌, inl, inr, eqb-true, append-nil}
 use Rattle.std.specs.Prelude.{codes, nat_le, nat_lt, ◌==◌, Option, Some, None, filter_map, slice_index, replicate}
 use Rattle.std.specs.List.{list_all, AllByRecursion, slice_get}
 use Rattle.std.specs.Result.{result_ok, result_err}
@@ -187,10 +187,6 @@ module _ (top : ℕ) where
   no_squares : (rule : Rule) → AreSquares top rule []
   no_squares rule = λ k line g. cc
 
-  append_no_rule : (rs : List Rule) → rs ++ [] ≡ rs
-  append_no_rule [] = refl
-  append_no_rule (r ∷ rs) = ap (λ (t : List Rule). r ∷ t) (append_no_rule rs)
-
   none_on : (line : List ℕ) → rule_on line ≡ None → filter_map rule_on (line ∷ []) ≡ []
   none_on line h = rw h refl
 
@@ -198,7 +194,7 @@ module _ (top : ℕ) where
       ≡ rule_in_force (header ∷ lines)
   rule_same header lines line h =
       ap (last_or default_rule) (filter_map-append rule_on lines (line ∷ []) ∙ ap (λ (t : List Rule). filter_map rule_on lines ++ t) (none_on line h)
-      ∙ append_no_rule (filter_map rule_on lines))
+      ∙ append-nil (filter_map rule_on lines))
 
   taken : {X : Type 0} (v : Bool) (o : Option X) (x : X) → cond v o None ≡ Some x → (v ≡ true) × (o ≡ Some x)
   taken true o x h = (refl, h)

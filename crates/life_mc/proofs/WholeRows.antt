@@ -222,11 +222,6 @@ shorter zero text = omega arith
 shorter (suc k) [] = omega arith
 shorter (suc k) (b ∷ text) = omega (arith, shorter k text)
 
-pub as_long : (k : ℕ) (text : List ℕ) → k ≤ length text → length (take k text) ≡ k
-as_long zero text h = refl
-as_long (suc k) [] h = absurd (omega (arith, h))
-as_long (suc k) (b ∷ text) h = omega (arith, as_long k text (omega (arith, h)))
-
 -- and it is one of a leaf
 pub front_is_row : (text : List ℕ) → is_row (take (front_cells 8 text) text) ≡ true
 front_is_row text =
