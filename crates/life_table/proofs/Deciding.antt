@@ -8,6 +8,7 @@ use Rattle.std.proofs.lemmas.List.{take_all}
 use Rattle.std.proofs.lemmas.List.Elements.{All-head, All-tail}
 use Rattle.std.proofs.lemmas.List.Sums.{sum_by-cons}
 use Rattle.std.proofs.lemmas.Bool.{cases_Bool}
+use Rattle.std.proofs.lemmas.Option.{same_Some}
 use Rattle.life_table.specs.Meaning.{IsChoice, has_state, state_of, count_of, GivesByCounts}
 use Rattle.life_table.specs.Found.{Tells}
 use Rattle.life_table.specs.Valid.{is_variable}
@@ -60,9 +61,6 @@ split_count choice first centre t h (e ∷ es) =
 
 some_none : {X : Type 0} {x : X} → Some x ≡ None → ⊥
 some_none e = cc
-
-some_same : (a b : ℕ) → Some a ≡ Some b → a ≡ b
-some_same a b e = cc
 
 some_holds : {X : Type 0} (p : X → Bool) (o : Option X) → option_map_or p o false ≡ true → IfSome o (λ x. p x ≡ true)
 some_holds p None h = absurd (let z : ⊥ = cc in z)
@@ -158,9 +156,9 @@ module _ (vars : List Var) (line : Transition) (first : Entry) (rest : List Entr
 
     -- where the output is settled
     settled_is : (choice : ℕ → ℕ) → state_of choice first ≡ centre → (e : Entry) (o : ℕ) → settled first centre e ≡ Some o → state_of choice e ≡ o
-    settled_is choice h (entries.Fixed s) o is = some_same s o is
+    settled_is choice h (entries.Fixed s) o is = same_Some s o is
     settled_is choice h (entries.Var i) o is = elim (cases_Bool (is_variable i first)) [
-      | inl is_one ↦ sym (centre_is choice i first is_one) ∙ h ∙ some_same centre o (sym (ap (λ b. cond b (Some centre) None) is_one) ∙ is)
+      | inl is_one ↦ sym (centre_is choice i first is_one) ∙ h ∙ same_Some centre o (sym (ap (λ b. cond b (Some centre) None) is_one) ∙ is)
       | inr is_none ↦ absurd (some_none (sym (sym (ap (λ b. cond b (Some centre) None) is_none) ∙ is)))
     ]
 
