@@ -5,6 +5,7 @@ use Rattle.std.specs.List.{slice_get}
 use Rattle.std.proofs.lemmas.Int.{ints}
 use Rattle.std.proofs.lemmas.Bool.Decides.{nat_tests}
 use Rattle.std.proofs.lemmas.Bool.{and_parts}
+use Rattle.std.proofs.lemmas.Option.{same_Some}
 use Rattle.life_base.specs.declared.kind.Kind.{Kind}
 use Rattle.life_base.specs.declared.kind.Kind.TheVariants.{LineTooLong, NoHeader, LateHeader, SecondHeader, StateRange, OutOfPlane}
 use Rattle.life_base.specs.declared.rule.Rule.{Rule}
@@ -320,16 +321,13 @@ place-item level rule row column (Cells n s) h =
     (true-le (column +ℤ pos n) (edge level) h.2)
 place-item level rule row column (RowEnds n) h = ap (λ b. cond b None (Some OutOfPlane)) (true-le (row +ℤ pos n) (edge level) h)
 
-same : (p q : Placed) → Some p ≡ Some q → p ≡ q
-same p q e = cc
-
 fault-places : (level : ℕ) (rule : Rule) (ps : List Placed) → first_fault level rule ps ≡ None → (i : ℕ) (p : Placed) → slice_get ps i ≡ Some p
     → MayStand level rule p.row p.column p.item
 fault-places level rule [] e i p at = cc
 fault-places level rule (q ∷ ps) e zero p at =
     let none = option_or-both (placed_fault level rule q) (first_fault level rule ps) e in
     let P : Placed → Type 0 = λ r. MayStand level rule r.row r.column r.item in
-    subst P (same q p at) (item-place level rule q.row q.column q.item none.0)
+    subst P (same_Some q p at) (item-place level rule q.row q.column q.item none.0)
 fault-places level rule (q ∷ ps) e (suc i) p at = fault-places level rule ps (option_or-both (placed_fault level rule q) (first_fault level rule ps) e).1 i p
     at
 

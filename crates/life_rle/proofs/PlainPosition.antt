@@ -4,6 +4,7 @@ use Rattle.std.proofs.lemmas.Bool.Decides.{nat_tests}
 use Rattle.std.proofs.lemmas.List.{take-append-drop}
 use Rattle.std.proofs.lemmas.Slice.Eq.{bytes_eq-Decides}
 use Rattle.std.proofs.lemmas.Bool.{and_parts}
+use Rattle.std.proofs.lemmas.Option.{same_Some}
 use Rattle.std.proofs.Math.Seq.{take-append_seam}
 use Rattle.std.specs.Char.{is_ascii_digit}
 use Rattle.std.specs.List.{list_all, before_first, after_first, position_or_len}
@@ -38,20 +39,17 @@ not-begins text word h =
 
 -- ---- numbers
 
-some-same : {X : Type 0} {a b : X} → Some a ≡ Some b → a ≡ b
-some-same e = cc
-
 digits-number : (text : List ℕ) (z : ℤ) → cond (is_digit_text text) (Some (pos (value_of text))) None ≡ Some z → (is_digit_text text ≡ true)
     × (z ≡ pos (value_of text))
 digits-number text z =
     elim (is_digit_text text) as (λ t. cond t (Some (pos (value_of text))) None ≡ Some z → (t ≡ true) × (z ≡ pos (value_of text)))
-    [ true ↦ λ h. (refl, sym (some-same h)) | false ↦ λ h. cc ]
+    [ true ↦ λ h. (refl, sym (same_Some _ _ h)) | false ↦ λ h. cc ]
 
 minus-number : (digits : List ℕ) (z : ℤ) → cond (is_digit_text digits) (Some (neg_ℤ (pos (value_of digits)))) None ≡ Some z → (is_digit_text digits ≡ true)
     × (z ≡ neg_ℤ (pos (value_of digits)))
 minus-number digits z =
     elim (is_digit_text digits) as (λ t. cond t (Some (neg_ℤ (pos (value_of digits)))) None ≡ Some z → (t ≡ true) × (z ≡ neg_ℤ (pos (value_of digits))))
-    [ true ↦ λ h. (refl, sym (some-same h)) | false ↦ λ h. cc ]
+    [ true ↦ λ h. (refl, sym (same_Some _ _ h)) | false ↦ λ h. cc ]
 
 number-text : (text : List ℕ) (z : ℤ) → signed_number text ≡ Some z → IsNumberText text z
 number-text text z =
