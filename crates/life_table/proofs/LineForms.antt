@@ -162,7 +162,7 @@ words_parsed n vars (word ∷ words) es h =
     let s = split_some (entry_of n vars word) (map (entry_of n vars) words) es h in
     subst (AllZip (Writes n vars) (word ∷ words)) (sym s.4) (s.2, words_parsed n vars words s.1 s.3)
 
-last_at : {X : Type 0} (xs : List X) (x : X) → slice_get (xs ++ x ∷ []) (length xs) ≡ Some x
+pub last_at : {X : Type 0} (xs : List X) (x : X) → slice_get (xs ++ x ∷ []) (length xs) ≡ Some x
 last_at [] x = refl
 last_at (y ∷ xs) x = last_at xs x
 

@@ -18,6 +18,7 @@ use Rattle.life_table.specs.declared.table.Entry.TheVariants as entries
 use Rattle.life_table.specs.declared.table.Transition.{Transition}
 use Rattle.life_table.proofs.Texts.{split_some}
 use Rattle.life_table.proofs.Cases.{not_some}
+use Rattle.life_table.proofs.Searching.{zeros_at}
 
 -- 1. What an option that is there came from
 
@@ -129,7 +130,7 @@ pub record IsSet (n : ℕ) (states : List ℕ) : Type 0 where
   pub some : ¬ ((s : ℕ) → ¬ (bit_at (slice_index states (s / 64)) (s % 64) ≡ 1))
   pub below : (s : ℕ) → bit_at (slice_index states (s / 64)) (s % 64) ≡ 1 → s < n
 
-union_at : (a b : List ℕ) (k : ℕ) → k < 4 → slice_index (union a b) k ≡ bit_or (slice_index a k) (slice_index b k)
+pub union_at : (a b : List ℕ) (k : ℕ) → k < 4 → slice_index (union a b) k ≡ bit_or (slice_index a k) (slice_index b k)
 union_at a b zero h = refl
 union_at a b (suc zero) h = refl
 union_at a b (suc (suc zero)) h = refl
@@ -234,19 +235,8 @@ fold_keeps acc [] s h e = e
 fold_keeps acc (set ∷ sets) s h e = fold_keeps (union acc set) sets s h (union_keeps acc set s h e)
 
 zeros_below : (n : ℕ) → IsBelow n (0 ∷ 0 ∷ 0 ∷ 0 ∷ [])
-zeros_below n s h = elim (cases_Bool (nat_lt (s / 64) 4)) [
-  | inl within ↦ absurd (let none : bit_of (0 ∷ 0 ∷ 0 ∷ 0 ∷ []) s ≡ 0 = ap (λ (w : ℕ). bit_at w (s % 64)) (word_zero (s / 64)) ∙ bit_at-zero (s % 64) in
-      omega (arith, none, h))
-  | inr beyond ↦ absurd (let none : bit_of (0 ∷ 0 ∷ 0 ∷ 0 ∷ []) s ≡ 0 = ap (λ (w : ℕ). bit_at w (s % 64)) (word_zero (s / 64)) ∙ bit_at-zero (s % 64) in
-      omega (arith, none, h))
-]
-  where
-    word_zero : (k : ℕ) → slice_index (0 ∷ 0 ∷ 0 ∷ 0 ∷ []) k ≡ 0
-    word_zero zero = refl
-    word_zero (suc zero) = refl
-    word_zero (suc (suc zero)) = refl
-    word_zero (suc (suc (suc zero))) = refl
-    word_zero (suc (suc (suc (suc k)))) = refl
+zeros_below n s h = absurd (let none : bit_of (0 ∷ 0 ∷ 0 ∷ 0 ∷ []) s ≡ 0 = ap (λ (w : ℕ). bit_at w (s % 64)) (zeros_at 4 (s / 64)) ∙ bit_at-zero (s % 64) in
+    omega (arith, none, h))
 
 union_set : (n : ℕ) → n ≤ 256 → (set : List ℕ) (sets : List (List ℕ)) → All (IsSet n) (set ∷ sets) → IsSet n (union_of (set ∷ sets))
 union_set n most set sets all =
