@@ -1,5 +1,5 @@
 -- What is read in the words of the claims is a file in the layers below.
-use Rattle.std.proofs.Common.{◌≡◌, ℕ, zero, suc, ◌+◌, ◌<◌, List, [], ◌∷◌, length, take, drop, map, Bool, true, false, cond, not, ◌&&◌, refl, ap, ◌∙◌, sym, arith, ◌⊎◌, inl, inr}
+use Rattle.std.proofs.Common.{◌≡◌, ℕ, zero, suc, ◌+◌, ◌<◌, List, [], ◌∷◌, length, take, drop, map, Bool, true, false, cond, not, ◌&&◌, refl, ap, ◌∙◌, sym, arith, ◌⊎◌, inl, inr, true≢false}
 use Rattle.std.specs.Prelude.{Option, Some, None, Result, Ok, Err, codes, slice_index, slice_index_or, slice_get, filter_map}
 use Rattle.std.specs.List.{list_any, list_all, cons_option}
 use Rattle.std.proofs.lemmas.Bool.{or_parts}
@@ -105,20 +105,12 @@ no_leaf_in [] i rows h e = cc
 no_leaf_in (line ∷ lines) i rows h e =
     by (square_on line) refl i (λ j. no_leaf_in lines j rows (or_parts (is_node_line line && is_leaf_byte (slice_index (trim line) 0)) _ h).1) e
   where
-    contra : (v : Bool) → v ≡ true → v ≡ false → ⊥
-    contra true e f = cc
-    contra false e f = cc
-
-    same_line : (a b : Line) → Some a ≡ Some b → a ≡ b
-    same_line a b k = cc
-
     by : (o : Option Line) → square_on line ≡ o → (j : ℕ) → ((k : ℕ) → slice_get (filter_map square_on lines) k ≡ Some (Leaf rows) → ⊥)
         → slice_get (cons_option o (filter_map square_on lines)) j ≡ Some (Leaf rows) → ⊥
     by None f j below g = below j g
     by (Some found) f zero below g =
-        contra (is_node_line line && is_leaf_byte (slice_index (trim line) 0)) (leaf_line line rows (f ∙ g))
-        (or_parts (is_node_line line && is_leaf_byte (slice_index (trim line) 0))
-        (list_any (λ l. is_node_line l && is_leaf_byte (slice_index (trim l) 0)) lines) h).0
+        true≢false (sym (leaf_line line rows (f ∙ g)) ∙ (or_parts (is_node_line line && is_leaf_byte (slice_index (trim line) 0))
+        (list_any (λ l. is_node_line l && is_leaf_byte (slice_index (trim l) 0)) lines) h).0)
     by (Some found) f (suc j) below g = below j g
 
 -- a file without leaf lines has no leaf

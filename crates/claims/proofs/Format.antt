@@ -2,9 +2,8 @@
 use Rattle.std.proofs.Common.{◌≡◌, ℕ, suc, List, [], ◌∷◌, length, take, Bool, true, false, cond, ◌&&◌, ◌||◌, refl, ap, ◌∙◌, sym, inl, inr, arith}
 use Rattle.std.specs.Prelude.{◌==◌, bytes_eq}
 use Rattle.std.proofs.lemmas.Bool.Decides.{nat_tests}
-use Rattle.std.proofs.lemmas.Bool.{or_parts}
+use Rattle.std.proofs.lemmas.Bool.{or_parts, cases_Bool}
 use Rattle.life_base.specs.Text.{lines_of, onto_first}
-use Rattle.claims.proofs.McLaw.{decided}
 
 abbrev pub first_line_of : List (List ℕ) → List ℕ
 first_line_of [] = []
@@ -26,7 +25,7 @@ pub begins_line : (word bytes : List ℕ) → has_feed word ≡ false
     → bytes_eq (take (length word) bytes) word ≡ bytes_eq (take (length word) (first_line_of (lines_of bytes))) word
 begins_line [] bytes h = refl
 begins_line (c ∷ word) [] h = refl
-begins_line (c ∷ word) (b ∷ bytes) h = elim (decided (b == 10)) [
+begins_line (c ∷ word) (b ∷ bytes) h = elim (cases_Bool (b == 10)) [
   | inl e ↦
       ap (λ v. v && bytes_eq (take (length word) bytes) word) (feed_free b c e (or_parts (c == 10) (has_feed word) h).0)
       ∙ sym (ap (λ v. bytes_eq (take (suc (length word)) (first_line_of (cond v ([] ∷ lines_of bytes) (onto_first b (lines_of bytes))))) (c ∷ word)) e)

@@ -3,7 +3,7 @@ use Rattle.std.proofs.Common.{◌≡◌, ℕ, zero, suc, ◌+◌, ◌-◌, ◌<�
 use Rattle.std.specs.Prelude.{◌==◌, Result, Ok, Err, IsOk, codes}
 use Rattle.std.specs.List.{list_all}
 use Rattle.std.proofs.lemmas.List.{append-nil}
-use Rattle.std.proofs.lemmas.Bool.{and_from}
+use Rattle.std.proofs.lemmas.Bool.{and_from, cases_Bool}
 use Rattle.life_base.proofs.Numbers.{first, second}
 use Rattle.life_base.proofs.WholeLines.{lines-joined}
 use Rattle.life_base.specs.Lines.{has_no_feed, joined}
@@ -20,7 +20,6 @@ use Rattle.claims.specs.Rle.{Lines, Position, before_header, behind_header, behi
 use Rattle.claims.specs.Files.{fault_at, on_line, read_lines, macrocell_of, end_of_rle, pattern_of}
 use Rattle.claims.specs.Laws.{ended, FrontsGoOn}
 use Rattle.claims.proofs.Format.{first_line_of, begins_line}
-use Rattle.claims.proofs.McLaw.{decided}
 use Rattle.claims.proofs.RleFile.{begun}
 use Rattle.claims.proofs.Running.{Runs, ended_behind, runs_on}
 use Rattle.claims.proofs.Stays.{cap, line_of, end_of}
@@ -126,10 +125,6 @@ first_is : (bytes : List ℕ) (lines : List (List ℕ)) → lines_of bytes ≡ l
 first_is bytes lines e =
     begins_line (codes "[M2]") bytes refl ∙ ap (λ (t : List (List ℕ)). begins_with (first_line_of t) (codes "[M2]")) e
 
-same_first : (lines more : List (List ℕ)) (m : ℕ) → first_line_of (take (suc m) lines ++ more) ≡ first_line_of (lines ++ more)
-same_first [] more m = refl
-same_first (line ∷ lines) more m = refl
-
 -- ---- both formats
 
 nothing_more : (lines : List (List ℕ)) → lines ≡ lines ++ lines_of []
@@ -223,4 +218,4 @@ fronts_go_on bytes zero kind some h e = absurd (omega arith)
 fronts_go_on bytes (suc m) kind some h e =
     let same : suc m - 1 ≡ m = omega arith in
     subst (λ k. (more : List ℕ) × IsOk (pattern_of (ended (take k (lines_of bytes)) ++ more))) (sym same)
-    (elim (decided (begins_with bytes (codes "[M2]"))) [ inl f ↦ mc_goes_on bytes m kind f h e | inr f ↦ rle_goes_on bytes m kind f h e ])
+    (elim (cases_Bool (begins_with bytes (codes "[M2]"))) [ inl f ↦ mc_goes_on bytes m kind f h e | inr f ↦ rle_goes_on bytes m kind f h e ])

@@ -1,9 +1,10 @@
 -- A macrocell file says what it says in the layer below.
-use Rattle.std.proofs.Common.{◌≡◌, ℕ, zero, suc, ◌+◌, ◌<◌, List, [], ◌∷◌, ◌++◌, length, take, drop, map, Bool, true, false, cond, refl, ap, ◌∙◌, sym, subst, arith, append_assoc}
+use Rattle.std.proofs.Common.{◌≡◌, ℕ, zero, suc, ◌+◌, ◌<◌, List, [], ◌∷◌, ◌++◌, length, take, drop, map, Bool, true, false, cond, refl, ap, ◌∙◌, sym, subst, arith, append_assoc, length-take-le}
 use Rattle.std.specs.Prelude.{Option, Some, None, Result, Ok, Err, ℤ, codes, filter_map, slice_index_or}
 use Rattle.std.specs.Option.{option_to_list, unwrap_or}
 use Rattle.std.proofs.lemmas.List.{append-nil}
 use Rattle.std.proofs.lemmas.List.Elements.{filter_map-append}
+use Rattle.std.proofs.lemmas.Option.{same_Some}
 use Rattle.life_base.specs.Text.{is_empty, is_too_long, begins_with}
 use Rattle.life_base.specs.Rules.{default_rule as layer_default}
 use Rattle.life_base.specs.declared.kind.Kind.{Kind}
@@ -24,7 +25,7 @@ use Rattle.claims.proofs.RuleLaw.{rule_in}
 use Rattle.claims.proofs.NodeLaw.{line_in, Fits, passes, fails}
 use Rattle.claims.proofs.McLaw.{Gives, line_fits, broken_line}
 use Rattle.claims.proofs.McPlane.{plane_is}
-use Rattle.claims.proofs.Running.{Runs, refused_behind, ended_behind, cut_at, length_front}
+use Rattle.claims.proofs.Running.{Runs, refused_behind, ended_behind, cut_at}
 
 -- the lines say this in the layer
 pub record Stands (lines : List (List ℕ)) (file : Macrocell) : Type 0 where
@@ -38,10 +39,7 @@ passed o r e (fails kind) = cc
 
 failed : {X : Type 0} {P : X → Type 0} (o : Option Kind) (r : Result X Kind) (kind : Kind) → o ≡ Some kind → Fits P o r → r ≡ Err kind
 failed o r kind e (passes x p) = cc
-failed o r kind e (fails other) = ap Err (some_of other kind e)
-  where
-    some_of : (a b : Kind) → Some a ≡ Some b → a ≡ b
-    some_of a b h = cc
+failed o r kind e (fails other) = ap Err (same_Some other kind e)
 
 last_of : {X : Type 0} (x y : X) (xs : List X) → last_or x (xs ++ y ∷ []) ≡ y
 last_of x y [] = refl
@@ -96,9 +94,6 @@ module _ (lines : List (List ℕ)) (file : Macrocell) (line : List ℕ) (some : 
       ∙ ap (λ v. cond (is_too_long line) (Some kinds.LineTooLong)
       (cond v (cond (begins_with line (codes "[M2]")) None (Some kinds.NoHeader)) (broken_after 62 rule (map line_level (squares_of lines)) line)))
       (sym some)
-
-  abbrev next_line : Result Macrocell Kind
-  next_line = with_line file line
 
   fits_file : Fits (Gives rule file.generation file.nodes line (rule_on line) (generation_on line) (square_on line)) (broken 62 lines line)
       (with_line file line)
@@ -163,14 +158,11 @@ first_err : (header : List ℕ) (kind : Kind) → broken 62 [] header ≡ Some k
 unfolding broken
 first_err header kind e = by (is_too_long header) (begins_with header (codes "[M2]")) e
   where
-    of_some : (a b : Kind) → Some a ≡ Some b → a ≡ b
-    of_some a b h = cc
-
     by : (v w : Bool) → cond v (Some kinds.LineTooLong) (cond w None (Some kinds.NoHeader)) ≡ Some kind
         → cond v (Err kinds.LineTooLong) (cond w (Ok begun) (Err kinds.NoHeader)) ≡ Err kind
-    by true w e = ap Err (of_some kinds.LineTooLong kind e)
+    by true w e = ap Err (same_Some kinds.LineTooLong kind e)
     by false true e = cc
-    by false false e = ap Err (of_some kinds.NoHeader kind e)
+    by false false e = ap Err (same_Some kinds.NoHeader kind e)
 
 abbrev end_of : Macrocell → Result Pattern Kind
 end_of file = Ok (record { rule = file.rule; generation = file.generation; cell = cell file.nodes })
@@ -213,7 +205,7 @@ macrocell_refuses (header ∷ rest) zero kind h u b =
     ap (λ (found : Result Macrocell Kind). on_line 1 found >>= λ (f : Macrocell). read_lines with_line end_of 2 f rest) (first_err header kind b)
 macrocell_refuses (header ∷ rest) (suc k) kind h u b =
     let front = take k rest in
-    let short : length front ≡ k = length_front rest k (omega arith) in
+    let short : length front ≡ k = length-take-le k rest (omega arith) in
     let r = runs front (header ∷ []) begun refl (begun_stands header)
     (λ i l. let below : i < k = omega (arith, short) in
     ap (λ (t : List (List ℕ)). broken 62 (header ∷ t) (slice_index_or front i [])) (take_take rest i k below)

@@ -1,10 +1,11 @@
 -- The lines of a macrocell file say what they say in the layer below.
-use Rattle.std.proofs.Common.{◌≡◌, ℕ, suc, ◌-◌, ◌^◌, List, [], ◌∷◌, ◌++◌, length, drop, map, Bool, true, false, cond, not, ◌&&◌, ◌||◌, refl, ap, ◌∙◌, sym, arith, ◌⊎◌, inl, inr}
+use Rattle.std.proofs.Common.{◌≡◌, ℕ, suc, ◌-◌, ◌^◌, List, [], ◌∷◌, ◌++◌, length, drop, map, Bool, true, false, cond, not, ◌&&◌, ◌||◌, refl, ap, ◌∙◌, sym, arith, inl, inr, true≢false}
 use Rattle.std.specs.Prelude.{nat_le, nat_lt, codes, Option, Some, None, Result, Ok, Err}
 use Rattle.std.specs.Option.{option_to_list, unwrap_or}
 use Rattle.std.specs.Result.{result_ok, result_err}
 use Rattle.std.proofs.lemmas.Bool.Decides.{nat_tests}
 use Rattle.std.proofs.lemmas.List.{append-nil}
+use Rattle.std.proofs.lemmas.Bool.{cases_Bool}
 use Rattle.life_base.specs.Numbers.{u64_of, result_map}
 use Rattle.life_base.specs.Text.{is_empty, is_blank, is_too_long, begins_with, trim, is_digit_text, value_of}
 use Rattle.life_base.specs.Rules.{rule_of as layer_rule_of}
@@ -13,17 +14,13 @@ use Rattle.life_base.specs.declared.kind.Kind.TheVariants as kinds
 use Rattle.life_base.specs.declared.rule.Rule.{Rule as LayerRule}
 use Rattle.life_mc.specs.Reading.{rule_on, generation_on, square_on, square_of, broken_after, broken_by_node}
 use Rattle.life_mc.specs.declared.line.Line.{Line}
+use Rattle.life_mc.proofs.Stands.{rule_parsed_so, generation_parsed_so}
+use Rattle.life_mc.proofs.Valid.{no_command, hash_not_blank}
 use Rattle.claims.specs.Outcomes.{◌>>=◌}
 use Rattle.claims.specs.Rules.{Rule, rule_of}
 use Rattle.claims.specs.Macrocell.{Node, Macrocell, node_of, with_node, is_command, generation_of, with_line}
 use Rattle.claims.proofs.RuleLaw.{rule_in, rule_of_is}
-use Rattle.claims.proofs.Commands.{no_command, hash_not_blank, rule_line_gives, generation_line_gives}
 use Rattle.claims.proofs.NodeLaw.{line_in, levels_of, Fits, passes, fails, moved, text_fits}
-
--- a test has one of two answers
-pub decided : (v : Bool) → (v ≡ true) ⊎ (v ≡ false)
-decided true = inl refl
-decided false = inr refl
 
 below_is : (n : ℕ) → nat_lt n (2 ^ 64) ≡ nat_le n (2 ^ 64 - 1)
 below_is n = grind (arith, nat_tests)
@@ -41,11 +38,7 @@ some_nodes (node ∷ nodes) = sym (positive (length (levels_of nodes)))
     positive n = grind (arith, nat_tests)
 
 no_hash : (line : List ℕ) → is_blank line ≡ true → begins_with line (codes "#") ≡ false
-no_hash line b = elim (decided (begins_with line (codes "#"))) [ inl h ↦ absurd (contra (is_blank line) b (hash_not_blank line h)) | inr h ↦ h ]
-  where
-    contra : (v : Bool) → v ≡ true → v ≡ false → ⊥
-    contra true e f = cc
-    contra false e f = cc
+no_hash line b = elim (cases_Bool (begins_with line (codes "#"))) [ inl h ↦ absurd (true≢false (sym b ∙ hash_not_blank 0 line h)) | inr h ↦ h ]
 
 module _ (rule : LayerRule) (generation : ℕ) (nodes : List Node) (line : List ℕ) where
   -- what the line gives more
@@ -99,7 +92,7 @@ module _ (rule : LayerRule) (generation : ℕ) (nodes : List Node) (line : List 
   rule_step : (found : Result LayerRule Kind) → layer_rule_of (drop 2 line) ≡ found → is_command (codes "#R") line ≡ true
       → Fits P (result_err found) (result_map rule_in found >>= λ r. Ok (record file { rule = r }))
   rule_step (Ok r) e c =
-      let told = rule_line_gives line r c e in
+      let told = rule_parsed_so line r c e in
       passes _ (given (Some r) None None told.0 told.1 told.2 _
       (record { is_rule = refl; is_generation = refl; are_nodes = sym (append-nil (map line_in nodes)) }))
   rule_step (Err kind) e c = fails kind
@@ -111,7 +104,7 @@ module _ (rule : LayerRule) (generation : ℕ) (nodes : List Node) (line : List 
   generation_step false small r g = fails kinds.BadNumber
   generation_step true false r g = fails kinds.TooLarge
   generation_step true true r g =
-      let told = generation_line_gives line (value_of (trim (drop 2 line))) r g refl in
+      let told = generation_parsed_so line (value_of (trim (drop 2 line))) r g refl in
       passes _ (given None (Some (value_of (trim (drop 2 line)))) None told.0 told.1 told.2 _
       (record { is_rule = refl; is_generation = refl; are_nodes = sym (append-nil (map line_in nodes)) }))
 
@@ -119,7 +112,7 @@ module _ (rule : LayerRule) (generation : ℕ) (nodes : List Node) (line : List 
       → Fits (λ next. map line_in next ≡ map line_in nodes ++ option_to_list (square_of (trim line))) o found
       → Fits P o (found >>= λ ns. Ok (record file { nodes = ns }))
   node_step o found b h (passes ns e) =
-      passes _ (given None None (square_of (trim line)) (no_rule (no_command 82 line h)) (no_generation (no_command 71 line h))
+      passes _ (given None None (square_of (trim line)) (no_rule (no_command 0 82 line h)) (no_generation (no_command 0 71 line h))
       (square_is false false b h) _
       (record { is_rule = refl; is_generation = refl; are_nodes = e }))
   node_step o found b h (fails kind) = fails kind
@@ -129,7 +122,7 @@ module _ (rule : LayerRule) (generation : ℕ) (nodes : List Node) (line : List 
 
   behind_commands : is_blank line ≡ false → begins_with line (codes "#FRAME") ≡ false → is_command (codes "#R") line ≡ false
       → is_command (codes "#G") line ≡ false → Fits P broken_here with_short
-  behind_commands b f r g = elim (decided (begins_with line (codes "#"))) [
+  behind_commands b f r g = elim (cases_Bool (begins_with line (codes "#"))) [
     | inl h ↦
         let e : broken_here ≡ None = rw (b, f, r, g, h) refl in
         let w : with_short ≡ Ok file = rw (b, f, r, g, h) refl in
@@ -149,12 +142,12 @@ module _ (rule : LayerRule) (generation : ℕ) (nodes : List Node) (line : List 
   command_in_time : is_blank line ≡ false → begins_with line (codes "#FRAME") ≡ false → not (is_empty nodes) ≡ false → Fits P broken_here with_short
   command_in_time b f l =
       let m : nat_lt 0 (length (levels_of nodes)) ≡ false = sym (some_nodes nodes) ∙ l in
-      elim (decided (is_command (codes "#R") line)) [
+      elim (cases_Bool (is_command (codes "#R") line)) [
         | inl r ↦
             let e : broken_here ≡ result_err (layer_rule_of (drop 2 line)) = rw (b, f, r, m) refl in
             let w : with_short ≡ (rule_of (drop 2 line) >>= λ ruled. Ok (record file { rule = ruled })) = rw (b, f, r, l) refl in
             moved P e (w ∙ ap (λ (x : Result Rule Kind). x >>= λ ruled. Ok (record file { rule = ruled })) (rule_of_is (drop 2 line))) (rule_step _ refl r)
-        | inr r ↦ elim (decided (is_command (codes "#G") line)) [
+        | inr r ↦ elim (cases_Bool (is_command (codes "#G") line)) [
           | inl g ↦
               let text = trim (drop 2 line) in
               let e : broken_here ≡ result_err (u64_of text) = rw (b, f, r, g, m) refl in
@@ -168,12 +161,12 @@ module _ (rule : LayerRule) (generation : ℕ) (nodes : List Node) (line : List 
   command_late : is_blank line ≡ false → begins_with line (codes "#FRAME") ≡ false → not (is_empty nodes) ≡ true → Fits P broken_here with_short
   command_late b f l =
       let m : nat_lt 0 (length (levels_of nodes)) ≡ true = sym (some_nodes nodes) ∙ l in
-      elim (decided (is_command (codes "#R") line)) [
+      elim (cases_Bool (is_command (codes "#R") line)) [
         | inl r ↦
             let e : broken_here ≡ Some kinds.LateHeader = rw (b, f, r, m) refl in
             let w : with_short ≡ Err kinds.LateHeader = rw (b, f, r, l) refl in
             moved P e w (fails kinds.LateHeader)
-        | inr r ↦ elim (decided (is_command (codes "#G") line)) [
+        | inr r ↦ elim (cases_Bool (is_command (codes "#G") line)) [
           | inl g ↦
               let e : broken_here ≡ Some kinds.LateHeader = rw (b, f, r, g, m) refl in
               let w : with_short ≡ Err kinds.LateHeader = rw (b, f, r, g, l) refl in
@@ -184,17 +177,17 @@ module _ (rule : LayerRule) (generation : ℕ) (nodes : List Node) (line : List 
 
   -- a line that isn't too long
   pub short_fits : Fits P broken_here with_short
-  short_fits = elim (decided (is_blank line)) [
+  short_fits = elim (cases_Bool (is_blank line)) [
     | inl b ↦
         let e : broken_here ≡ None = rw b refl in
         let w : with_short ≡ Ok file = rw b refl in
-        moved P e w (passes file (passed_over true b refl (no_command 82 line (no_hash line b)) (no_command 71 line (no_hash line b))))
-    | inr b ↦ elim (decided (begins_with line (codes "#FRAME"))) [
+        moved P e w (passes file (passed_over true b refl (no_command 0 82 line (no_hash line b)) (no_command 0 71 line (no_hash line b))))
+    | inr b ↦ elim (cases_Bool (begins_with line (codes "#FRAME"))) [
       | inl f ↦
           let e : broken_here ≡ Some kinds.Timeline = rw (b, f) refl in
           let w : with_short ≡ Err kinds.Timeline = rw (b, f) refl in
           moved P e w (fails kinds.Timeline)
-      | inr f ↦ elim (decided (not (is_empty nodes))) [ inl l ↦ command_late b f l | inr l ↦ command_in_time b f l ]
+      | inr f ↦ elim (cases_Bool (not (is_empty nodes))) [ inl l ↦ command_late b f l | inr l ↦ command_in_time b f l ]
     ]
   ]
 

@@ -1,5 +1,5 @@
 -- The cells of a macrocell file are those of the layer below.
-use Rattle.std.proofs.Common.{◌≡◌, ℕ, zero, suc, ◌+◌, ◌-◌, ◌/◌, ◌%◌, ◌^◌, ◌<◌, ◌≤◌, List, [], ◌∷◌, ◌++◌, length, take, map, replicate, Bool, true, false, cond, ◌&&◌, ◌||◌, refl, ap, ◌∙◌, sym, subst, arith}
+use Rattle.std.proofs.Common.{◌≡◌, ℕ, zero, suc, ◌+◌, ◌-◌, ◌/◌, ◌%◌, ◌^◌, ◌<◌, ◌≤◌, List, [], ◌∷◌, ◌++◌, length, take, map, replicate, Bool, true, false, cond, ◌&&◌, ◌||◌, refl, ap, ◌∙◌, sym, subst, arith, eqb-true, ltb-true}
 use Rattle.std.specs.Prelude.{nat_le, nat_lt, ◌==◌, slice_get, slice_index, slice_index_or, sum_by, Option, Some, None, ℤ, pos, negsuc, neg_ℤ, ◌+ℤ◌, int_le, int_lt, unsigned_abs}
 use Rattle.std.specs.List.{list_all}
 use Rattle.std.proofs.Math.Nat.{mod-lt, two-pow-succ}
@@ -29,9 +29,6 @@ column_test bits x = (row_of (bit bits) / 2 ^ (7 - x) % 2) == cond (bit bits x) 
 
 columns_pass : all_over 8 (λ bits. list_all (column_test bits) columns) ≡ true
 columns_pass = refl
-
-equal : (a b : ℕ) → (a == b) ≡ true → a ≡ b
-equal a b h = grind (arith, nat_tests)
 
 abbrev bits_in : List ℕ → List Bool
 bits_in row = map (λ c. slice_index row c == 42) columns
@@ -69,7 +66,7 @@ byte_at (suc n) m y [] h = zeros (suc n) m y
 
 at_eight : (bits : List Bool) (x : ℕ) → length bits ≡ 8 → x < 8 → row_of (bit bits) / 2 ^ (7 - x) % 2 ≡ cond (bit bits x) 1 0
 at_eight bits x e h =
-    equal _ _ (all_eight (column_test bits)
+    eqb-true _ _ (all_eight (column_test bits)
     (all_over_at bits (λ b. list_all (column_test b) columns)
     (subst (λ n. all_over n (λ b. list_all (column_test b) columns) ≡ true) (sym e) columns_pass)) x h)
 
@@ -110,7 +107,7 @@ named : (nodes : List Node) (m i level : ℕ) → is_level level (slice_get (map
     → (node : Node) × (slice_get nodes i ≡ Some node) × (level_of node ≡ level)
 named nodes zero i level h = cc
 named [] (suc m) i level h = cc
-named (node ∷ nodes) (suc m) zero level h = (node, refl, sym (level_is node) ∙ equal (line_level (line_in node)) level h)
+named (node ∷ nodes) (suc m) zero level h = (node, refl, sym (level_is node) ∙ eqb-true (line_level (line_in node)) level h)
 named (node ∷ nodes) (suc m) (suc i) level h = named nodes m i level h
 
 quarter_names : (rule : LayerRule) (nodes : List Node) (m k number : ℕ) → is_quarter rule (map line_level (take m (map line_in nodes))) (suc k) number ≡ true
@@ -169,15 +166,15 @@ module _ (rule : LayerRule) (nodes : List Node) (valid : AreSquares 62 rule (map
   at_node : (k i : ℕ) (node : Node) (x y : ℕ) → x < 2 ^ suc k → y < 2 ^ suc k → level_of node ≡ suc k → slice_get nodes i ≡ Some node
       → ((number u v : ℕ) → Names nodes k number → u < 2 ^ k → v < 2 ^ k → state_in nodes k number u v ≡ cell_in lines k number u v)
       → state_by k (Some node) x y ≡ cell_by k (Some (line_in node)) x y
-  at_node k i (leaf rows) x y h l e g below =
+  at_node k i (leaf rows) x y h l e g ltb-true =
       let two : 2 ≡ k = omega (arith, e) in
       leaf_is rows x y (subst (λ n. x < 2 ^ suc n) (sym two) h) (subst (λ n. y < 2 ^ suc n) (sym two) l)
-  at_node k i (quad level a b c d) x y h l e g below =
+  at_node k i (quad level a b c d) x y h l e g ltb-true =
       let levels = map line_level (take i lines) in
       let is = valid i (Quad level a b c d) (in_lines nodes i (quad level a b c d) g) in
       let q = four _ _ _ _ (ap (λ n. list_all (is_quarter rule levels n) (a ∷ b ∷ c ∷ d ∷ [])) (sym e) ∙ is.2) in
       let P : ℕ → Type 0 = Names nodes k in
-      below (quarter_at (2 ^ k) x y a b c d) (x % 2 ^ k) (y % 2 ^ k)
+      ltb-true (quarter_at (2 ^ k) x y a b c d) (x % 2 ^ k) (y % 2 ^ k)
       (chosen P (nat_lt y (2 ^ k)) (nat_lt x (2 ^ k)) a b c d (quarter_names rule nodes i k a q.0) (quarter_names rule nodes i k b q.1)
       (quarter_names rule nodes i k c q.2) (quarter_names rule nodes i k d q.3))
       (mod-lt x (pow_pos k)) (mod-lt y (pow_pos k))
@@ -216,9 +213,6 @@ pairs : (a b c d p q : Bool) → (a && b) ≡ p → (c && d) ≡ q → (a && b &
 pairs true true c d p q e f = f ∙ ap (λ v. v && q) e
 pairs true false c d p q e f = ap (λ v. v && q) e
 pairs false b c d p q e f = ap (λ v. v && q) e
-
-below : (n m : ℕ) → nat_lt n m ≡ true → n < m
-below n m h = grind (arith, nat_tests)
 
 -- a square has level 1 or more
 some_level : (rule : LayerRule) (levels : List ℕ) (line : Line) → IsSquare 62 rule levels line → 1 ≤ line_level line
@@ -260,7 +254,7 @@ module _ (rule : LayerRule) (node : Node) (nodes : List Node) (valid : AreSquare
 
   same_in : (c d : ℕ) (v w : Bool) → nat_lt c (2 ^ level) ≡ v → nat_lt d (2 ^ level) ≡ w
       → cond (v && w) (state_in all level (length all) c d) 0 ≡ cond (v && w) (cell_in (map line_in all) level (length all) c d) 0
-  same_in c d true true e f = same_state rule all valid level (length all) c d (root_names level refl) (below c (2 ^ level) e) (below d (2 ^ level) f)
+  same_in c d true true e f = same_state rule all valid level (length all) c d (root_names level refl) (ltb-true c (2 ^ level) e) (ltb-true d (2 ^ level) f)
   same_in c d true false e f = refl
   same_in c d false w e f = refl
 

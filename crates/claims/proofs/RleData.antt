@@ -1,9 +1,10 @@
 -- A line of data says what it says in the layer below.
 use Rattle.std.proofs.Common.{◌≡◌, ℕ, List, [], ◌∷◌, ◌++◌, Bool, true, false, cond, ◌&&◌, ◌||◌, refl, ap, ◌∙◌, sym, subst, arith, append_assoc, ◌⊎◌, inl, inr}
-use Rattle.std.specs.Prelude.{◌==◌, bytes_eq, codes, Option, Some, None, Result, Ok, Err}
-use Rattle.std.specs.Option.{option_or}
+use Rattle.std.specs.Prelude.{◌==◌, bytes_eq, codes, Option, None, Result, Ok, Err}
 use Rattle.std.proofs.lemmas.Bool.Decides.{nat_tests}
 use Rattle.std.proofs.lemmas.List.{append-nil}
+use Rattle.std.proofs.lemmas.Bool.{cases_Bool}
+use Rattle.life_rle.proofs.Progress.{option_or-both}
 use Rattle.life_base.specs.Text.{is_whitespace, is_blank, trim_start}
 use Rattle.life_base.specs.declared.kind.Kind.{Kind}
 use Rattle.life_rle.specs.declared.item.Item.{Item as LayerItem}
@@ -11,7 +12,6 @@ use Rattle.life_rle.specs.Items.{Next, End, Mark, Spelled, Broken, next_of, Spel
 use Rattle.life_rle.specs.Pattern.{Rle as LayerRle, placed_item, placed_behind, placed_fault, first_fault}
 use Rattle.claims.specs.Outcomes.{◌>>=◌}
 use Rattle.claims.specs.Rle.{Item, Rle, Lines, behind_header, behind_end, item_of, with_item, with_texts, texts_of}
-use Rattle.claims.proofs.McLaw.{decided}
 use Rattle.claims.proofs.RlePlane.{file_in, item_answer, with_item_is}
 use Rattle.claims.proofs.RleTexts.{text_of, rest_of, texts_cut, text_begins, Found, spelled, broken, item_found}
 
@@ -42,7 +42,7 @@ space_text b bytes h = by (three (b == 32) (b == 9) (b == 13) refl refl refl h)
 -- whitespace in front is passed over
 spaces : (file : Rle) (bytes : List ℕ) → with_texts file (texts_of bytes) ≡ with_texts file (texts_of (trim_start bytes))
 spaces file [] = refl
-spaces file (b ∷ bytes) = elim (decided (is_whitespace b)) [
+spaces file (b ∷ bytes) = elim (cases_Bool (is_whitespace b)) [
   | inl h ↦
       let e : trim_start (b ∷ bytes) ≡ trim_start bytes = ap (λ v. cond v (trim_start bytes) (b ∷ bytes)) h in
       ap (with_texts file) (space_text b bytes h) ∙ blank_first (texts_of bytes) (ap (λ v. v && true) h) ∙ spaces file bytes
@@ -59,7 +59,7 @@ spaces file (b ∷ bytes) = elim (decided (is_whitespace b)) [
 -- what stands in front after whitespace is none
 trimmed_first : (bytes : List ℕ) (b : ℕ) (rest : List ℕ) → trim_start bytes ≡ b ∷ rest → is_whitespace b ≡ false
 trimmed_first [] b rest e = cc
-trimmed_first (a ∷ bytes) b rest e = elim (decided (is_whitespace a)) [
+trimmed_first (a ∷ bytes) b rest e = elim (cases_Bool (is_whitespace a)) [
   | inl h ↦ trimmed_first bytes b rest (sym (ap (λ v. cond v (trim_start bytes) (a ∷ bytes)) h) ∙ e)
   | inr h ↦
       let k : a ∷ bytes ≡ b ∷ rest = sym (ap (λ v. cond v (trim_start bytes) (a ∷ bytes)) h) ∙ e in
@@ -97,7 +97,7 @@ opened file b u w m =
 without_space : (file : LayerRle) (u : List ℕ) → ((b : ℕ) (rest : List ℕ) → u ≡ b ∷ rest → is_whitespace b ≡ false)
     → with_texts (file_in file) (texts_of u) ≡ from_here file (layer_item_in 62 u)
 without_space file [] w = refl
-without_space file (b ∷ u) w = elim (decided (b == 33)) [
+without_space file (b ∷ u) w = elim (cases_Bool (b == 33)) [
   | inl m ↦ let e : b ≡ 33 = grind (arith, nat_tests) in marked file b u e
   | inr m ↦
       let e : layer_item_in 62 (b ∷ u) ≡ counted 62 (front_digits (b ∷ u)) (behind_digits (b ∷ u)) =
@@ -124,10 +124,6 @@ with_more : (file : LayerRle) (item : LayerItem) (items : List LayerItem)
     → with_items (with_items file (item ∷ [])) items ≡ with_items file (item ∷ items)
 with_more file item items = ap (λ (t : List LayerItem). record file { items = t }) (append_assoc file.items (item ∷ []) items)
 
-pub no_faults : (a b : Option Kind) → option_or a b ≡ None → (a ≡ None) × (b ≡ None)
-no_faults None b e = (refl, e)
-no_faults (Some kind) b e = cc
-
 -- the items that bytes spell, none of which breaks a rule, and what stands behind them
 pub spelled_is : (items : List LayerItem) (bytes : List ℕ) (file : LayerRle) (last : Next) → Spells 62 bytes items last
     → first_fault 62 file.rule (placed_behind file.position file.items items) ≡ None
@@ -135,7 +131,7 @@ pub spelled_is : (items : List LayerItem) (bytes : List ℕ) (file : LayerRle) (
 spelled_is [] bytes file last e sound =
     line_from_here file bytes ∙ ap (from_here file) e ∙ ap (λ (f : LayerRle). from_here f last) (sym (with_none file))
 spelled_is (item ∷ items) bytes file last s sound =
-    let none = no_faults (placed_fault 62 file.rule (placed_item file.position file.items item))
+    let none = option_or-both (placed_fault 62 file.rule (placed_item file.position file.items item))
     (first_fault 62 file.rule (placed_behind file.position (file.items ++ item ∷ []) items)) sound in
     line_from_here file bytes ∙ ap (from_here file) s.1
     ∙ ap (λ (o : Option Kind). item_answer file item o >>= λ now. with_texts now (texts_of s.0)) none.0

@@ -3,6 +3,7 @@ use Rattle.std.proofs.Common.{◌≡◌, ℕ, ◌+◌, List, [], ◌∷◌, ◌+
 use Rattle.std.specs.Prelude.{codes, ℤ, Option, Some, None, Result, Ok, Err}
 use Rattle.std.specs.Option.{option_or}
 use Rattle.std.proofs.lemmas.List.{append-nil}
+use Rattle.life_rle.proofs.Progress.{option_or-both}
 use Rattle.life_base.specs.Numbers.{result_map}
 use Rattle.life_base.specs.Text.{is_too_long, is_blank, begins_with}
 use Rattle.life_base.specs.declared.kind.Kind.{Kind}
@@ -30,7 +31,7 @@ use Rattle.claims.proofs.RuleLaw.{rule_in}
 use Rattle.claims.proofs.RlePlane.{position_in, file_in, item_answer, rle_cell_is}
 use Rattle.claims.proofs.RlePosition.{position_is}
 use Rattle.claims.proofs.RleHeader.{header_is}
-use Rattle.claims.proofs.RleData.{from_here, with_items, with_none, no_faults, spelled_is}
+use Rattle.claims.proofs.RleData.{from_here, with_items, with_none, spelled_is}
 use Rattle.claims.proofs.Running.{Runs, runs_on, refused_behind, ended_behind}
 
 -- ---- a line before the header
@@ -153,7 +154,7 @@ no_fault : (rule : LayerRule) (position : LayerPosition) (before first rest item
     → first_fault 62 rule (placed_behind position before items) ≡ None
     → (first_fault 62 rule (placed_behind position before first) ≡ None) × (first_fault 62 rule (placed_behind position (before ++ first) rest) ≡ None)
 no_fault rule position before first rest items e sound =
-    no_faults (first_fault 62 rule (placed_behind position before first)) (first_fault 62 rule (placed_behind position (before ++ first) rest))
+    option_or-both (first_fault 62 rule (placed_behind position before first)) (first_fault 62 rule (placed_behind position (before ++ first) rest))
     (sym (fault_more rule (placed_behind position before first) (placed_behind position (before ++ first) rest))
     ∙ ap (first_fault 62 rule) (sym (placed_more position before first rest))
     ∙ ap (λ (t : List LayerItem). first_fault 62 rule (placed_behind position before t)) (sym e) ∙ sound)

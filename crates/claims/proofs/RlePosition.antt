@@ -1,11 +1,12 @@
 -- A position line gives what it gives in the layer below.
-use Rattle.std.proofs.Common.{◌≡◌, ℕ, zero, suc, ◌+◌, ◌<◌, ◌≤◌, List, [], ◌∷◌, length, drop, Bool, true, false, cond, not, ◌&&◌, refl, ap, ◌∙◌, sym, arith, ◌⊎◌, inl, inr}
+use Rattle.std.proofs.Common.{◌≡◌, ℕ, zero, suc, ◌+◌, ◌<◌, ◌≤◌, List, [], ◌∷◌, length, drop, Bool, true, false, cond, not, ◌&&◌, refl, ap, ◌∙◌, sym, arith, ◌⊎◌, inl, inr, true≢false}
 use Rattle.std.specs.Prelude.{◌==◌, codes, Option, Some, None, Result, Ok, Err, ℤ, pos, neg_ℤ, slice_index}
 use Rattle.std.specs.Char.{is_ascii_digit}
 use Rattle.std.specs.List.{slice_split, before_first, after_first, position_or_len}
 use Rattle.std.proofs.lemmas.Bool.Decides.{nat_tests}
 use Rattle.std.proofs.lemmas.List.Splits.{slice_split_first, length-slice_split}
 use Rattle.std.proofs.lemmas.List.Sums.{passes_at_first}
+use Rattle.std.proofs.lemmas.Bool.{cases_Bool, false_from_ne_true}
 use Rattle.std.proofs.Math.ListN.{drop_of_length-le}
 use Rattle.life_base.proofs.Numbers.{first, second}
 use Rattle.life_base.specs.Numbers.{u64_of, result_map}
@@ -18,7 +19,7 @@ use Rattle.life_rle.specs.Position.{with_field as layer_with_field}
 use Rattle.claims.specs.Outcomes.{◌>>=◌}
 use Rattle.claims.specs.Pattern.{is_coordinate}
 use Rattle.claims.specs.Rle.{Position, number_of, with_corner, with_field, with_fields, no_position}
-use Rattle.claims.proofs.McLaw.{generation_is, decided}
+use Rattle.claims.proofs.McLaw.{generation_is}
 use Rattle.claims.proofs.McPlane.{all_at}
 use Rattle.claims.proofs.RlePlane.{position_in}
 
@@ -49,24 +50,16 @@ number_is text = sign_step (begins_with text (codes "-")) (drop 1 text) text
 comma_no_digit : (b : ℕ) → is_comma b ≡ true → is_ascii_digit b ≡ false
 comma_no_digit b h = let e : b ≡ 44 = grind (arith, nat_tests) in ap is_ascii_digit e
 
-contra : (v : Bool) → v ≡ true → v ≡ false → ⊥
-contra true e f = cc
-contra false e f = cc
-
-none_of : (v : Bool) → (v ≡ true → ⊥) → v ≡ false
-none_of true h = absurd (h refl)
-none_of false h = refl
-
 not_digits : (text : List ℕ) (i : ℕ) → i < length text → is_comma (slice_index text i) ≡ true → is_digit_text text ≡ false
-not_digits text i l h = none_of (is_digit_text text) (λ e.
-    contra (is_ascii_digit (slice_index text i)) (all_at is_ascii_digit text i (second (not (is_empty text)) _ e) l) (comma_no_digit (slice_index text i) h))
+not_digits text i l h = false_from_ne_true (is_digit_text text) (λ e.
+    true≢false (sym (all_at is_ascii_digit text i (second (not (is_empty text)) _ e) l) ∙ comma_no_digit (slice_index text i) h))
 
 minus_no_comma : (b : ℕ) → (b == 45) ≡ true → is_comma b ≡ false
 minus_no_comma b h = let e : b ≡ 45 = grind (arith, nat_tests) in ap is_comma e
 
 no_number : (text : List ℕ) (i : ℕ) → i < length text → is_comma (slice_index text i) ≡ true → signed_number text ≡ None
 no_number [] i l h = absurd (omega arith)
-no_number (b ∷ text) i l h = elim (decided (begins_with (b ∷ text) (codes "-"))) [
+no_number (b ∷ text) i l h = elim (cases_Bool (begins_with (b ∷ text) (codes "-"))) [
   | inl m ↦
       ap (λ v. cond v (cond (is_digit_text text) (Some (neg_ℤ (pos (value_of text)))) None)
       (cond (is_digit_text (b ∷ text)) (Some (pos (value_of (b ∷ text)))) None)) m
@@ -78,7 +71,7 @@ no_number (b ∷ text) i l h = elim (decided (begins_with (b ∷ text) (codes "-
 ]
   where
     behind : (i : ℕ) → i < length (b ∷ text) → is_comma (slice_index (b ∷ text) i) ≡ true → (b == 45) ≡ true → is_digit_text text ≡ false
-    behind zero l h e = absurd (contra (is_comma b) h (minus_no_comma b e))
+    behind zero l h e = absurd (true≢false (sym h ∙ minus_no_comma b e))
     behind (suc i) l h e = not_digits text i (omega arith) h
 
 -- ---- the parts of a text at its commas
@@ -93,7 +86,7 @@ bound (b ∷ text) = by (is_comma b) (position_or_len is_comma text) (length tex
 
 alone : (text : List ℕ) → position_or_len is_comma text ≡ length text → slice_split is_comma text ≡ text ∷ []
 alone [] h = refl
-alone (b ∷ text) h = elim (decided (is_comma b)) [
+alone (b ∷ text) h = elim (cases_Bool (is_comma b)) [
   | inl c ↦ absurd (none (is_comma b) (position_or_len is_comma text) (length text) c h)
   | inr c ↦
       let e : position_or_len is_comma text ≡ length text = more (is_comma b) (position_or_len is_comma text) (length text) c h in
@@ -127,9 +120,6 @@ two_numbers None y p = refl
 no_right : (left : Option ℤ) (p : LayerPosition) → result_map (λ found. position_in (layer_with_field p found)) (corner_of 62 left None) ≡ Err kinds.BadNumber
 no_right (Some x) p = refl
 no_right None p = refl
-
-many : (position : Position) (a b c : List ℕ) (more : List (List ℕ)) → with_corner position (a ∷ b ∷ c ∷ more) ≡ Err kinds.BadNumber
-many position a b c more = refl
 
 corner_is : (p : LayerPosition) (text : List ℕ)
     → with_corner (position_in p) (slice_split is_comma text) ≡ result_map (λ found. position_in (layer_with_field p found)) (corner_in 62 text)

@@ -1,10 +1,12 @@
 -- The first text of a line of data is the item that the layer below reads in front of it.
+use mathlib.Core.Bool.{and-false}
 use Rattle.std.proofs.Common.{◌≡◌, ℕ, suc, ◌+◌, ◌-◌, ◌*◌, ◌^◌, ◌<◌, ◌≤◌, List, [], ◌∷◌, take, drop, Bool, true, false, cond, ◌&&◌, ◌||◌, refl, ap, ◌∙◌, sym, subst, arith, ◌⊎◌, inl, inr}
 use Rattle.std.specs.Prelude.{nat_le, nat_lt, ◌==◌, bytes_eq, codes, take_while, Option, Some, None, Result, Ok, Err}
 use Rattle.std.specs.Char.{is_ascii_digit}
 use Rattle.std.specs.List.{prefix_len}
 use Rattle.std.specs.Option.{option_or}
 use Rattle.std.proofs.lemmas.Bool.Decides.{nat_tests}
+use Rattle.std.proofs.lemmas.Bool.{cases_Bool}
 use Rattle.life_base.specs.Text.{onto_first, value_of}
 use Rattle.life_base.specs.declared.kind.Kind.{Kind}
 use Rattle.life_base.specs.declared.kind.Kind.TheVariants as kinds
@@ -15,7 +17,6 @@ use Rattle.life_rle.specs.Items.{cells_of as layer_cells_of}
 use Rattle.life_rle.specs.States.{single_state, prefixed_number, prefixed_state, with_rest, state_at}
 use Rattle.claims.specs.Outcomes.{◌>>=◌}
 use Rattle.claims.specs.Rle.{Item, row_ends, letter_state, prefixed, state_of, count_of, cells_of, item_of, texts_of}
-use Rattle.claims.proofs.McLaw.{decided}
 use Rattle.claims.proofs.RlePlane.{item_in}
 
 -- a digit or a prefix of a state
@@ -89,7 +90,7 @@ text_begins b bytes = by (inner b)
 
 fronts_are : (bytes : List ℕ) → take_while is_ascii_digit (text_of bytes) ≡ front_digits bytes
 fronts_are [] = refl
-fronts_are (b ∷ bytes) = elim (decided (is_ascii_digit b)) [
+fronts_are (b ∷ bytes) = elim (cases_Bool (is_ascii_digit b)) [
   | inl h ↦ ap (take_while is_ascii_digit) (text_digit b bytes h) ∙ front_digit b (text_of bytes) h ∙ ap (λ (t : List ℕ). b ∷ t) (fronts_are bytes)
       ∙ sym (front_digit b bytes h)
   | inr h ↦
@@ -99,7 +100,7 @@ fronts_are (b ∷ bytes) = elim (decided (is_ascii_digit b)) [
 
 behinds_are : (bytes : List ℕ) → behind (text_of bytes) ≡ text_of (behind_digits bytes)
 behinds_are [] = refl
-behinds_are (b ∷ bytes) = elim (decided (is_ascii_digit b)) [
+behinds_are (b ∷ bytes) = elim (cases_Bool (is_ascii_digit b)) [
   | inl h ↦ ap behind (text_digit b bytes h) ∙ behind_digit b (text_of bytes) h ∙ behinds_are bytes ∙ ap text_of (sym (behind_digit b bytes h))
   | inr h ↦
       let t = text_begins b bytes in
@@ -108,7 +109,7 @@ behinds_are (b ∷ bytes) = elim (decided (is_ascii_digit b)) [
 
 rests_are : (bytes : List ℕ) → rest_of bytes ≡ rest_of (behind_digits bytes)
 rests_are [] = refl
-rests_are (b ∷ bytes) = elim (decided (is_ascii_digit b)) [
+rests_are (b ∷ bytes) = elim (cases_Bool (is_ascii_digit b)) [
   | inl h ↦ rest_digit b bytes h ∙ rests_are bytes ∙ ap rest_of (sym (behind_digit b bytes h))
   | inr h ↦ ap rest_of (sym (behind_other b bytes h))
 ]
@@ -116,7 +117,7 @@ rests_are (b ∷ bytes) = elim (decided (is_ascii_digit b)) [
 -- what stands behind the digits does not begin with one
 no_digit : (bytes : List ℕ) (b : ℕ) (rest : List ℕ) → behind_digits bytes ≡ b ∷ rest → is_ascii_digit b ≡ false
 no_digit [] b rest e = cc
-no_digit (a ∷ bytes) b rest e = elim (decided (is_ascii_digit a)) [
+no_digit (a ∷ bytes) b rest e = elim (cases_Bool (is_ascii_digit a)) [
   | inl h ↦ no_digit bytes b rest (sym (behind_digit a bytes h) ∙ e)
   | inr h ↦ let k : a ∷ bytes ≡ b ∷ rest = sym (behind_other a bytes h) ∙ e in let same : a ≡ b = cc in ap is_ascii_digit (sym same) ∙ h
 ]
@@ -133,14 +134,10 @@ between n low high h = by (nat_le low n) (nat_le n high) refl refl h
 
 outside : (n low high : ℕ) → (n < low) ⊎ (high < n) → (nat_le low n && nat_le n high) ≡ false
 outside n low high (inl h) = let e : nat_le low n ≡ false = grind (arith, nat_tests) in ap (λ v. v && nat_le n high) e
-outside n low high (inr h) = let e : nat_le n high ≡ false = grind (arith, nat_tests) in ap (λ v. nat_le low n && v) e ∙ none (nat_le low n)
-  where
-    none : (v : Bool) → (v && false) ≡ false
-    none true = refl
-    none false = refl
+outside n low high (inr h) = let e : nat_le n high ≡ false = grind (arith, nat_tests) in ap (λ v. nat_le low n && v) e ∙ and-false (nat_le low n)
 
 letter_is : (b : ℕ) → letter_state b ≡ cond (nat_le 65 b && nat_le b 88) (Some (b - 64)) None
-letter_is b = elim (decided (nat_le 65 b && nat_le b 88)) [
+letter_is b = elim (cases_Bool (nat_le 65 b && nat_le b 88)) [
   | inl h ↦
       let low = (between b 65 88 h).0 in
       let e : b - 65 + 1 ≡ b - 64 = omega arith in
@@ -172,7 +169,7 @@ prefix_no_end b h = let low = (between b 112 121 h).0 in differs b 36 (inr (omeg
 
 -- a prefix and a letter
 prefixed_is : (p b : ℕ) → (nat_le 112 p && nat_le p 121) ≡ true → prefixed p (letter_state b) ≡ prefixed_state p b
-prefixed_is p b h = elim (decided (nat_le 65 b && nat_le b 88)) [
+prefixed_is p b h = elim (cases_Bool (nat_le 65 b && nat_le b 88)) [
   | inl k ↦
       let low = (between p 112 121 h).0 in
       let least = (between b 65 88 k).0 in
@@ -205,7 +202,7 @@ no_prefix p b h = by (nat_le 112 p && nat_le p 121) (nat_le 65 b && nat_le b 88)
     by false w x e = refl
 
 no_letter : (b : ℕ) → inner b ≡ true → letter_state b ≡ None
-no_letter b h = letter_is b ∙ ap (λ v. cond v (Some (b - 64)) None) (apart (decided (is_ascii_digit b)))
+no_letter b h = letter_is b ∙ ap (λ v. cond v (Some (b - 64)) None) (apart (cases_Bool (is_ascii_digit b)))
   where
     apart : (is_ascii_digit b ≡ true) ⊎ (is_ascii_digit b ≡ false) → (nat_le 65 b && nat_le b 88) ≡ false
     apart (inl d) = let high = (between b 48 57 d).1 in outside b 65 88 (inl (omega (arith, high)))
@@ -232,7 +229,7 @@ state_found count rest (Some state) = spelled (Cells count state)
 state_found count rest None = broken kinds.BadItem
 
 one_byte : (count c : ℕ) (u : List ℕ) → (nat_le 112 c && nat_le c 121) ≡ false → Found u (item_behind count (c ∷ u)) (last_item count (c ∷ []))
-one_byte count c u h = elim (decided (c == 36)) [
+one_byte count c u h = elim (cases_Bool (c == 36)) [
   | inl e ↦
       let n : item_behind count (c ∷ u)
       ≡ Spelled (RowEnds count) u = ap (λ v. cond v (Spelled (RowEnds count) u) (layer_cells_of count (state_at (c ∷ u)))) e in
@@ -300,7 +297,7 @@ not_two count c d u rest h k =
 last_found : (count : ℕ) (u : List ℕ) → ((b : ℕ) (rest : List ℕ) → u ≡ b ∷ rest → is_ascii_digit b ≡ false)
     → Found (rest_of u) (item_behind count u) (last_item count (text_of u))
 last_found count [] h = broken kinds.BadItem
-last_found count (c ∷ []) h = elim (decided (nat_le 112 c && nat_le c 121)) [
+last_found count (c ∷ []) h = elim (cases_Bool (nat_le 112 c && nat_le c 121)) [
   | inl p ↦
       let i : inner c ≡ true = ap (λ v. v || nat_le 112 c && nat_le c 121) (h c [] refl) ∙ p in
       at_rest (item_behind count (c ∷ [])) (last_item count (text_of (c ∷ []))) (ap (λ v. cond v (rest_of []) []) i)
@@ -310,12 +307,12 @@ last_found count (c ∷ []) h = elim (decided (nat_le 112 c && nat_le c 121)) [
       at_rest (item_behind count (c ∷ [])) (last_item count (text_of (c ∷ []))) (ap (λ v. cond v (rest_of []) []) i)
       (moved [] refl (ap (λ v. last_item count (cond v (c ∷ []) (c ∷ []))) i) (one_byte count c [] p))
 ]
-last_found count (c ∷ d ∷ u) h = elim (decided (nat_le 112 c && nat_le c 121)) [
+last_found count (c ∷ d ∷ u) h = elim (cases_Bool (nat_le 112 c && nat_le c 121)) [
   | inl p ↦
       let i : inner c ≡ true = ap (λ v. v || nat_le 112 c && nat_le c 121) (h c (d ∷ u) refl) ∙ p in
       let rest : rest_of (c ∷ d ∷ u) ≡ rest_of (d ∷ u) = ap (λ v. cond v (rest_of (d ∷ u)) (d ∷ u)) i in
       let text : text_of (c ∷ d ∷ u) ≡ c ∷ text_of (d ∷ u) = ap (λ v. cond v (c ∷ text_of (d ∷ u)) (c ∷ [])) i in
-      elim (decided (inner d)) [
+      elim (cases_Bool (inner d)) [
         | inl k ↦
             moved (rest_of (c ∷ d ∷ u)) refl (ap (last_item count) (text ∙ ap (λ v. c ∷ cond v (d ∷ text_of u) (d ∷ [])) k))
             (not_two count c d u (rest_of (c ∷ d ∷ u)) p k)

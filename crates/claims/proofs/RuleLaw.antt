@@ -8,7 +8,6 @@ use Rattle.life_base.specs.Numbers.{result_map}
 use Rattle.life_base.specs.Sets.{DigitSets}
 use Rattle.life_base.specs.Text.{trim, begins_with}
 use Rattle.life_base.specs.Rules.{has_digit, digit_set, digit_groups, marks, life_form, life_sets, four_sets, up_to_four, life_rule, life_or_other, four_or_other, is_bad_text, rule_of as layer_rule_of, most_neighbours}
-use Rattle.life_base.specs.Rules.{other_rule as layer_other_rule}
 use Rattle.life_base.specs.declared.kind.Kind.{Kind}
 use Rattle.life_base.specs.declared.kind.Kind.TheVariants as kinds
 use Rattle.life_base.specs.declared.rule.Near.{Near}
@@ -81,22 +80,6 @@ front_is : (front : List ℕ) → begins_with (map to_ascii_uppercase front) (co
 front_is [] = refl
 front_is (b ∷ front) = refl
 
-slash : List ℕ → Result Rule Kind
-slash word = cond (list_any (λ b. b == 47) word) (Err kinds.UnsupportedRule) (Ok (named word))
-
--- the layer's answer to a word with these tests
-abbrev answer : Bool → Bool → Bool → Bool → Bool → List ℕ → Option DigitSets → Result LayerRule Kind
-answer b v f w h word sets =
-    four_or_other word (cond (b && v) (elim sets [ None ↦ None | Some s ↦ cond f (Some s) None ]) None)
-
-tests_step : (b v f h : Bool) (x : Result Rule Kind) (y n : Result Rule Kind)
-    → cond (b && v && f) x (cond (v || h) (Err kinds.UnsupportedRule) y)
-    ≡ cond (b && v) (cond f x (cond (v || h) (Err kinds.UnsupportedRule) y)) (cond (v || h) (Err kinds.UnsupportedRule) y)
-tests_step true true true h x y n = refl
-tests_step true true false h x y n = refl
-tests_step true false f h x y n = refl
-tests_step false v f h x y n = refl
-
 unsupported_step : (v h s : Bool) (word : List ℕ)
     → cond (v || h) (Err kinds.UnsupportedRule) (cond s (Err kinds.UnsupportedRule) (Ok (named word)))
     ≡ result_map rule_in (cond (v || h) (Err kinds.UnsupportedRule) (cond s (Err kinds.UnsupportedRule) (Ok (Named word))))
@@ -104,19 +87,6 @@ unsupported_step true h s word = refl
 unsupported_step false true s word = refl
 unsupported_step false false true word = refl
 unsupported_step false false false word = refl
-
--- where the front is of one of the five forms
-four_step : (b v f : Bool) (word : List ℕ) (sets : DigitSets) (x : Result Rule Kind) (y : Result Rule Kind)
-    → x ≡ result_map rule_in (life_rule VonNeumann sets) → y ≡ result_map rule_in (layer_other_rule word)
-    → cond (b && v && f) x y ≡ result_map rule_in (four_or_other word (cond (b && v) (cond f (Some sets) None) None))
-four_step true true true word sets x y e g = e
-four_step true true false word sets x y e g = g
-four_step true false f word sets x y e g = g
-four_step false v f word sets x y e g = g
-
-nowhere : (u : Bool) (word : List ℕ) → four_or_other word (cond u None None) ≡ layer_other_rule word
-nowhere true word = refl
-nowhere false word = refl
 
 fours : (digits : Digits) → are_up_to_four digits ≡ nat_lt (digit_set digits.births) 32 && nat_lt (digit_set digits.survivals) 32
 fours digits = ap (λ v. v && list_all (λ n. nat_le n 4) (counts_in digits.survivals)) (four-digit_set digits.births)

@@ -1,10 +1,9 @@
 -- What the bytes of a file say is valid.
-use Rattle.std.proofs.Common.{◌≡◌, ℕ, suc, ◌-◌, ◌^◌, ◌<◌, List, [], ◌∷◌, length, take, drop, get_or, map, Bool, true, false, cond, not, ◌&&◌, ◌||◌, refl, ap, sym, subst, ◌∙◌, arith}
+use Rattle.std.proofs.Common.{◌≡◌, ℕ, suc, ◌-◌, ◌^◌, ◌<◌, List, [], ◌∷◌, length, take, drop, get_or, map, Bool, true, false, cond, not, ◌&&◌, ◌||◌, refl, ap, sym, subst, ◌∙◌, arith, eqb-true}
 use Rattle.std.specs.Prelude.{codes, nat_le, nat_lt, ◌==◌, Option, Some, None, Result, Ok, Err, filter_map}
 use Rattle.std.specs.List.{cons_option}
 use Rattle.std.specs.Result.{result_ok, result_err}
 use Rattle.std.proofs.lemmas.Bool.{leb-true}
-use Rattle.std.proofs.lemmas.Bool.Decides.{nat_tests}
 use Rattle.life_base.proofs.Numbers.{first, second}
 use Rattle.life_base.proofs.RuleValues.{rule_values}
 use Rattle.life_base.specs.Numbers.{u64_of}
@@ -48,9 +47,6 @@ rule_valid (header ∷ lines) = last_rule lines default_rule default_is_rule
 
 -- ---- the generation
 
-eq_true : (a b : ℕ) → (a == b) ≡ true → a ≡ b
-eq_true a b h = grind (arith, nat_tests)
-
 -- a generation line is neither blank nor tells a rule
 no_other : (line : List ℕ) → is_command 71 line ≡ true → (is_blank line ≡ false) × (is_command 82 line ≡ false)
 no_other [] h = cc
@@ -61,8 +57,8 @@ no_other (a ∷ []) h = absurd (no (a == 35) (first _ _ h))
     no false e = cc
 no_other (a ∷ b ∷ rest) h =
     let front : ((a == 35) && ((b == 71) && true)) ≡ true = first _ _ h in
-    let hash : a ≡ 35 = eq_true a 35 (first _ _ front) in
-    let letter : b ≡ 71 = eq_true b 71 (first _ _ (second (a == 35) _ front)) in (
+    let hash : a ≡ 35 = eqb-true a 35 (first _ _ front) in
+    let letter : b ≡ 71 = eqb-true b 71 (first _ _ (second (a == 35) _ front)) in (
       ap (λ n. is_whitespace n && is_blank (b ∷ rest)) hash,
       ap (λ n. ((n == 35) && ((b == 82) && true)) && is_blank (take 1 rest)) hash ∙ ap (λ n. ((n == 82) && true) && is_blank (take 1 rest)) letter,
     )

@@ -1,6 +1,7 @@
 -- Lines and their parts: what stands at the front, between whitespace, and word by word.
-use Rattle.std.proofs.Common.{◌≡◌, ℕ, List, [], ◌∷◌, ◌++◌, length, take, drop, Bool, true, false, cond, ◌&&◌, refl, ap, sym, ◌∙◌}
-use Rattle.std.specs.Prelude.{codes, slice_index}
+use Rattle.std.proofs.Common.{◌≡◌, ℕ, List, [], ◌∷◌, ◌++◌, length, take, drop, Bool, true, false, cond, ◌&&◌, refl, ap, sym, ◌∙◌, true≢false, not}
+use mathlib.Core.Bool.{and-false}
+use Rattle.std.specs.Prelude.{codes, slice_index, None}
 use Rattle.std.specs.List.{list_all}
 use Rattle.std.specs.Char.{is_ascii_digit}
 use Rattle.std.proofs.Math.Seq.{take-append_seam}
@@ -13,11 +14,8 @@ use Rattle.life_base.specs.Text.{is_whitespace, is_blank, begins_with, trim, tri
 use Rattle.life_base.proofs.Numbers.{first, second}
 use Rattle.life_base.proofs.NamesRead.{solid}
 use Rattle.life_mc.specs.Grammar.{Begins, IsCommand, Separates}
-use Rattle.life_mc.specs.Reading.{is_command, is_leaf_byte}
+use Rattle.life_mc.specs.Reading.{is_command, is_leaf_byte, square_on, square_of}
 use Rattle.life_base.proofs.WordEnds.{trimmed_words}
-
-no : true ≡ false → ⊥
-no e = cc
 
 -- ---- at the front
 
@@ -75,8 +73,8 @@ blank_words (b ∷ before) text h =
     ap (λ v. step_to b (before ++ text) v (is_blank (take 1 (before ++ text)))) (first (is_whitespace b) _ h)
     ∙ blank_words before text (second (is_whitespace b) _ h)
 
-no_words : (text : List ℕ) → is_blank text ≡ true → words_of text ≡ []
-no_words text h = ap words_of (sym (append-nil text)) ∙ blank_words text [] h
+pub blank_no_words : (text : List ℕ) → is_blank text ≡ true → words_of text ≡ []
+blank_no_words text h = ap words_of (sym (append-nil text)) ∙ blank_words text [] h
 
 take_blank : (text : List ℕ) → is_blank text ≡ true → is_blank (take 1 text) ≡ true
 take_blank [] h = refl
@@ -87,7 +85,7 @@ same_take [] behind h = take_blank behind h
 same_take (b ∷ text) behind h = refl
 
 words_back : (text behind : List ℕ) → is_blank behind ≡ true → words_of (text ++ behind) ≡ words_of text
-words_back [] behind h = no_words behind h
+words_back [] behind h = blank_no_words behind h
 words_back (b ∷ text) behind h =
     ap (λ w. step_to b (text ++ behind) (is_whitespace b) w) (same_take text behind h)
     ∙ ap (λ (ws : List (List ℕ)). cond (is_whitespace b) ws (cond (is_blank (take 1 text)) ((b ∷ []) ∷ ws) (onto_first b ws))) (words_back text behind h)
@@ -98,7 +96,7 @@ words_trimmed line =
     let e = end_split (trim_start line) in
     sym (words_back (trim line) e.0 e.2) ∙ ap words_of (sym e.1) ∙ trimmed_words line
 
-first_word : (b : ℕ) (word rest : List ℕ) → list_all solid (b ∷ word) ≡ true → is_blank (take 1 rest) ≡ true
+pub first_word : (b : ℕ) (word rest : List ℕ) → list_all solid (b ∷ word) ≡ true → is_blank (take 1 rest) ≡ true
     → words_of ((b ∷ word) ++ rest) ≡ (b ∷ word) ∷ words_of rest
 first_word b [] rest h k =
     ap (λ v. step_to b rest v (is_blank (take 1 rest))) (not-true (is_whitespace b) (first (solid b) _ h)) ∙ ap (λ w. step_to b rest false w) k
@@ -122,7 +120,7 @@ digit_word (b ∷ text) rest h k = first_word b text rest (digits_solid (b ∷ t
 
 -- digit texts between whitespace are the words
 pub separated_words : (texts : List (List ℕ)) (line : List ℕ) → list_all is_digit_text texts ≡ true → Separates texts line → words_of line ≡ texts
-separated_words [] line d s = no_words line s
+separated_words [] line d s = blank_no_words line s
 separated_words (text ∷ texts) line d s =
     ap words_of s.2 ∙ blank_words s.0 (text ++ s.1) s.3 ∙ digit_word text s.1 (first (is_digit_text text) _ d) s.4
     ∙ ap (λ (ws : List (List ℕ)). text ∷ ws) (separated_words texts s.1 (second (is_digit_text text) _ d) s.5)
@@ -132,12 +130,12 @@ one_blank b [] text h s = ap (λ v. v && is_blank text) h ∙ s
 one_blank b (t ∷ texts) text h s = (b ∷ s.0, s.1, ap (λ (u : List ℕ). b ∷ u) s.2, ap (λ v. v && is_blank s.0) h ∙ s.3, s.4, s.5)
 
 one_byte : (b : ℕ) (texts : List (List ℕ)) (text : List ℕ) → is_blank (take 1 text) ≡ false → Separates texts text → Separates (onto_first b texts) (b ∷ text)
-one_byte b [] text h s = absurd (no (sym (take_blank text s) ∙ h))
+one_byte b [] text h s = absurd (true≢false (sym (take_blank text s) ∙ h))
 one_byte b (t ∷ texts) text h s = by s.0 s.2 s.3
   where
     by : (before : List ℕ) → text ≡ before ++ (t ++ s.1) → is_blank before ≡ true → Separates ((b ∷ t) ∷ texts) (b ∷ text)
     by [] e w = ([], s.1, ap (λ (u : List ℕ). b ∷ u) e, refl, s.4, s.5)
-    by (c ∷ before) e w = absurd (no (sym (ap (λ v. v && true) (first (is_whitespace c) _ w)) ∙ sym (ap (λ (u : List ℕ). is_blank (take 1 u)) e) ∙ h))
+    by (c ∷ before) e w = absurd (true≢false (sym (ap (λ v. v && true) (first (is_whitespace c) _ w)) ∙ sym (ap (λ (u : List ℕ). is_blank (take 1 u)) e) ∙ h))
 
 step_word : (b : ℕ) (text : List ℕ) (v w : Bool) → is_whitespace b ≡ v → is_blank (take 1 text) ≡ w → Separates (words_of text) text
     → Separates (step_to b text v w) (b ∷ text)
@@ -177,15 +175,17 @@ numbers_first (c ∷ text) h = by (is_leaf_byte c) refl
   where
     by : (v : Bool) → is_leaf_byte c ≡ v → v ≡ false
     by false e = refl
-    by true e = absurd (no (sym h ∙ not_numbers c text (leaf_byte_solid c e) (leaf_byte_no_digit c e)))
+    by true e = absurd (true≢false (sym h ∙ not_numbers c text (leaf_byte_solid c e) (leaf_byte_no_digit c e)))
 
--- a blank line has no words, and one that begins with `#` no numbers
-pub blank_no_words : (line : List ℕ) → is_blank line ≡ true → words_of line ≡ []
-blank_no_words = no_words
-
+-- a line that begins with `#` has no numbers
 pub hash_no_numbers : (line : List ℕ) → begins_with line (codes "#") ≡ true → list_all is_digit_text (words_of line) ≡ false
 hash_no_numbers line h = let b = begins (codes "#") line h in ap (λ l. list_all is_digit_text (words_of l)) b.1 ∙ not_numbers 35 b.0 refl refl
 
 -- the trimmed text of a line that begins with `#` begins so
 pub hash_trimmed : (line : List ℕ) → begins_with line (codes "#") ≡ true → slice_index (trim line) 0 ≡ 35
 hash_trimmed line h = let b = begins (codes "#") line h in ap (λ l. slice_index (trim l) 0) b.1
+
+-- and it is no node line
+pub hash_no_square : (line : List ℕ) → begins_with line (codes "#") ≡ true → square_on line ≡ None
+hash_no_square line h = ap (λ v. cond (not (is_blank line) && not v) (square_of (trim line)) None) h
+    ∙ ap (λ v. cond v (square_of (trim line)) None) (and-false (not (is_blank line)))

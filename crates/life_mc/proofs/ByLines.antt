@@ -1,5 +1,5 @@
 -- The macrocell format is a grammar of lines.
-use Rattle.std.proofs.Common.{◌≡◌, ℕ, zero, suc, ◌<◌, List, [], ◌∷◌, ◌++◌, length, true, refl, ap, subst, arith}
+use Rattle.std.proofs.Common.{ℕ, zero, suc, ◌<◌, List, [], ◌∷◌, length, true, refl, subst, arith, append-nil, sym}
 use Rattle.std.specs.Prelude.{codes}
 use Rattle.life_base.specs.Refusal.{Prefix}
 use Rattle.life_base.proofs.Refusals.{UnbrokenBelow, IsByLines}
@@ -18,13 +18,9 @@ module _ (top : ℕ) where
   header_line zero h = refl
   header_line (suc k) h = absurd (omega arith)
 
-  append_none : (lines : List (List ℕ)) → lines ≡ lines ++ []
-  append_none [] = refl
-  append_none (line ∷ lines) = ap (λ (t : List (List ℕ)). line ∷ t) (append_none lines)
-
   front : (lines : List (List ℕ)) → UnbrokenBelow (Accepts top) (broken top) missing lines (length lines) → Prefix (Accepts top) lines
   front [] u = (true ∷ [], accepted (codes "[M2]" ∷ []) (omega arith) header_line)
-  front (line ∷ lines) u = ([], subst (Accepts top) (append_none (line ∷ lines)) (accepted (line ∷ lines) (omega arith) u))
+  front (line ∷ lines) u = ([], subst (Accepts top) (sym (append-nil (line ∷ lines))) (accepted (line ∷ lines) (omega arith) u))
 
   pub by_lines : IsByLines (Accepts top) (broken top) missing
   by_lines = record { sound = λ lines g. g.1.unbroken; complete = front }

@@ -1,5 +1,5 @@
 -- Numbers of few digits in front of a text.
-use Rattle.std.proofs.Common.{◌≡◌, ℕ, zero, suc, ◌+◌, ◌-◌, ◌*◌, ◌^◌, ◌<◌, ◌≤◌, Bool, true, false, ◌&&◌, List, [], ◌∷◌, take, drop, get_or, length, length-drop, refl, ap, sym, ◌∙◌, add-one, arith}
+use Rattle.std.proofs.Common.{◌≡◌, ℕ, zero, suc, ◌+◌, ◌-◌, ◌*◌, ◌^◌, ◌<◌, ◌≤◌, true, false, ◌&&◌, List, [], ◌∷◌, take, drop, get_or, length, length-drop, refl, ap, sym, ◌∙◌, add-one, arith}
 use Rattle.std.specs.Char.{is_ascii_digit, digit_value}
 use Rattle.std.specs.List.{list_all}
 use Rattle.std.proofs.Math.Nat.{pow-suc, pow-le-pow_right}
@@ -8,6 +8,8 @@ use Rattle.std.proofs.lemmas.Int.Digits.{digits_value_more}
 use Rattle.std.proofs.Math.Seq.{drop-length}
 use Rattle.std.proofs.lemmas.List.{drop-drop, drop_more, get_or-drop}
 use Rattle.std.proofs.lemmas.List.Folds.{list_all_more}
+use Rattle.std.proofs.lemmas.Bool.{and_parts}
+use Rattle.life_mc.proofs.Words.{digit_no_space}
 use Rattle.life_base.specs.Numbers.{capped}
 use Rattle.life_base.specs.Text.{is_blank, is_whitespace, is_digit_text, onto_first, value_of, words_of}
 
@@ -73,14 +75,6 @@ size_behind n d from i h l m = ap_less (next_place from i h) (longer n d (i - fr
 
 -- ---- the word that they are
 
-digit_no_space : (b : ℕ) → is_ascii_digit b ≡ true → is_whitespace b ≡ false
-digit_no_space b h = grind (arith, nat_tests)
-
-both : (a b : Bool) → (a && b) ≡ true → (a ≡ true) × (b ≡ true)
-both true true h = (refl, refl)
-both true false h = cc
-both false b h = cc
-
 goes_on : (b : ℕ) (rest : List ℕ) → is_whitespace b ≡ false → is_blank (take 1 rest) ≡ false → words_of (b ∷ rest) ≡ onto_first b (words_of rest)
 goes_on b rest h n = rw (h, n) refl
 
@@ -92,11 +86,12 @@ pub word_in_front : (n : ℕ) (text : List ℕ) → 0 < n → n ≤ length text 
     → words_of text ≡ take n text ∷ words_of (drop n text)
 word_in_front zero text h l d e = absurd (omega (arith, h))
 word_in_front (suc n) [] h l d e = absurd (omega (arith, l))
-word_in_front (suc zero) (b ∷ text) h l d e = rw (digit_no_space b (both _ _ d).0, e) refl
+word_in_front (suc zero) (b ∷ text) h l d e = rw (digit_no_space b (and_parts _ _ d).0, e) refl
 word_in_front (suc (suc n)) (b ∷ []) h l d e = absurd (omega (arith, l))
 word_in_front (suc (suc n)) (b ∷ a ∷ text) h l d e =
-    let ih = word_in_front (suc n) (a ∷ text) (omega arith) (omega (arith, l)) (both _ _ d).1 e in
-    goes_on b (a ∷ text) (digit_no_space b (both _ _ d).0) (no_blank a text (digit_no_space a (both _ _ (both _ _ d).1).0)) ∙ ap (onto_first b) ih
+    let ih = word_in_front (suc n) (a ∷ text) (omega arith) (omega (arith, l)) (and_parts _ _ d).1 e in
+    goes_on b (a ∷ text) (digit_no_space b (and_parts _ _ d).0) (no_blank a text (digit_no_space a (and_parts _ _ (and_parts _ _ d).1).0))
+    ∙ ap (onto_first b) ih
 
 left_at : (text : List ℕ) (from end : ℕ) → from ≤ end → drop (end - from) (drop from text) ≡ drop end text
 left_at text from end h =

@@ -1,10 +1,9 @@
 -- What each form of a line gives, and that it breaks no rule.
-use Rattle.std.proofs.Common.{◌≡◌, ℕ, ◌-◌, ◌^◌, ◌<◌, List, [], ◌∷◌, ◌++◌, length, drop, map, Bool, true, false, cond, not, ◌&&◌, ◌||◌, refl, ap, sym, ◌∙◌, arith, ◌⊎◌, inl, inr}
+use Rattle.std.proofs.Common.{◌≡◌, ℕ, ◌-◌, ◌^◌, ◌<◌, List, [], ◌∷◌, ◌++◌, length, drop, map, Bool, true, false, cond, not, ◌&&◌, ◌||◌, refl, ap, sym, ◌∙◌, arith, ◌⊎◌, inl, inr, true≢false}
 use Rattle.std.specs.Prelude.{codes, nat_le, nat_lt, slice_index, Option, Some, None, Result, Ok, Err}
 use Rattle.std.specs.List.{list_all}
 use Rattle.std.specs.Result.{result_ok, result_err}
-use Rattle.std.proofs.lemmas.Bool.{leb-true, le-leb}
-use mathlib.Core.Bool.{and-false}
+use Rattle.std.proofs.lemmas.Bool.{leb-true, le-leb, false_from_ne_true}
 use Rattle.life_base.proofs.RuleForms.{around_trim, trimmed_around}
 use Rattle.life_base.specs.Text.{is_blank, begins_with, trim, words_of, is_digit_text, value_of, IsAround}
 use Rattle.life_base.specs.Numbers.{u64_of}
@@ -17,24 +16,18 @@ use Rattle.life_mc.specs.Grammar.{IsCommand, IsComment, IsGenerationLine, IsLeaf
 use Rattle.life_mc.specs.Reading.{broken_behind, broken_by_node, broken_by_square, is_command, is_leaf_byte, is_leaf, leaf_bytes, quad_of, square_of, square_on, rule_on, generation_on, squares_of, rule_in_force}
 use Rattle.life_mc.specs.declared.line.Line.{Line}
 use Rattle.life_mc.specs.declared.line.Line.TheVariants.{Leaf, Quad}
-use Rattle.life_mc.proofs.Around.{begins, begun, commands, commanded, behind_command, blank_trimmed, words_trimmed, separated_words, words_separate, numbers_first, blank_no_words, hash_no_numbers, hash_trimmed, digits_solid}
+use Rattle.life_mc.proofs.Around.{begins, begun, commands, commanded, behind_command, blank_trimmed, words_trimmed, separated_words, words_separate, numbers_first, blank_no_words, hash_no_numbers, hash_trimmed, digits_solid, hash_no_square}
 use Rattle.life_mc.proofs.LeafLines.{leaf_says, is_leaf_line}
 use Rattle.life_mc.proofs.Valid.{command_is_hash, hash_not_blank, no_command}
-
-no : true ≡ false → ⊥
-no e = cc
-
-contradicts : (v : Bool) → (v ≡ true → ⊥) → v ≡ false
-contradicts true h = absurd (h refl)
-contradicts false h = refl
 
 -- ---- the tests on a line, by its form
 
 blank_no_hash : (line : List ℕ) → is_blank line ≡ true → begins_with line (codes "#") ≡ false
-blank_no_hash line h = contradicts _ (λ e. no (sym h ∙ hash_not_blank 0 line e))
+blank_no_hash line h = false_from_ne_true _ (λ e. true≢false (sym h ∙ hash_not_blank 0 line e))
 
 no_hash_no_frame : (line : List ℕ) → begins_with line (codes "#") ≡ false → begins_with line (codes "#FRAME") ≡ false
-no_hash_no_frame line h = contradicts _ (λ e. let b = begins (codes "#FRAME") line e in no (sym (begun (codes "#") line (codes "FRAME" ++ b.0, b.1)) ∙ h))
+no_hash_no_frame line h = false_from_ne_true _ (λ e.
+    let b = begins (codes "#FRAME") line e in true≢false (sym (begun (codes "#") line (codes "FRAME" ++ b.0, b.1)) ∙ h))
 
 record Tests (line : List ℕ) (blank frame rule generation hash : Bool) : Type 0 where
   pub is_blank : is_blank line ≡ blank
@@ -61,9 +54,9 @@ comment_tests line h =
     let hash = begun (codes "#") line h.hash in
     record {
       is_blank = hash_not_blank 0 line hash;
-      is_frame = contradicts _ (λ e. h.no_frame (begins (codes "#FRAME") line e));
-      is_rule = contradicts _ (λ e. h.no_rule (drop 2 line) (commands 82 line e));
-      is_generation = contradicts _ (λ e. h.no_generation (drop 2 line) (commands 71 line e));
+      is_frame = false_from_ne_true _ (λ e. h.no_frame (begins (codes "#FRAME") line e));
+      is_rule = false_from_ne_true _ (λ e. h.no_rule (drop 2 line) (commands 82 line e));
+      is_generation = false_from_ne_true _ (λ e. h.no_generation (drop 2 line) (commands 71 line e));
       is_hash = hash;
     }
 
@@ -103,8 +96,8 @@ leaf_node line bytes h =
     let s = leaf_says line bytes h in
     let text : List ℕ = trim line in
     record {
-      blank = contradicts _ (λ e. no (sym s.begins ∙ ap (λ t. is_leaf_byte (slice_index t 0)) (blank_trimmed line e)));
-      hash = contradicts _ (λ e. no (sym s.begins ∙ ap is_leaf_byte (hash_trimmed line e)));
+      blank = false_from_ne_true _ (λ e. true≢false (sym s.begins ∙ ap (λ t. is_leaf_byte (slice_index t 0)) (blank_trimmed line e)));
+      hash = false_from_ne_true _ (λ e. true≢false (sym s.begins ∙ ap is_leaf_byte (hash_trimmed line e)));
       no_bad_leaf = ap (λ v. is_leaf_byte (slice_index text 0) && not v) s.leaf ∙ ap (λ v. v && false) s.begins;
       square_is = ap (λ u. chosen text u (is_leaf text) (list_all is_digit_text (words_of text))) s.begins
           ∙ ap (λ v. chosen text true v (list_all is_digit_text (words_of text))) s.leaf ∙ ap (λ rows. Some (Leaf rows)) (sym s.rows);
@@ -121,8 +114,8 @@ quarter_node line level nw ne sw se h =
     let digits : list_all is_digit_text (words_of text) ≡ true = ap (list_all is_digit_text) same ∙ h.digits in
     let no_leaf : is_leaf_byte (slice_index text 0) ≡ false = numbers_first text digits in
     record {
-      blank = contradicts _ (λ e. no_five level nw ne sw se (ap (map value_of) (sym (blank_no_words line e) ∙ words) ∙ h.values));
-      hash = contradicts _ (λ e. no (sym (ap (list_all is_digit_text) words ∙ h.digits) ∙ hash_no_numbers line e));
+      blank = false_from_ne_true _ (λ e. no_five level nw ne sw se (ap (map value_of) (sym (blank_no_words line e) ∙ words) ∙ h.values));
+      hash = false_from_ne_true _ (λ e. true≢false (sym (ap (list_all is_digit_text) words ∙ h.digits) ∙ hash_no_numbers line e));
       no_bad_leaf = ap (λ v. v && not (is_leaf text)) no_leaf;
       square_is = ap (λ u. chosen text u (is_leaf text) (list_all is_digit_text (words_of text))) no_leaf
           ∙ ap (λ w. chosen text false (is_leaf text) w) digits ∙ ap (λ ws. quad_of (map value_of ws)) same ∙ ap quad_of h.values;
@@ -144,10 +137,6 @@ no_rule_on line h = ap (λ v. cond v (result_ok (rule_of (drop 2 line))) None) h
 
 no_generation_on : (line : List ℕ) → is_command 71 line ≡ false → generation_on line ≡ None
 no_generation_on line h = ap (λ v. cond v (Some (value_of (trim (drop 2 line)))) None) h
-
-hash_no_square : (line : List ℕ) → begins_with line (codes "#") ≡ true → square_on line ≡ None
-hash_no_square line h = ap (λ v. cond (not (is_blank line) && not v) (square_of (trim line)) None) h
-    ∙ ap (λ v. cond v (square_of (trim line)) None) (and-false (not (is_blank line)))
 
 number_read : (line : List ℕ) (generation : ℕ) → (h : IsGenerationLine line generation) → trim (drop 2 line) ≡ h.digits
 number_read line generation h = ap trim (behind_command 71 h.rest line h.is) ∙ by h.digits h.number h.around
@@ -375,9 +364,9 @@ form_on top before line h = elim (split (is_blank line) None _ h) [
               comment_line,
               record {
                 hash = begins (codes "#") line u.0;
-                no_frame = λ b. no (sym (begun (codes "#FRAME") line b) ∙ q.0);
-                no_rule = λ rest c. no (sym (commanded 82 rest line c) ∙ s.0);
-                no_generation = λ rest c. no (sym (commanded 71 rest line c) ∙ t.0);
+                no_frame = λ b. true≢false (sym (begun (codes "#FRAME") line b) ∙ q.0);
+                no_rule = λ rest c. true≢false (sym (commanded 82 rest line c) ∙ s.0);
+                no_generation = λ rest c. true≢false (sym (commanded 71 rest line c) ∙ t.0);
               },
             )
             | inr u ↦ (let n = node_on top (rule_in_force before) (map level_of (squares_of before)) line u.1 in (node_line n.0, n.1))

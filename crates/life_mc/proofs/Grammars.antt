@@ -1,27 +1,26 @@
 -- The format as a whole, and line by line, accept the same files.
-use Rattle.std.proofs.Common.{◌≡◌, ℕ, zero, suc, ◌^◌, ◌<◌, List, [], ◌∷◌, ◌++◌, length, take, get_or, map, Bool, true, false, cond, not, ◌&&◌, refl, ap, sym, subst, ◌∙◌, arith, append_assoc, length-append, ◌⊎◌, inl, inr}
-use Rattle.std.specs.Prelude.{codes, nat_le, Option, Some, None, filter_map, ◌==◌}
+use Rattle.std.proofs.Common.{◌≡◌, ℕ, zero, suc, ◌^◌, ◌<◌, List, [], ◌∷◌, ◌++◌, length, take, get_or, map, Bool, true, false, cond, ◌&&◌, refl, ap, sym, subst, ◌∙◌, arith, append_assoc, length-append, ◌⊎◌, inl, inr, true≢false}
+use Rattle.std.specs.Prelude.{codes, nat_le, Option, Some, None, filter_map}
 use Rattle.std.specs.List.{list_all, AllZip, slice_get}
 use Rattle.std.proofs.Math.Seq.{take-append_seam}
-use Rattle.std.proofs.lemmas.Bool.{le-leb, ltb-false}
+use Rattle.std.proofs.lemmas.Bool.{le-leb, ltb-false, cases_Bool}
 use Rattle.std.proofs.lemmas.Bool.Decides.{nat_tests}
 use Rattle.std.proofs.lemmas.List.{append-nil, length-map}
 use Rattle.life_base.specs.Text.{begins_with, is_too_long}
 use Rattle.life_base.specs.Rules.{default_rule}
 use Rattle.life_base.specs.declared.kind.Kind.{Kind}
-use Rattle.life_base.specs.declared.kind.Kind.TheVariants.{LineTooLong, NoHeader, StateRange, BadChild, BadLevel}
+use Rattle.life_base.specs.declared.kind.Kind.TheVariants.{LineTooLong, NoHeader}
 use Rattle.life_base.specs.declared.rule.Rule.{Rule}
-use Rattle.life_base.proofs.Numbers.{second}
-use Rattle.life_mc.specs.Macrocell.{Macrocell, AreSquares, IsSquare, level_of, is_quarter}
+use Rattle.life_base.proofs.Numbers.{second, first}
+use Rattle.life_mc.specs.Macrocell.{Macrocell, AreSquares, IsSquare, level_of}
 use Rattle.life_mc.specs.Grammar.{IsFile, Form, blank_line, comment_line, rule_line, generation_line, node_line, HasForm, form_rule, form_generation, form_square, is_no_command, are_in_order, GrammarsAgree}
 use Rattle.life_mc.specs.Reading.{AreMacrocell, broken, broken_behind, broken_by_square, last_or, rule_in_force, squares_of, rule_on, generation_on, square_on}
 use Rattle.std.specs.Option.{unwrap_or}
 use Rattle.life_mc.specs.declared.line.Line.{Line}
-use Rattle.life_mc.specs.declared.line.Line.TheVariants.{Leaf, Quad}
 use Rattle.life_mc.proofs.Around.{begins, begun}
 use Rattle.life_mc.proofs.Forms.{gives, parsed_stands, node_stands, form_on, command_first}
-use Rattle.life_mc.proofs.ReadLines.{squares_none, squares_some}
-use Rattle.life_mc.proofs.Stands.{rule_more}
+use Rattle.life_mc.proofs.ReadLines.{squares_none, squares_some, get_seam}
+use Rattle.life_mc.proofs.Stands.{rule_more, square_ok}
 use Rattle.life_mc.proofs.Valid.{squares_valid}
 
 -- ---- one line's tests
@@ -65,11 +64,7 @@ all_short (line ∷ lines) h =
 short_at : (lines : List (List ℕ)) → list_all (λ line. nat_le (length line) (2 ^ 20)) lines ≡ true → (k : ℕ) → k < length lines
     → is_too_long (get_or lines k []) ≡ false
 short_at [] h k l = absurd (omega arith)
-short_at (line ∷ lines) h zero l = no_long line (and_first (nat_le (length line) (2 ^ 20)) _ h)
-  where
-    and_first : (a b : Bool) → (a && b) ≡ true → a ≡ true
-    and_first true b h = refl
-    and_first false b h = cc
+short_at (line ∷ lines) h zero l = no_long line (first (nat_le (length line) (2 ^ 20)) _ h)
 short_at (line ∷ lines) h (suc k) l = short_at lines (second (nat_le (length line) (2 ^ 20)) _ h) k (omega arith)
 
 -- ---- what lines give
@@ -90,17 +85,6 @@ same_map f g same (line ∷ lines) [] z = absurd z
 same_map {X = X} f g same (line ∷ lines) (form ∷ forms) z =
     filter_step f line lines (g form) (same line form z.0) ∙ ap (λ (t : List X). option_list (g form) ++ t) (same_map f g same lines forms z.1)
     ∙ sym (filter_step g form forms (g form) refl)
-
-square_ok : (top : ℕ) (rule : Rule) (levels : List ℕ) (square : Line) → IsSquare top rule levels square → broken_by_square top rule levels (Some square) ≡ None
-square_ok top rule levels (Leaf rows) h = refl
-square_ok top rule levels (Quad level nw ne sw se) h =
-    ap (λ v. cond (not (v && nat_le level top)) (Some BadLevel)
-    (cond (list_all (is_quarter rule levels level) (nw ∷ ne ∷ sw ∷ se ∷ [])) None (cond (level == 1) (Some StateRange) (Some BadChild))))
-    (le-leb 1 level h.0)
-    ∙ ap (λ v. cond (not v) (Some BadLevel)
-    (cond (list_all (is_quarter rule levels level) (nw ∷ ne ∷ sw ∷ se ∷ [])) None (cond (level == 1) (Some StateRange) (Some BadChild))))
-    (le-leb level top h.1)
-    ∙ ap (λ v. cond v None (cond (level == 1) (Some StateRange) (Some BadChild))) h.2
 
 -- ---- the lines behind the header, one after another
 
@@ -148,13 +132,9 @@ module _ (top : ℕ) (header : List ℕ) where
       → 0 < length (squares (before ++ line ∷ []))
   longer before line o h l = omega (arith, ap length (squares_more before line o h), length-append (squares before) (option_list o))
 
-  true_or_false : (v : Bool) → (v ≡ true) ⊎ (v ≡ false)
-  true_or_false true = inl refl
-  true_or_false false = inr refl
-
   no_late : (before : List (List ℕ)) (line : List ℕ) (form : Form) → HasForm line form → broken_behind top (header ∷ before) line ≡ None
       → 0 < length (squares before) → is_no_command form ≡ true
-  no_late before line form h e l = elim (true_or_false (is_no_command form)) [
+  no_late before line form h e l = elim (cases_Bool (is_no_command form)) [
     | inl t ↦ t
     | inr f ↦ (let k = ltb-false 0 (length (map level_of (squares before))) (command_first top (header ∷ before) line form h f e) in
         absurd (omega (arith, length-map (squares before) level_of)))
@@ -231,10 +211,6 @@ module _ (top : ℕ) (header : List ℕ) where
   no_rules (generation_line generation ∷ forms) h = cc
   no_rules (node_line square ∷ forms) h = no_rules forms h
 
-  get_seam : (xs : List Line) (y : Line) (ys : List Line) → slice_get (xs ++ y ∷ ys) (length xs) ≡ Some y
-  get_seam [] y ys = refl
-  get_seam (x ∷ xs) y ys = get_seam xs y ys
-
   no_commands_behind : (square : Line) (forms : List Form) (before : List (List ℕ))
       → ((squares before ≡ []) × (are_in_order (node_line square ∷ forms) ≡ true)) ⊎ (list_all is_no_command (node_line square ∷ forms) ≡ true)
       → list_all is_no_command forms ≡ true
@@ -258,10 +234,7 @@ module _ (top : ℕ) (header : List ℕ) where
   first_of_all : (form : Form) (forms : List Form) (before : List (List ℕ)) → is_no_command form ≡ false
       → ((squares before ≡ []) × (are_in_order (form ∷ forms) ≡ true)) ⊎ (list_all is_no_command (form ∷ forms) ≡ true) → squares before ≡ []
   first_of_all form forms before n (inl p) = p.0
-  first_of_all form forms before n (inr q) = absurd (no (sym q ∙ ap (λ v. v && list_all is_no_command forms) n))
-    where
-      no : true ≡ false → ⊥
-      no e = cc
+  first_of_all form forms before n (inr q) = absurd (true≢false (sym q ∙ ap (λ v. v && list_all is_no_command forms) n))
 
   line_stands : (file : Macrocell) (form : Form) (forms : List Form) (before : List (List ℕ)) (line : List ℕ) → HasForm line form
       → AreSquares top file.rule file.lines → Ahead file (form ∷ forms) before

@@ -4,7 +4,7 @@ use Rattle.std.specs.Prelude.{nat_le, nat_lt, ◌==◌, map, filter, codes, Some
 use Rattle.std.specs.List.{list_all}
 use Rattle.std.specs.Result.{result_ok, result_err}
 use Rattle.std.proofs.lemmas.Bool.Decides.{nat_tests}
-use Rattle.std.proofs.lemmas.Bool.{ltb-false, le-leb}
+use Rattle.std.proofs.lemmas.Bool.{ltb-false, le-leb, and_from}
 use Rattle.std.proofs.lemmas.List.Folds.{list_all-append}
 use Rattle.life_base.proofs.NamesRead.{all_pass}
 use Rattle.life_base.proofs.ReadBack.{rules_read_back}
@@ -24,7 +24,6 @@ use Rattle.life_mc.specs.Standing.{IsParsed}
 use Rattle.life_mc.specs.declared.line.Directive.TheVariants.{RuleLine, GenerationLine}
 use Rattle.life_mc.proofs.ReadBack.{has_no_feed}
 use Rattle.life_mc.proofs.LineTexts.{decimal_digits, decimal_value, decimal_short, digits_trimmed, digits_have_no_feed}
-use Rattle.life_mc.proofs.TestFacts.{both}
 
 -- ---- the text of a rule is short and has no line feed
 
@@ -45,7 +44,7 @@ digit_no_feed d = grind (arith, nat_tests)
 
 digits_no_feed : (ds : List ℕ) → has_no_feed (map (λ d. 48 + d) ds) ≡ true
 digits_no_feed [] = refl
-digits_no_feed (d ∷ ds) = both _ _ (digit_no_feed d) (digits_no_feed ds)
+digits_no_feed (d ∷ ds) = and_from _ _ (digit_no_feed d) (digits_no_feed ds)
 
 set_short : (set : ℕ) → length (digits_of set) ≤ 9
 set_short set = kept_short (has_digit set) counts
@@ -57,7 +56,7 @@ moore_short sets =
     let e : rule_text (counting Moore sets) ≡ 66 ∷ (ds ++ 47 ∷ 83 ∷ es) = ap (λ (t : List ℕ). 66 ∷ t) (append_assoc ds (codes "/S") es) in
     subst IsShortText (sym e) (record {
       short = omega (arith, length-append ds (47 ∷ 83 ∷ es), set_short sets.births, set_short sets.survivals);
-      feed = list_all-append (λ b. not (b == 10)) ds (47 ∷ 83 ∷ es) ∙ both _ _ (digits_no_feed (filter (has_digit sets.births) counts))
+      feed = list_all-append (λ b. not (b == 10)) ds (47 ∷ 83 ∷ es) ∙ and_from _ _ (digits_no_feed (filter (has_digit sets.births) counts))
           (digits_no_feed (filter (has_digit sets.survivals) counts));
     })
 

@@ -1,5 +1,5 @@
 -- Leaf lines as rows of cells.
-use Rattle.std.proofs.Common.{◌≡◌, ℕ, zero, suc, ◌+◌, ◌-◌, ◌*◌, ◌/◌, ◌%◌, ◌^◌, ◌<◌, ◌≤◌, List, [], ◌∷◌, ◌++◌, length, Bool, true, false, cond, not, ◌&&◌, refl, ap, sym, subst, ◌∙◌, arith, append_assoc}
+use Rattle.std.proofs.Common.{◌≡◌, ℕ, zero, suc, ◌+◌, ◌-◌, ◌*◌, ◌/◌, ◌%◌, ◌^◌, ◌<◌, ◌≤◌, List, [], ◌∷◌, ◌++◌, length, Bool, true, false, cond, not, ◌&&◌, refl, ap, sym, subst, ◌∙◌, arith, append_assoc, eqb-true}
 use Rattle.std.specs.Prelude.{codes, slice_index, ◌==◌, nat_le, flat_map}
 use Rattle.std.specs.List.{list_all, AllByRecursion, onto_first as onto_first_byte, slice_index_or}
 use Rattle.std.proofs.lemmas.Bool.Decides.{nat_tests}
@@ -12,8 +12,8 @@ use Rattle.life_mc.specs.Cells.{leaf_cell}
 use Rattle.life_mc.specs.Grammar.{IsLeafLine, state_in, is_row, is_cell}
 use Rattle.life_mc.specs.Reading.{is_leaf, is_leaf_byte, leaf_bytes, leaf_rows, row_byte, is_at_end}
 use Rattle.life_mc.specs.Standing.{are_rows, row_bytes}
-use Rattle.life_mc.proofs.Leaves.{leaf_is, leaf_bytes_are, some_rows}
-use Rattle.life_mc.proofs.ReadBack.{row_ended}
+use Rattle.life_mc.proofs.Leaves.{leaf_is, leaf_bytes_are, some_rows, none_left}
+use Rattle.life_mc.proofs.ReadBack.{row_ended, cell_no_dollar}
 use Rattle.life_mc.proofs.Valid.{row_fits}
 use Rattle.life_mc.proofs.TestFacts.{weigh, at_most_one}
 
@@ -21,9 +21,6 @@ use Rattle.life_mc.proofs.TestFacts.{weigh, at_most_one}
 
 abbrev ended : List ℕ → List ℕ
 ended row = row ++ codes "$"
-
-cell_no_dollar : (b : ℕ) → is_cell b ≡ true → not (b == 36) ≡ true
-cell_no_dollar b h = grind (arith, nat_tests)
 
 no_dollars : (row : List ℕ) → is_row row ≡ true → list_all (λ b. not (b == 36)) row ≡ true
 no_dollars row h = all_pass is_cell (λ b. not (b == 36)) cell_no_dollar row (first (list_all is_cell row) _ h)
@@ -76,13 +73,10 @@ joined_byte b [] h = absurd (omega arith)
 joined_byte b (row ∷ []) h = refl
 joined_byte b (row ∷ next ∷ rows) h = refl
 
-eq-true : (a b : ℕ) → (a == b) ≡ true → a ≡ b
-eq-true a b h = grind (arith, nat_tests)
-
 -- a text is its rows, joined
 join_step : (v : Bool) (b : ℕ) (text : List ℕ) → (b == 36) ≡ v → joined (leaf_rows text) ≡ text
     → joined (cond v ([] ∷ leaf_rows text) (onto_first_byte b (leaf_rows text))) ≡ b ∷ text
-join_step true b text e ih = joined_dollar (leaf_rows text) (some_rows text) ∙ ap (λ (t : List ℕ). 36 ∷ t) ih ∙ ap (λ c. c ∷ text) (sym (eq-true b 36 e))
+join_step true b text e ih = joined_dollar (leaf_rows text) (some_rows text) ∙ ap (λ (t : List ℕ). 36 ∷ t) ih ∙ ap (λ c. c ∷ text) (sym (eqb-true b 36 e))
 join_step false b text e ih = joined_byte b (leaf_rows text) (some_rows text) ∙ ap (λ (t : List ℕ). b ∷ t) ih
 
 join_rows : (text : List ℕ) → joined (leaf_rows text) ≡ text
@@ -96,15 +90,11 @@ is_joined text = sym (join_rows text)
 
 -- ---- at most eight rows
 
-no_rows_left : (n : ℕ) → are_rows n [] ≡ true
-no_rows_left zero = refl
-no_rows_left (suc n) = refl
-
 rows_may : (n : ℕ) (rows : List (List ℕ)) (last : List ℕ) → list_all is_row (rows ++ last ∷ []) ≡ true → length rows ≤ n → (length rows ≡ n → last ≡ [])
     → are_rows n (rows ++ last ∷ []) ≡ true
 rows_may zero [] last h l e = ap (λ (t : List ℕ). is_at_end (t ∷ [])) (e refl)
 rows_may zero (row ∷ rows) last h l e = absurd (omega arith)
-rows_may (suc n) [] last h l e = ap (λ v. v && are_rows n []) (first (is_row last) _ h) ∙ no_rows_left n
+rows_may (suc n) [] last h l e = ap (λ v. v && are_rows n []) (first (is_row last) _ h) ∙ none_left n
 rows_may (suc n) (row ∷ rows) last h l e =
     ap (λ v. v && are_rows n (rows ++ last ∷ [])) (first (is_row row) _ h) ∙ rows_may n rows last (second (is_row row) _ h) (omega arith)
     (λ k. e (ap suc k))

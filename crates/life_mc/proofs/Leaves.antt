@@ -3,7 +3,7 @@ use Rattle.std.proofs.Common.{◌≡◌, ℕ, zero, suc, ◌+◌, ◌-◌, ◌/�
 use Rattle.std.specs.Prelude.{◌==◌, nat_le, nat_lt, replicate}
 use Rattle.std.specs.List.{list_all}
 use Rattle.std.proofs.lemmas.Bool.{lt-leb}
-use mathlib.Core.Bool.{and-false}
+use mathlib.Core.Bool.{and-false, or-true, or-false}
 use Rattle.life_base.specs.Text.{is_empty, onto_first}
 use Rattle.life_mc.specs.Reading.{is_leaf, is_leaf_byte, leaf_rows, leaf_bytes, row_byte, is_at_end}
 use Rattle.life_mc.specs.Grammar.{is_cell, is_row}
@@ -87,21 +87,9 @@ bytes_step : (v : Bool) (b : ℕ) (text : List ℕ) (r : List ℕ) (rs : List (L
     → (is_leaf_byte b && list_all is_leaf_byte text) ≡ list_all (list_all is_cell) (cond v ([] ∷ r ∷ rs) ((b ∷ r) ∷ rs))
 bytes_step true b text r rs e f ih = ap (λ w. (is_cell b || w) && list_all is_leaf_byte text) e
     ∙ ap (λ w. w && list_all is_leaf_byte text) (or-true (is_cell b)) ∙ ih
-  where
-    or-true : (a : Bool) → (a || true) ≡ true
-    or-true true = refl
-    or-true false = refl
 bytes_step false b text r rs e f ih =
     ap (λ w. (is_cell b || w) && list_all is_leaf_byte text) e ∙ ap (λ w. w && list_all is_leaf_byte text) (or-false (is_cell b)) ∙ ap (λ w. is_cell b && w) ih
-    ∙ assoc (is_cell b) (list_all is_cell r) _
-  where
-    or-false : (a : Bool) → (a || false) ≡ a
-    or-false true = refl
-    or-false false = refl
-
-    assoc : (a b c : Bool) → (a && (b && c)) ≡ ((a && b) && c)
-    assoc true b c = refl
-    assoc false b c = refl
+    ∙ sym (and_assoc (is_cell b) (list_all is_cell r) _)
 
 abbrev head_of : List (List ℕ) → List ℕ
 head_of [] = []
@@ -140,14 +128,8 @@ is_short row = nat_le (length row) 8
 
 both_all : (rows : List (List ℕ)) → (list_all (list_all is_cell) rows && list_all is_short rows) ≡ list_all is_row rows
 both_all [] = refl
-both_all (row ∷ rows) = mix (list_all is_cell row) (list_all (list_all is_cell) rows) (is_short row) (list_all is_short rows)
+both_all (row ∷ rows) = and_mix (list_all is_cell row) (list_all (list_all is_cell) rows) (is_short row) (list_all is_short rows)
     ∙ ap (λ v. is_row row && v) (both_all rows)
-  where
-    mix : (a b c d : Bool) → ((a && b) && (c && d)) ≡ ((a && c) && (b && d))
-    mix false b c d = refl
-    mix true true c d = refl
-    mix true false true d = refl
-    mix true false false d = refl
 
 last_empty : (rows : List (List ℕ)) → (list_all is_row rows && is_at_end rows) ≡ is_at_end rows
 last_empty [] = refl
@@ -159,11 +141,7 @@ last_empty ((b ∷ r) ∷ s ∷ rs) = and-false _
 rows_in : (n : ℕ) (rows : List (List ℕ)) → (list_all is_row rows && is_at_end (drop n rows)) ≡ are_rows n rows
 rows_in zero rows = last_empty rows
 rows_in (suc n) [] = refl
-rows_in (suc n) (row ∷ rows) = assoc (is_row row) (list_all is_row rows) (is_at_end (drop n rows)) ∙ ap (λ v. is_row row && v) (rows_in n rows)
-  where
-    assoc : (a b c : Bool) → ((a && b) && c) ≡ (a && (b && c))
-    assoc true b c = refl
-    assoc false b c = refl
+rows_in (suc n) (row ∷ rows) = and_assoc (is_row row) (list_all is_row rows) (is_at_end (drop n rows)) ∙ ap (λ v. is_row row && v) (rows_in n rows)
 
 pub leaf_is : (text : List ℕ) → is_leaf text ≡ are_rows 8 (leaf_rows text)
 leaf_is text =
@@ -221,7 +199,7 @@ pub at_end_is_empty : (text : List ℕ) → is_at_end (leaf_rows text) ≡ is_em
 at_end_is_empty [] = refl
 at_end_is_empty (b ∷ text) = not_at_end (b ∷ text) (omega arith)
 
-none_left : (n : ℕ) → are_rows n [] ≡ true
+pub none_left : (n : ℕ) → are_rows n [] ≡ true
 none_left zero = refl
 none_left (suc n) = refl
 

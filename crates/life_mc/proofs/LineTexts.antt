@@ -4,7 +4,7 @@ use Rattle.std.specs.Prelude.{◌==◌, flat_map, map, slice_index, codes, Optio
 use Rattle.std.specs.List.{list_all, AllByRecursion}
 use Rattle.std.specs.Char.{is_ascii_digit}
 use Rattle.std.proofs.lemmas.Bool.Decides.{nat_tests}
-use Rattle.std.proofs.lemmas.Bool.{leb-true, not-true}
+use Rattle.std.proofs.lemmas.Bool.{leb-true, not-true, and_from}
 use Rattle.std.proofs.lemmas.Fmt.{decimal_is_IsNumeral_wide, length-decimal-le_wide}
 use Rattle.std.proofs.lemmas.List.Folds.{list_all-append}
 use mathlib.Core.Bool.{and-false}
@@ -17,7 +17,6 @@ use Rattle.life_mc.specs.Writing.{row_text, line_text}
 use Rattle.life_mc.specs.declared.line.Line.{Line}
 use Rattle.life_mc.specs.declared.line.Line.TheVariants.{Leaf, Quad}
 use Rattle.life_mc.proofs.ReadBack.{has_no_feed, written, row_is_row, leaf_again, word_then, word_alone}
-use Rattle.life_mc.proofs.TestFacts.{both}
 
 -- What a text needs to be the node line of a square.
 pub record IsTextOf (square : Line) (text : List ℕ) : Type 0 where
@@ -37,7 +36,7 @@ no_hash : (b : ℕ) (text : List ℕ) → (b == 35) ≡ false → begins_with (b
 no_hash b text h = ap (λ v. v && true) h
 
 all_of_both : (p : ℕ → Bool) (xs ys : List ℕ) → list_all p xs ≡ true → list_all p ys ≡ true → list_all p (xs ++ ys) ≡ true
-all_of_both p xs ys h k = list_all-append p xs ys ∙ both _ _ h k
+all_of_both p xs ys h k = list_all-append p xs ys ∙ and_from _ _ h k
 
 -- a byte that may begin a node line, and no line feed
 record IsInner (b : ℕ) : Type 0 where
@@ -104,7 +103,7 @@ not_empty (b ∷ text) h = refl
 pub decimal_digits : (n : ℕ) → n < 10 ^ 64 → is_digit_text (decimal n) ≡ true
 decimal_digits n h =
     let k = decimal_is_IsNumeral_wide n h in
-    both _ _ (not_empty (decimal n) k.0.0) (own.from (decimal n) k.0.1)
+    and_from _ _ (not_empty (decimal n) k.0.0) (own.from (decimal n) k.0.1)
 
 pub decimal_value : (n : ℕ) → n < 10 ^ 64 → value_of (decimal n) ≡ n
 decimal_value n h = (decimal_is_IsNumeral_wide n h).1

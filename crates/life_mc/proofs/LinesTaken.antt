@@ -1,10 +1,10 @@
 -- What is told of the lines that a reader took.
-use Rattle.std.proofs.Common.{◌≡◌, ℕ, ◌<◌, List, [], ◌∷◌, ◌++◌, length, true, not, refl, sym, subst, ◌∙◌, arith}
+use Rattle.std.proofs.Common.{◌≡◌, ℕ, List, [], ◌∷◌, ◌++◌, true, refl, sym, subst, ◌∙◌}
 use Rattle.std.specs.Prelude.{Option, Some, None}
 use Rattle.std.specs.List.{cons_option}
 use Rattle.std.proofs.lemmas.List.{append-nil}
 use Rattle.life_base.specs.Refusal.{Prefix}
-use Rattle.life_base.specs.Text.{is_empty, numbered_from}
+use Rattle.life_base.specs.Text.{numbered_from}
 use Rattle.life_base.specs.declared.fault.Fault.{Fault}
 use Rattle.life_base.proofs.NumberedLines.{texts}
 use Rattle.life_mc.specs.Grammar.{IsFile}
@@ -15,7 +15,7 @@ use Rattle.life_mc.specs.Standing.{Standing, StandsAfter}
 use Rattle.life_mc.specs.declared.line.Line.{Line}
 use Rattle.life_mc.proofs.ByLines.{by_lines, accepted}
 use Rattle.life_mc.proofs.Grammars.{grammars_agree}
-use Rattle.life_mc.proofs.ReadLines.{squares_none, squares_some, refused_at}
+use Rattle.life_mc.proofs.ReadLines.{squares_none, squares_some, refused_at, some_lines}
 
 -- the squares of the lines so far, with that of one line more
 pub squares_taken : (before : List (List ℕ)) (line : List ℕ) → squares_of (before ++ line ∷ []) ≡ squares_of before ++ cons_option (square_behind before line)
@@ -25,10 +25,6 @@ squares_taken before line = by (square_behind before line) refl
     by : (o : Option Line) → square_behind before line ≡ o → squares_of (before ++ line ∷ []) ≡ squares_of before ++ cons_option o []
     by None h = squares_none before line h ∙ sym (append-nil (squares_of before))
     by (Some square) h = squares_some before line square h
-
-some_lines : (lines : List (List ℕ)) → not (is_empty lines) ≡ true → 0 < length lines
-some_lines [] h = cc
-some_lines (line ∷ lines) h = omega arith
 
 module _ (top : ℕ) (lines : List (List ℕ)) (state : Standing) (s : StandsAfter top lines state) where
   pub stands_front : Prefix (Accepts top) lines

@@ -1,15 +1,16 @@
 -- Node lines whose numbers are read into a type with a greatest number.
-use Rattle.std.proofs.Common.{◌≡◌, ℕ, zero, suc, ◌-◌, ◌^◌, ◌<◌, ◌≤◌, List, [], ◌∷◌, length, map, Bool, true, false, cond, not, ◌&&◌, ◌||◌, refl, ap, sym, ◌∙◌, arith, ◌⊎◌, inl, inr}
+use Rattle.std.proofs.Common.{◌≡◌, ℕ, zero, suc, ◌-◌, ◌^◌, ◌<◌, ◌≤◌, List, [], ◌∷◌, length, map, Bool, true, false, cond, not, ◌&&◌, ◌||◌, refl, ap, sym, ◌∙◌, arith, ◌⊎◌, inl, inr, true≢false}
 use Rattle.std.specs.Prelude.{Option, Some, None, ◌==◌, nat_le, slice_index, Result, Ok, Err, MatchResult}
-use Rattle.std.specs.List.{list_all, slice_get}
+use Rattle.std.specs.List.{list_all}
 use Rattle.std.proofs.lemmas.Bool.{lt-leb}
 use Rattle.std.proofs.lemmas.Bool.Decides.{nat_tests}
+use Rattle.std.proofs.lemmas.Option.{slice_get_past, same_Some}
+use Rattle.life_mc.proofs.TestFacts.{all_four, few_states}
 use mathlib.Core.Bool.{and-false}
 use Rattle.life_base.specs.Text.{words_of, value_of, is_digit_text}
 use Rattle.life_base.specs.declared.kind.Kind.{Kind}
 use Rattle.life_base.specs.declared.kind.Kind.TheVariants.{BadLevel, BadChild, BadNode, BadLeaf, StateRange}
 use Rattle.life_base.specs.declared.rule.Rule.{Rule}
-use Rattle.life_base.specs.declared.rule.Rule.TheVariants.{Life, Named}
 use Rattle.life_mc.specs.Macrocell.{is_quarter, is_child, is_level, numbered, largest_state}
 use Rattle.life_mc.specs.Reading.{broken_by_square, broken_by_node, square_of, quad_of, is_leaf_byte, is_leaf, leaf_bytes}
 use Rattle.life_base.specs.Numbers.{capped}
@@ -29,14 +30,9 @@ top_number = 2 ^ 64 - 1
 small_or_large : (n : ℕ) → (capped n ≡ n) ⊎ ((top_number < n) × (capped n ≡ top_number))
 small_or_large n = grind arith
 
-past : (levels : List ℕ) (i : ℕ) → length levels ≤ i → slice_get levels i ≡ None
-past [] i h = refl
-past (l ∷ levels) zero h = absurd (omega arith)
-past (l ∷ levels) (suc i) h = past levels i (omega arith)
-
 numbered_past : (levels : List ℕ) (n : ℕ) → length levels < n → numbered levels n ≡ None
 numbered_past levels zero h = absurd (omega arith)
-numbered_past levels (suc i) h = past levels i (omega arith)
+numbered_past levels (suc i) h = slice_get_past levels i (omega arith)
 
 not_zero_number : (n : ℕ) → 0 < n → (n == 0) ≡ false
 not_zero_number n h = grind (arith, nat_tests)
@@ -45,15 +41,11 @@ no_child : (levels : List ℕ) (level n : ℕ) → length levels < n → is_chil
 no_child levels level n h =
     ap (λ v. v || is_level level (numbered levels n)) (not_zero_number n (omega arith)) ∙ ap (is_level level) (numbered_past levels n h)
 
-few_states : (rule : Rule) → largest_state rule ≤ 255
-few_states (Life sets) = omega arith
-few_states (Named name) = omega arith
-
 no_quarter : (rule : Rule) (levels : List ℕ) (level n : ℕ) → length levels < n → 255 < n → is_quarter rule levels level n ≡ false
 no_quarter rule levels level n h l = by (level == 1)
   where
     by : (v : Bool) → cond v (nat_le n (largest_state rule)) (is_child levels (level - 1) n) ≡ false
-    by true = lt-leb n (largest_state rule) (omega (arith, few_states rule))
+    by true = lt-leb n (largest_state rule) (omega (arith, (few_states rule).1))
     by false = no_child levels (level - 1) n h
 
 module _ (top : ℕ) (rule : Rule) (levels : List ℕ) (low : top ≤ 255) (few : length levels < top_number) where
@@ -70,11 +62,8 @@ module _ (top : ℕ) (rule : Rule) (levels : List ℕ) (low : top ≤ 255) (few 
     | inl e ↦ e
     | inr l ↦ (let f : is_quarter rule levels level (capped n) ≡ false = ap (is_quarter rule levels level) l.1
         ∙ no_quarter rule levels level top_number few (omega arith) in
-        absurd (no (sym h ∙ f)))
+        absurd (true≢false (sym h ∙ f)))
   ]
-    where
-      no : true ≡ false → ⊥
-      no e = cc
 
   abbrev judged : Bool → Bool → Bool → Option Kind
   judged v w one = cond (not v) (Some BadLevel) (cond w None (cond one (Some StateRange) (Some BadChild)))
@@ -112,18 +101,8 @@ module _ (top : ℕ) (rule : Rule) (levels : List ℕ) (low : top ≤ 255) (few 
   level_is : (level : ℕ) → (nat_le 1 (capped level) && nat_le (capped level) top) ≡ true → capped level ≡ level
   level_is level h = elim (small_or_large level) [
     | inl e ↦ e
-    | inr l ↦ absurd (no (sym h ∙ ap (λ n. nat_le 1 n && nat_le n top) l.1 ∙ level_high))
+    | inr l ↦ absurd (true≢false (sym h ∙ ap (λ n. nat_le 1 n && nat_le n top) l.1 ∙ level_high))
   ]
-    where
-      no : true ≡ false → ⊥
-      no e = cc
-
-  all_four : (a b c d : Bool) → (a && (b && (c && (d && true)))) ≡ true → (a ≡ true) × (b ≡ true) × (c ≡ true) × (d ≡ true)
-  all_four true true true true h = (refl, refl, refl, refl)
-  all_four true true true false h = cc
-  all_four true true false d h = cc
-  all_four true false c d h = cc
-  all_four false b c d h = cc
 
   -- numbers that break no rule are told as they are
   numbers_are : (level nw ne sw se : ℕ) → judge (capped level) (capped nw) (capped ne) (capped sw) (capped se) ≡ None
@@ -141,9 +120,6 @@ module _ (top : ℕ) (rule : Rule) (levels : List ℕ) (low : top ≤ 255) (few 
   abbrev directive : Bool → List (List ℕ) → Option Line
   directive v words = cond v (quad_of (map (λ word. capped (value_of word)) words)) None
 
-  some_is : (a b : Line) → Some a ≡ Some b → a ≡ b
-  some_is a b h = cc
-
   quad_by : (v : Bool) (words : List (List ℕ)) (q : Line) → Some q ≡ directive v words
       → (broken_by_square top rule levels (Some q) ≡ broken_by_square top rule levels (plain v words))
       × (broken_by_square top rule levels (Some q) ≡ None → plain v words ≡ Some q)
@@ -152,7 +128,7 @@ module _ (top : ℕ) (rule : Rule) (levels : List ℕ) (low : top ≤ 255) (few 
       no : Some q ≡ None → ⊥
       no e = cc
   quad_by true (a ∷ b ∷ c ∷ d ∷ e ∷ []) q h =
-      let is = some_is q (Quad (capped (value_of a)) (capped (value_of b)) (capped (value_of c)) (capped (value_of d)) (capped (value_of e))) h in (
+      let is = same_Some q (Quad (capped (value_of a)) (capped (value_of b)) (capped (value_of c)) (capped (value_of d)) (capped (value_of e))) h in (
         ap (λ s. broken_by_square top rule levels (Some s)) is ∙ numbers_same (value_of a) (value_of b) (value_of c) (value_of d) (value_of e),
         λ n. ap Some (sym (is ∙ numbers_are (value_of a) (value_of b) (value_of c) (value_of d) (value_of e)
             (ap (λ s. broken_by_square top rule levels (Some s)) (sym is) ∙ n))),

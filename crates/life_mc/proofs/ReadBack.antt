@@ -1,16 +1,17 @@
 -- The text of a file, read back: the parts.
-use Rattle.std.proofs.Common.{◌≡◌, ℕ, zero, suc, ◌<◌, List, [], ◌∷◌, ◌++◌, length, Bool, true, false, cond, not, ◌&&◌, refl, ap, ◌∙◌, arith, append_assoc}
+use Rattle.std.proofs.Common.{◌≡◌, ℕ, zero, suc, ◌<◌, List, [], ◌∷◌, ◌++◌, length, Bool, true, false, cond, not, ◌&&◌, refl, ap, ◌∙◌, arith, append_assoc, eqb-true, append-nil, sym}
 use Rattle.std.specs.Prelude.{◌==◌, flat_map, map}
 use Rattle.std.specs.List.{list_all, AllByRecursion, onto_first as onto_first_byte}
 use Rattle.std.proofs.lemmas.Bool.Decides.{nat_tests}
 use Rattle.std.proofs.lemmas.Bool.{not-true}
 use Rattle.life_base.proofs.Numbers.{first, second}
-use Rattle.life_base.specs.Text.{lines_of, onto_first, without_last, words_of, is_whitespace}
+use Rattle.life_base.specs.Text.{lines_of, onto_first, without_last, words_of}
 use Rattle.life_mc.specs.Reading.{row_byte, leaf_rows, is_leaf, leaf_bytes}
 use Rattle.life_mc.specs.Writing.{row_cells, row_text}
 use Rattle.life_mc.specs.Grammar.{is_cell, is_row}
 use Rattle.life_mc.specs.Standing.{are_rows, row_bytes}
 use Rattle.life_mc.proofs.Leaves.{leaf_is, leaf_bytes_are}
+use Rattle.life_mc.proofs.Around.{first_word}
 use Rattle.life_base.proofs.NamesRead.{all_pass, solid}
 use Rattle.life_base.proofs.RoundTrip.{all_below, all_below_at}
 
@@ -36,12 +37,9 @@ each_row : all_below 256 row_test ≡ true
 unfolding row_cells
 each_row = refl
 
-eq-true : (a b : ℕ) → (a == b) ≡ true → a ≡ b
-eq-true a b h = grind (arith, nat_tests)
-
 -- a row's text says the row
 pub row_again : (row : ℕ) → row < 256 → row_byte (written row) ≡ row
-row_again row h = eq-true _ _ (first _ _ (all_below_at 256 row_test row each_row h))
+row_again row h = eqb-true _ _ (first _ _ (all_below_at 256 row_test row each_row h))
 
 pub row_is_row : (row : ℕ) → row < 256 → is_row (written row) ≡ true
 row_is_row row h = second (row_byte (written row) == row) _ (all_below_at 256 row_test row each_row h)
@@ -54,7 +52,7 @@ row_ended (b ∷ cells) rest h =
     ap (λ v. cond v ([] ∷ leaf_rows (cells ++ 36 ∷ rest)) (onto_first_byte b (leaf_rows (cells ++ 36 ∷ rest)))) e
     ∙ ap (onto_first_byte b) (row_ended cells rest (second (not (b == 36)) _ h))
 
-cell_no_dollar : (b : ℕ) → is_cell b ≡ true → not (b == 36) ≡ true
+pub cell_no_dollar : (b : ℕ) → is_cell b ≡ true → not (b == 36) ≡ true
 cell_no_dollar b h = grind (arith, nat_tests)
 
 no_dollar : (row : ℕ) → row < 256 → list_all (λ b. not (b == 36)) (written row) ≡ true
@@ -91,21 +89,8 @@ leaf_again rows e h = (
 
 -- ---- words with one space between them
 
-abbrev step_to : ℕ → List ℕ → Bool → Bool → List (List ℕ)
-step_to b text v w = cond v (words_of text) (cond w ((b ∷ []) ∷ words_of text) (onto_first b (words_of text)))
-
 pub word_then : (b : ℕ) (word rest : List ℕ) → list_all solid (b ∷ word) ≡ true → words_of ((b ∷ word) ++ 32 ∷ rest) ≡ (b ∷ word) ∷ words_of rest
-word_then b [] rest h = ap (λ v. step_to b (32 ∷ rest) v true) (not-true (is_whitespace b) (first _ _ h))
-word_then b (c ∷ word) rest h =
-    let more : list_all solid (c ∷ word) ≡ true = second (solid b) _ h in
-    ap (λ v. step_to b (c ∷ (word ++ 32 ∷ rest)) v (is_whitespace c && true)) (not-true (is_whitespace b) (first _ _ h))
-    ∙ ap (λ v. step_to b (c ∷ (word ++ 32 ∷ rest)) false (v && true)) (not-true (is_whitespace c) (first _ _ more))
-    ∙ ap (onto_first b) (word_then c word rest more)
+word_then b word rest h = first_word b word (32 ∷ rest) h refl
 
 pub word_alone : (b : ℕ) (word : List ℕ) → list_all solid (b ∷ word) ≡ true → words_of (b ∷ word) ≡ (b ∷ word) ∷ []
-word_alone b [] h = ap (λ v. step_to b [] v true) (not-true (is_whitespace b) (first _ _ h))
-word_alone b (c ∷ word) h =
-    let more : list_all solid (c ∷ word) ≡ true = second (solid b) _ h in
-    ap (λ v. step_to b (c ∷ word) v (is_whitespace c && true)) (not-true (is_whitespace b) (first _ _ h))
-    ∙ ap (λ v. step_to b (c ∷ word) false (v && true)) (not-true (is_whitespace c) (first _ _ more))
-    ∙ ap (onto_first b) (word_alone c word more)
+word_alone b word h = ap words_of (sym (append-nil (b ∷ word))) ∙ first_word b word [] h refl

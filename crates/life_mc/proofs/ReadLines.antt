@@ -1,9 +1,9 @@
 -- Reading lines one after another.
-use Rattle.std.proofs.Common.{◌≡◌, ℕ, ◌<◌, List, [], ◌∷◌, ◌++◌, length, refl, ap, ◌∙◌, arith}
-use Rattle.std.specs.Prelude.{Some, None, filter_map}
+use Rattle.std.proofs.Common.{◌≡◌, ℕ, ◌<◌, List, [], ◌∷◌, ◌++◌, length, refl, ap, ◌∙◌, arith, true, not}
+use Rattle.std.specs.Prelude.{Some, None, filter_map, slice_get}
 use Rattle.std.proofs.lemmas.List.Elements.{filter_map-append}
 use Rattle.std.proofs.lemmas.List.{append-nil}
-use Rattle.life_base.specs.Text.{numbered_from}
+use Rattle.life_base.specs.Text.{numbered_from, is_empty}
 use Rattle.life_base.specs.Refusal.{fault_at}
 use Rattle.life_base.specs.declared.kind.Kind.TheVariants.{NoHeader}
 use Rattle.life_base.specs.declared.fault.Fault.{Fault}
@@ -31,6 +31,15 @@ pub squares_some : (before : List (List ℕ)) (line : List ℕ) (square : Line) 
 squares_some [] line square h = cc
 squares_some (header ∷ before) line square h =
     filter_map-append square_on before (line ∷ []) ∙ ap (λ (t : List Line). filter_map square_on before ++ t) (one_on line square h)
+
+-- the line of a list in its middle
+pub get_seam : (xs : List Line) (y : Line) (ys : List Line) → slice_get (xs ++ y ∷ ys) (length xs) ≡ Some y
+get_seam [] y ys = refl
+get_seam (x ∷ xs) y ys = get_seam xs y ys
+
+pub some_lines : (lines : List (List ℕ)) → not (is_empty lines) ≡ true → 0 < length lines
+some_lines [] h = cc
+some_lines (line ∷ lines) h = omega arith
 
 -- why a file is refused whose lines are read with their numbers, where this line breaks a rule and none before it
 pub refused_at : (top : ℕ) → (lines : List (List ℕ)) (before : List (ℕ × List ℕ)) (k : ℕ) (line : List ℕ) (rest : List (ℕ × List ℕ)) (fault : Fault)

@@ -1,5 +1,5 @@
 -- Each node line of a valid file stands for one square.
-use Rattle.std.proofs.Common.{◌≡◌, ℕ, zero, suc, ◌+◌, ◌-◌, ◌%◌, ◌^◌, ◌<◌, ◌≤◌, List, [], ◌∷◌, length, take, map, Bool, true, false, cond, ◌&&◌, ◌||◌, refl, ap, sym, subst, ◌∙◌, arith}
+use Rattle.std.proofs.Common.{◌≡◌, ℕ, zero, suc, ◌+◌, ◌-◌, ◌%◌, ◌^◌, ◌<◌, ◌≤◌, List, [], ◌∷◌, length, take, map, Bool, true, false, cond, ◌&&◌, ◌||◌, refl, ap, sym, subst, ◌∙◌, arith, eqb-true, ltb-true, ltb-false, add-zero}
 use Rattle.std.specs.Prelude.{nat_le, nat_lt, ◌==◌, Option, Some, None, ℤ, pos, negsuc, neg_ℤ, ◌+ℤ◌, int_le, int_lt, unsigned_abs}
 use Rattle.std.specs.List.{list_all, slice_get}
 use Rattle.std.proofs.lemmas.Bool.Decides.{nat_tests}
@@ -21,20 +21,14 @@ twice k = two-pow-succ k
 
 -- ---- the quarter in which a column and a row lie
 
-below-of : (x n : ℕ) → nat_lt x n ≡ true → x < n
-below-of x n h = grind (arith, nat_tests)
-
-above-of : (x n : ℕ) → nat_lt x n ≡ false → n ≤ x
-above-of x n h = grind (arith, nat_tests)
-
 rest-of : (k x : ℕ) → x < 2 ^ suc k → nat_lt x (2 ^ k) ≡ false → x - 2 ^ k < 2 ^ k
-rest-of k x l h = omega (arith, twice k, above-of x (2 ^ k) h)
+rest-of k x l h = omega (arith, twice k, ltb-false x (2 ^ k) h)
 
 mod-below : (k x : ℕ) → nat_lt x (2 ^ k) ≡ true → x % 2 ^ k ≡ x
-mod-below k x h = mod-eq_of_lt (below-of x (2 ^ k) h)
+mod-below k x h = mod-eq_of_lt (ltb-true x (2 ^ k) h)
 
 mod-above : (k x : ℕ) → x < 2 ^ suc k → nat_lt x (2 ^ k) ≡ false → x % 2 ^ k ≡ x - 2 ^ k
-mod-above k x l h = mod-eq-sub-mod (above-of x (2 ^ k) h) ∙ mod-eq_of_lt (rest-of k x l h)
+mod-above k x l h = mod-eq-sub-mod (ltb-false x (2 ^ k) h) ∙ mod-eq_of_lt (rest-of k x l h)
 
 -- ---- what a square shows
 
@@ -65,9 +59,9 @@ module _ (most k : ℕ) (tree_for : ℕ → Tree) (cells_for : ℕ → ℕ → �
       → chosen (state_at (tree_for nw) x y) (state_at (tree_for ne) (x - 2 ^ k) y) (state_at (tree_for sw) x (y - 2 ^ k))
       (state_at (tree_for se) (x - 2 ^ k) (y - 2 ^ k)) v w
       ≡ cells_for (cond v (cond w nw ne) (cond w sw se)) (x % 2 ^ k) (y % 2 ^ k)
-  same_at x y l m true true e f = rw (mod-below k x f, mod-below k y e) (a.same x y (below-of x (2 ^ k) f) (below-of y (2 ^ k) e))
-  same_at x y l m true false e f = rw (mod-above k x l f, mod-below k y e) (b.same (x - 2 ^ k) y (rest-of k x l f) (below-of y (2 ^ k) e))
-  same_at x y l m false true e f = rw (mod-below k x f, mod-above k y m e) (c.same x (y - 2 ^ k) (below-of x (2 ^ k) f) (rest-of k y m e))
+  same_at x y l m true true e f = rw (mod-below k x f, mod-below k y e) (a.same x y (ltb-true x (2 ^ k) f) (ltb-true y (2 ^ k) e))
+  same_at x y l m true false e f = rw (mod-above k x l f, mod-below k y e) (b.same (x - 2 ^ k) y (rest-of k x l f) (ltb-true y (2 ^ k) e))
+  same_at x y l m false true e f = rw (mod-below k x f, mod-above k y m e) (c.same x (y - 2 ^ k) (ltb-true x (2 ^ k) f) (rest-of k y m e))
   same_at x y l m false false e f = rw (mod-above k x l f, mod-above k y m e) (d.same (x - 2 ^ k) (y - 2 ^ k) (rest-of k x l f) (rest-of k y m e))
 
   quad_shows : Shows most (suc k) (quad (tree_for nw) (tree_for ne) (tree_for sw) (tree_for se))
@@ -143,7 +137,7 @@ module _ (most : ℕ) (low : most ≤ 255) (states : ℕ → ℕ → ℕ) (few :
       }
     where
       back : (n x : ℕ) → nat_lt x (2 ^ k) ≡ false → n + 2 ^ k + (x - 2 ^ k) ≡ n + x
-      back n x h = let l : 2 ^ k ≤ x = above-of x (2 ^ k) h in omega arith
+      back n x h = let l : 2 ^ k ≤ x = ltb-false x (2 ^ k) h in omega arith
 
       by : (x y : ℕ) → x < 2 ^ suc k → y < 2 ^ suc k
           → Shows most k (tree_at states k column row) (shifted column row)
@@ -155,11 +149,11 @@ module _ (most : ℕ) (low : most ≤ 255) (states : ℕ → ℕ → ℕ) (few :
           (state_at (tree_at states k column (row + 2 ^ k)) x (y - 2 ^ k)) (state_at (tree_at states k (column + 2 ^ k) (row + 2 ^ k)) (x - 2 ^ k) (y - 2 ^ k))
           v w
           ≡ shifted column row x y
-      by x y l m a b c d true true e f = a.same x y (below-of x (2 ^ k) f) (below-of y (2 ^ k) e)
+      by x y l m a b c d true true e f = a.same x y (ltb-true x (2 ^ k) f) (ltb-true y (2 ^ k) e)
       by x y l m a b c d true false e f =
-          b.same (x - 2 ^ k) y (rest-of k x l f) (below-of y (2 ^ k) e) ∙ shifted_same (column + 2 ^ k) row (x - 2 ^ k) y column row x y (back column x f) refl
+          b.same (x - 2 ^ k) y (rest-of k x l f) (ltb-true y (2 ^ k) e) ∙ shifted_same (column + 2 ^ k) row (x - 2 ^ k) y column row x y (back column x f) refl
       by x y l m a b c d false true e f =
-          c.same x (y - 2 ^ k) (below-of x (2 ^ k) f) (rest-of k y m e) ∙ shifted_same column (row + 2 ^ k) x (y - 2 ^ k) column row x y refl (back row y e)
+          c.same x (y - 2 ^ k) (ltb-true x (2 ^ k) f) (rest-of k y m e) ∙ shifted_same column (row + 2 ^ k) x (y - 2 ^ k) column row x y refl (back row y e)
       by x y l m a b c d false false e f =
           d.same (x - 2 ^ k) (y - 2 ^ k) (rest-of k x l f) (rest-of k y m e)
           ∙ shifted_same (column + 2 ^ k) (row + 2 ^ k) (x - 2 ^ k) (y - 2 ^ k) column row x y (back column x f) (back row y e)
@@ -176,11 +170,8 @@ leaf_shows most some low rows =
       states = t.states;
       same = λ x y l m. t.same x y l m ∙ shifted_same most low (leaf_cell rows) (λ x y. omega (arith, bit_small rows x y)) 0 0 x y x y 0 0 (omega arith)
           (omega arith)
-          ∙ ap (λ n. leaf_cell rows n (y + 0)) (plus_none x) ∙ ap (leaf_cell rows x) (plus_none y);
+          ∙ ap (λ n. leaf_cell rows n (y + 0)) (add-zero x) ∙ ap (leaf_cell rows x) (add-zero y);
     }
-  where
-    plus_none : (n : ℕ) → n + 0 ≡ n
-    plus_none n = omega arith
 
 -- ---- the line of a number
 
@@ -195,13 +186,10 @@ get_take (line ∷ lines) (suc m) (suc i) h = get_take lines m i (omega arith)
 abbrev HasLevel : List Line → ℕ → ℕ → Type 0
 HasLevel lines level i = (line : Line) × (slice_get lines i ≡ Some line) × (level_of line ≡ level)
 
-level_is : (a b : ℕ) → (a == b) ≡ true → a ≡ b
-level_is a b h = grind (arith, nat_tests)
-
 found : (lines : List Line) (m i level : ℕ) → is_level level (slice_get (map level_of (take m lines)) i) ≡ true → (i < m) × HasLevel lines level i
 found lines zero i level h = cc
 found [] (suc m) i level h = cc
-found (line ∷ lines) (suc m) zero level h = (omega arith, (line, refl, level_is (level_of line) level h))
+found (line ∷ lines) (suc m) zero level h = (omega arith, (line, refl, eqb-true (level_of line) level h))
 found (line ∷ lines) (suc m) (suc i) level h = let r = found lines m i level h in (omega (arith, r.0), r.1)
 
 -- What a number at level k of a file may be: a state at level 0, else 0 or the number of a line of that level.
@@ -367,7 +355,7 @@ module _ (most level : ℕ) (some : 1 ≤ level) (tree : Tree) (lines : List Lin
       let v : within x ≡ nat_lt c (2 ^ level) = in_span x half c e ∙ ap (nat_lt c) (sym whole) in
       let w : within y ≡ nat_lt r (2 ^ level) = in_span y half r f ∙ ap (nat_lt r) (sym whole) in
       same_when (nat_lt c (2 ^ level)) (nat_lt r (2 ^ level)) (cell_in lines level (length lines) c r) (state_at tree c r)
-      (λ p q. sym (t.same c r (below-of c (2 ^ level) p) (below-of r (2 ^ level) q)))
+      (λ p q. sym (t.same c r (ltb-true c (2 ^ level) p) (ltb-true r (2 ^ level) q)))
       ∙ ap (λ u. when u (nat_lt r (2 ^ level)) (state_at tree c r)) (sym v) ∙ ap (λ u. when (within x) u (state_at tree c r)) (sym w)
   from_corner x y (pos c) (negsuc r) e f = no_second (within x) (within y) _ (out_of_span y half r f)
   from_corner x y (negsuc c) b e f = ap (λ u. when u (within y) (state_at tree (unsigned_abs (negsuc c)) (unsigned_abs b))) (sym (out_of_span x half c e))

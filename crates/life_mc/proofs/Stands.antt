@@ -2,26 +2,28 @@
 use Rattle.std.proofs.Common.{◌≡◌, ℕ, ◌+◌, ◌-◌, ◌^◌, ◌<◌, ◌≤◌, List, [], ◌∷◌, ◌++◌, length, take, drop, get_or, map, Bool, true, false, cond, not, ◌&&◌, refl, ap, sym, subst, ◌∙◌, arith, length-append, ◌⊎◌, inl, inr}
 use Rattle.std.specs.Prelude.{Option, Some, None, codes, nat_lt, nat_le, Result, Ok, Err, MatchResult, filter_map, IfOk, OnOk, ◌==◌}
 use Rattle.std.specs.Result.{result_ok, result_err}
-use Rattle.std.specs.List.{slice_index_or}
+use Rattle.std.specs.List.{slice_index_or, list_all}
 use Rattle.std.proofs.lemmas.Bool.Decides.{nat_tests}
 use Rattle.std.proofs.Math.Seq.{take-append_seam, get_or-append_seam}
 use Rattle.std.proofs.Math.ListN.{get_or-append}
 use Rattle.std.proofs.lemmas.List.{take-append-le, map-append, append-nil}
 use Rattle.std.proofs.lemmas.List.Elements.{filter_map-append}
+use Rattle.std.proofs.lemmas.Bool.{le-leb}
 use Rattle.life_base.specs.Text.{is_empty, begins_with, is_too_long, trim, is_blank, is_digit_text, value_of}
 use Rattle.life_base.specs.Numbers.{u64_of}
 use Rattle.life_base.specs.Rules.{default_rule, rule_of}
 use Rattle.life_base.specs.declared.kind.Kind.{Kind}
-use Rattle.life_base.specs.declared.kind.Kind.TheVariants.{LineTooLong, NoHeader, BadNumber, TooLarge}
+use Rattle.life_base.specs.declared.kind.Kind.TheVariants.{LineTooLong, NoHeader, BadNumber, TooLarge, BadLevel, StateRange, BadChild}
 use Rattle.life_base.specs.declared.rule.Rule.{Rule}
-use Rattle.life_mc.specs.Macrocell.{level_of}
-use Rattle.life_mc.specs.Reading.{broken, broken_behind, is_command, rule_in_force, generation_in_force, squares_of, square_behind, square_on, rule_on, generation_on, last_or, square_of, broken_after}
+use Rattle.life_mc.specs.Macrocell.{level_of, IsSquare, is_quarter}
+use Rattle.life_mc.specs.Reading.{broken, broken_behind, is_command, rule_in_force, generation_in_force, squares_of, square_behind, square_on, rule_on, generation_on, last_or, broken_after, broken_by_square}
 use Rattle.life_mc.specs.Grammar.{form_rule, form_generation, form_square}
 use Rattle.std.specs.Option.{unwrap_or}
 use Rattle.life_mc.specs.Standing.{Standing, StandsAfter, IsParsed, form_of, level_in}
 use Rattle.life_mc.specs.declared.line.Directive.{Directive}
 use Rattle.life_mc.specs.declared.line.Line.{Line}
-use Rattle.life_mc.proofs.Around.{commands}
+use Rattle.life_mc.specs.declared.line.Line.TheVariants.{Leaf, Quad}
+use Rattle.life_mc.proofs.Around.{commands, hash_no_square}
 use Rattle.life_mc.proofs.Valid.{command_is_hash}
 use Rattle.life_mc.proofs.ReadLines.{squares_none, squares_some}
 
@@ -204,19 +206,12 @@ pub generation_breaks : (top : ℕ) (rule : Rule) (levels : List ℕ) (line : Li
     → is_command 71 line ≡ true → nat_lt 0 (length levels) ≡ false → broken_after top rule levels line ≡ result_err (u64_of (trim (drop 2 line)))
 generation_breaks top rule levels line b f r g l = rw (b, f, r, g, l) refl
 
-no_square : (line : List ℕ) → begins_with line (codes "#") ≡ true → square_on line ≡ None
-no_square line h = ap (λ v. cond (not (is_blank line) && not v) (square_of (trim line)) None) h ∙ none (not (is_blank line))
-  where
-    none : (v : Bool) → cond (v && false) (square_of (trim line)) None ≡ None
-    none true = refl
-    none false = refl
-
 pub rule_parsed_so : (line : List ℕ) (rule : Rule) → is_command 82 line ≡ true → rule_of (drop 2 line) ≡ Ok rule
     → (rule_on line ≡ Some rule) × (generation_on line ≡ None) × (square_on line ≡ None)
 rule_parsed_so line rule r e = (
   ap (λ v. cond v (result_ok (rule_of (drop 2 line))) None) r ∙ ap result_ok e,
   ap (λ (l : List ℕ). cond (is_command 71 l) (Some (value_of (trim (drop 2 line)))) None) (commands 82 line r).0,
-  no_square line (command_is_hash 0 82 line r),
+  hash_no_square line (command_is_hash 0 82 line r),
 )
 
 pub generation_parsed_so : (line : List ℕ) (n : ℕ) → is_command 82 line ≡ false → is_command 71 line ≡ true → n ≡ value_of (trim (drop 2 line))
@@ -224,7 +219,7 @@ pub generation_parsed_so : (line : List ℕ) (n : ℕ) → is_command 82 line �
 generation_parsed_so line n r g e = (
   ap (λ v. cond v (result_ok (rule_of (drop 2 line))) None) r,
   ap (λ v. cond v (Some (value_of (trim (drop 2 line)))) None) g ∙ ap Some (sym e),
-  no_square line (command_is_hash 0 71 line g),
+  hash_no_square line (command_is_hash 0 71 line g),
 )
 
 pub combine : {X E : Type 0} {P Q : X → Type 0} {A B C : Type 0} (r : Result X E) → IfOk r P → OnOk r A → OnOk r B → OnOk r C
@@ -234,3 +229,16 @@ combine (Err e) p a b c f = tt
 
 pub none_left : (levels : List ℕ) (v : Bool) → v ≡ (length levels == 0) → v ≡ true → nat_lt 0 (length levels) ≡ false
 none_left levels v e h = grind (arith, nat_tests)
+
+-- ---- a node line
+
+-- a square breaks no rule
+pub square_ok : (top : ℕ) (rule : Rule) (levels : List ℕ) (line : Line) → IsSquare top rule levels line → broken_by_square top rule levels (Some line) ≡ None
+square_ok top rule levels (Leaf rows) h = refl
+square_ok top rule levels (Quad level nw ne sw se) h =
+    by (nat_le 1 level) (nat_le level top) (list_all (is_quarter rule levels level) (nw ∷ ne ∷ sw ∷ se ∷ [])) (level == 1) (le-leb 1 level h.0)
+    (le-leb level top h.1) h.2
+  where
+    by : (u v w one : Bool) → u ≡ true → v ≡ true → w ≡ true → cond (not (u && v)) (Some BadLevel) (cond w None (cond one (Some StateRange) (Some BadChild)))
+        ≡ None
+    by u v w one p q r = rw (p, q, r) refl

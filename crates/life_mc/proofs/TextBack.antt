@@ -1,17 +1,17 @@
 -- The text of a file is a macrocell file that says the same.
 use Rattle.std.proofs.Common.{◌≡◌, ℕ, zero, suc, ◌-◌, ◌^◌, ◌<◌, ◌≤◌, List, [], ◌∷◌, ◌++◌, length, take, drop, Bool, true, false, cond, not, ◌&&◌, ◌||◌, refl, ap, sym, subst, ◌∙◌, arith, append_assoc, decimal}
 use Rattle.std.specs.Prelude.{nat_le, nat_lt, ◌==◌, map, flat_map, codes, bytes_eq, Some, None}
-use Rattle.std.specs.List.{list_all, slice_get}
+use Rattle.std.specs.List.{slice_get}
 use Rattle.std.specs.Result.{result_ok, result_err}
 use Rattle.std.proofs.lemmas.Bool.Decides.{nat_tests}
-use Rattle.std.proofs.lemmas.Bool.{leb-true, le-leb}
+use Rattle.std.proofs.lemmas.Bool.{leb-true}
 use Rattle.std.proofs.lemmas.List.{map-append, append-nil}
 use Rattle.std.proofs.Math.Seq.{take-append_seam}
 use mathlib.Core.Bool.{and-true}
-use Rattle.life_base.specs.Text.{lines_of, is_empty, is_blank, begins_with, trim, value_of}
+use Rattle.life_base.specs.Text.{lines_of, is_blank, begins_with, trim, value_of}
 use Rattle.life_base.specs.Numbers.{u64_of}
 use Rattle.life_base.specs.Rules.{rule_of, rule_text, default_rule, IsRule}
-use Rattle.life_base.specs.declared.kind.Kind.TheVariants.{Timeline, LateHeader, BadLevel, BadChild, BadLeaf, StateRange}
+use Rattle.life_base.specs.declared.kind.Kind.TheVariants.{Timeline, LateHeader, BadLeaf}
 use Rattle.life_base.specs.declared.rule.Rule.{Rule}
 use Rattle.life_mc.specs.Macrocell.{Macrocell, AreSquares, IsSquare, IsValid, level_of, is_quarter, is_child, is_level, largest_state}
 use Rattle.life_mc.specs.Reading.{IsMacrocell, broken_by_node, broken_by_square, is_command, squares_of, square_of, broken_after}
@@ -23,8 +23,8 @@ use Rattle.life_mc.specs.declared.line.Directive.TheVariants.{RuleLine, Generati
 use Rattle.life_mc.proofs.HeaderLines.{rule_short, rule_line, rule_stands, rule_parsed, generation_line, generation_stands, generation_parsed, generation_short}
 use Rattle.life_mc.proofs.LineTexts.{IsTextOf, leaf_text, quad_text}
 use Rattle.life_mc.proofs.ReadBack.{has_no_feed, line_ended}
-use Rattle.life_mc.proofs.ReadLines.{squares_some}
-use Rattle.life_mc.proofs.Stands.{stands_first, stands_next}
+use Rattle.life_mc.proofs.ReadLines.{squares_some, get_seam, some_lines}
+use Rattle.life_mc.proofs.Stands.{stands_first, stands_next, square_ok}
 use Rattle.life_mc.proofs.TestFacts.{all_four, not_zero, few_states}
 
 -- ---- a square's text, where the squares before it have these levels
@@ -58,17 +58,6 @@ module _ (rule : Rule) (levels : List ℕ) (few : length levels < 10 ^ 64) where
       h.2 in
       quad_text level nw ne sw se (omega (arith, h.1)) (quarter_small level nw q.0) (quarter_small level ne q.1) (quarter_small level sw q.2)
       (quarter_small level se q.3)
-
--- a square breaks no rule
-square_stands : (top : ℕ) (rule : Rule) (levels : List ℕ) (line : Line) → IsSquare top rule levels line → broken_by_square top rule levels (Some line) ≡ None
-square_stands top rule levels (Leaf rows) h = refl
-square_stands top rule levels (Quad level nw ne sw se) h =
-    by (nat_le 1 level) (nat_le level top) (list_all (is_quarter rule levels level) (nw ∷ ne ∷ sw ∷ se ∷ [])) (level == 1) (le-leb 1 level h.0)
-    (le-leb level top h.1) h.2
-  where
-    by : (u v w one : Bool) → u ≡ true → v ≡ true → w ≡ true → cond (not (u && v)) (Some BadLevel) (cond w None (cond one (Some StateRange) (Some BadChild)))
-        ≡ None
-    by u v w one p q r = rw (p, q, r) refl
 
 -- ---- a node line
 
@@ -106,7 +95,7 @@ module _ (top : ℕ) (rule : Rule) (levels : List ℕ) (line : Line) (text : Lis
       (begins_with text (codes "#")) t.blank mark.0 mark.1 mark.2 t.hash
       ∙ ap (broken_by_node top rule levels) t.trimmed
       ∙ ap (λ v. cond v (Some BadLeaf) (broken_by_square top rule levels (square_of text))) t.no_bad_leaf
-      ∙ ap (broken_by_square top rule levels) t.says ∙ square_stands top rule levels line h
+      ∙ ap (broken_by_square top rule levels) t.says ∙ square_ok top rule levels line h
     where
       cascade : (b f r g l m : Bool) → b ≡ false → f ≡ false → r ≡ false → g ≡ false → m ≡ false
           → cond b None (cond f (Some Timeline)
@@ -159,11 +148,6 @@ module _ (top : ℕ) where
     squares_are = refl;
   }
 
--- the line of a list in its middle
-get_at : (done : List Line) (line : Line) (left : List Line) → slice_get (done ++ line ∷ left) (length done) ≡ Some line
-get_at [] line left = refl
-get_at (x ∷ done) line left = get_at done line left
-
 few_levels : (k : ℕ) (lines : List Line) → length (map level_of (take k lines)) ≤ length lines
 few_levels zero lines = omega arith
 few_levels (suc k) [] = omega arith
@@ -179,7 +163,7 @@ module _ (top : ℕ) (low : top < 10 ^ 64) (rule : Rule) (generation : ℕ) (all
       let P : List Line → Type 0 = λ ys. slice_get ys (length done) ≡ Some line in
       let Q : List Line → Type 0 = λ ys. take (length done) ys ≡ done in
       let R : List Line → Type 0 = λ ys. IsSquare top rule (map level_of ys) line in
-      let g : slice_get all (length done) ≡ Some line = subst P e (get_at done line left) in
+      let g : slice_get all (length done) ≡ Some line = subst P e (get_seam done line left) in
       let f : take (length done) all ≡ done = subst Q e (take-append_seam done (line ∷ left)) in
       let is : IsSquare top rule (map level_of done) line = subst R f (valid (length done) line g) in
       let t : IsTextOf line (line_text line) = text_at (length done) line g in
@@ -271,15 +255,11 @@ module _ (top : ℕ) (low : top < 10 ^ 64) (file : Macrocell) (v : IsValid top f
       subst P (sym t) (says_file (header_line ∷ rule_line file.rule ∷ generation_line file.generation ∷ [])
       (generation_says top file.rule file.generation v.rule v.generation))
 
-  some_lines : (lines : List (List ℕ)) → true ≡ not (is_empty lines) → 0 < length lines
-  some_lines [] h = cc
-  some_lines (line ∷ lines) h = omega arith
-
   text_back : IsMacrocell top (mc_text file) file
   text_back =
       let s = all_lines (file.generation == 0) refl in
       record {
-        header = some_lines (lines_of (mc_text file)) s.stands.started;
+        header = some_lines (lines_of (mc_text file)) (sym s.stands.started);
         unbroken = s.stands.unbroken;
         rule = s.stands.rule;
         generation = s.stands.generation;

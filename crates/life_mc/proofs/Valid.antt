@@ -1,13 +1,12 @@
 -- The squares of a file are squares.
-use Rattle.std.proofs.Common.{◌≡◌, ℕ, zero, suc, ◌<◌, ◌≤◌, List, [], ◌∷◌, ◌++◌, length, take, drop, get_or, map, Bool, true, false, cond, not, ◌&&◌, ◌||◌, refl, ap, sym, subst, ◌∙◌, arith, length-append, add-one, ◌⊎◌, inl, inr}
+use Rattle.std.proofs.Common.{◌≡◌, ℕ, zero, suc, ◌<◌, ◌≤◌, List, [], ◌∷◌, ◌++◌, length, take, drop, get_or, map, Bool, true, false, cond, not, ◌&&◌, ◌||◌, refl, ap, sym, subst, ◌∙◌, arith, length-append, add-one, ◌⊎◌, inl, inr, eqb-true, append-nil}
 use Rattle.std.specs.Prelude.{codes, nat_le, nat_lt, ◌==◌, Option, Some, None, filter_map, slice_index, replicate}
 use Rattle.std.specs.List.{list_all, AllByRecursion, slice_get}
-use Rattle.std.proofs.lemmas.Bool.Decides.{nat_tests}
 use Rattle.std.specs.Result.{result_ok, result_err}
 use Rattle.std.proofs.Math.Seq.{take-length, take-append_seam}
 use Rattle.std.proofs.lemmas.List.{take_more, length-take-le, take-append-le}
 use Rattle.std.proofs.lemmas.List.Elements.{filter_map-append}
-use Rattle.std.proofs.lemmas.Bool.{leb-true, ltb-false, not-true}
+use Rattle.std.proofs.lemmas.Bool.{leb-true, ltb-false, not-true, false_from_ne_true}
 use Rattle.life_base.specs.Text.{is_blank, is_whitespace, begins_with, trim, is_too_long, words_of, value_of, is_digit_text}
 use Rattle.life_base.specs.Rules.{rule_of, default_rule}
 use Rattle.life_base.specs.Numbers.{u64_of}
@@ -33,10 +32,6 @@ module _ (top : ℕ) where
   not_taken true a b e h = cc
   not_taken false a b e h = h
 
-  contradicts : (v : Bool) → (v ≡ true → ⊥) → v ≡ false
-  contradicts true h = absurd (h refl)
-  contradicts false h = refl
-
   true_true : (v : Bool) → v ≡ true → (v && true) ≡ true
   true_true true h = refl
   true_true false h = cc
@@ -49,14 +44,11 @@ module _ (top : ℕ) where
   command_is_hash c (a ∷ b ∷ rest) h = let k : (a == 35) ≡ true = first _ _ (first _ _ h) in true_true _ k
 
   pub no_command : (c : ℕ) (line : List ℕ) → begins_with line (codes "#") ≡ false → is_command c line ≡ false
-  no_command c line h = contradicts _ (λ k. let t = command_is_hash c line k in cc)
-
-  eq_true : (a b : ℕ) → (a == b) ≡ true → a ≡ b
-  eq_true a b h = grind (arith, nat_tests)
+  no_command c line h = false_from_ne_true _ (λ k. let t = command_is_hash c line k in cc)
 
   pub hash_not_blank : (line : List ℕ) → begins_with line (codes "#") ≡ true → is_blank line ≡ false
   hash_not_blank [] h = cc
-  hash_not_blank (a ∷ line) h = let e : a ≡ 35 = eq_true a 35 (first _ _ h) in ap (λ b. is_whitespace b && list_all is_whitespace line) e
+  hash_not_blank (a ∷ line) h = let e : a ≡ 35 = eqb-true a 35 (first _ _ h) in ap (λ b. is_whitespace b && list_all is_whitespace line) e
 
   -- ---- what a line that breaks no rule behind a header says
 
@@ -195,10 +187,6 @@ module _ (top : ℕ) where
   no_squares : (rule : Rule) → AreSquares top rule []
   no_squares rule = λ k line g. cc
 
-  append_no_rule : (rs : List Rule) → rs ++ [] ≡ rs
-  append_no_rule [] = refl
-  append_no_rule (r ∷ rs) = ap (λ (t : List Rule). r ∷ t) (append_no_rule rs)
-
   none_on : (line : List ℕ) → rule_on line ≡ None → filter_map rule_on (line ∷ []) ≡ []
   none_on line h = rw h refl
 
@@ -206,7 +194,7 @@ module _ (top : ℕ) where
       ≡ rule_in_force (header ∷ lines)
   rule_same header lines line h =
       ap (last_or default_rule) (filter_map-append rule_on lines (line ∷ []) ∙ ap (λ (t : List Rule). filter_map rule_on lines ++ t) (none_on line h)
-      ∙ append_no_rule (filter_map rule_on lines))
+      ∙ append-nil (filter_map rule_on lines))
 
   taken : {X : Type 0} (v : Bool) (o : Option X) (x : X) → cond v o None ≡ Some x → (v ≡ true) × (o ≡ Some x)
   taken true o x h = (refl, h)

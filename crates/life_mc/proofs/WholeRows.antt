@@ -14,9 +14,6 @@ use Rattle.life_mc.proofs.TestFacts.{weigh, at_most_one}
 
 -- ---- marks of bytes
 
-abbrev is_other : ℕ → Bool
-is_other b = not (is_cell b)
-
 one_of : (b : ℕ) → cond (b == 42) 1 0 + cond (b == 46) 1 0 ≡ cond (is_cell b) 1 0
 one_of b = grind (arith, nat_tests)
 
@@ -224,11 +221,6 @@ shorter : (k : ℕ) (text : List ℕ) → length (take k text) ≤ k
 shorter zero text = omega arith
 shorter (suc k) [] = omega arith
 shorter (suc k) (b ∷ text) = omega (arith, shorter k text)
-
-pub as_long : (k : ℕ) (text : List ℕ) → k ≤ length text → length (take k text) ≡ k
-as_long zero text h = refl
-as_long (suc k) [] h = absurd (omega (arith, h))
-as_long (suc k) (b ∷ text) h = omega (arith, as_long k text (omega (arith, h)))
 
 -- and it is one of a leaf
 pub front_is_row : (text : List ℕ) → is_row (take (front_cells 8 text) text) ≡ true

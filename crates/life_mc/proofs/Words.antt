@@ -33,7 +33,7 @@ digits text = prefix_len is_ascii_digit text
 abbrev pub behind : List ℕ → List ℕ
 behind text = drop (digits text) text
 
-digit_no_space : (b : ℕ) → is_ascii_digit b ≡ true → is_whitespace b ≡ false
+pub digit_no_space : (b : ℕ) → is_ascii_digit b ≡ true → is_whitespace b ≡ false
 digit_no_space b h = grind (arith, nat_tests)
 
 whole_step : (v : Bool) (b : ℕ) (text : List ℕ) → is_ascii_digit b ≡ v → (is_blank (take 1 (behind text)) ≡ true → ends text ≡ digits text)
@@ -92,12 +92,12 @@ digits_end text h e =
 abbrev fives : Bool → List (List ℕ) → Option Line
 fives v words = cond v (quad_of (map (λ word. capped (value_of word)) words)) None
 
+either : (v : Bool) → (let o : Option Line = None in cond v o None) ≡ None
+either true = refl
+either false = refl
+
 no_five : (a b c d : List ℕ) (rest : List (List ℕ)) → begins_with_number rest ≡ false → quad_words (a ∷ b ∷ c ∷ d ∷ rest) ≡ None
 no_five a b c d [] h = either (list_all is_digit_text (a ∷ b ∷ c ∷ d ∷ []))
-  where
-    either : (v : Bool) → fives v (a ∷ b ∷ c ∷ d ∷ []) ≡ None
-    either true = refl
-    either false = refl
 no_five a b c d (e ∷ rest) h = ap (λ v. fives v (a ∷ b ∷ c ∷ d ∷ e ∷ rest))
     (all_false (is_digit_text a) (is_digit_text b) (is_digit_text c) (is_digit_text d) (is_digit_text e) (list_all is_digit_text rest) h)
   where
@@ -112,10 +112,6 @@ no_five a b c d (e ∷ rest) h = ap (λ v. fives v (a ∷ b ∷ c ∷ d ∷ e �
 more_than_five : (a b c d e : List ℕ) (rest : List (List ℕ)) → is_empty rest ≡ false → quad_words (a ∷ b ∷ c ∷ d ∷ e ∷ rest) ≡ None
 more_than_five a b c d e [] h = cc
 more_than_five a b c d e (f ∷ rest) h = either (list_all is_digit_text (a ∷ b ∷ c ∷ d ∷ e ∷ f ∷ rest))
-  where
-    either : (v : Bool) → fives v (a ∷ b ∷ c ∷ d ∷ e ∷ f ∷ rest) ≡ None
-    either true = refl
-    either false = refl
 
 abbrev pub all_five : List ℕ → List ℕ → List ℕ → List ℕ → List ℕ → Option Line
 all_five a b c d e = Some (Quad (capped (value_of a)) (capped (value_of b)) (capped (value_of c)) (capped (value_of d)) (capped (value_of e)))

@@ -2,6 +2,7 @@
 use Rattle.std.proofs.Common.{◌≡◌, ℕ, ◌+◌, ◌^◌, Bool, true, false, cond, ◌&&◌, List, [], ◌∷◌, ◌++◌, drop, refl, sym, ap, ◌∙◌, subst, inl, inr, Some, None, Ok, Err, Option, Result, ℤ, pos, neg_ℤ, ◌+ℤ◌, ◌≤ℤ◌, ◌<ℤ◌, arith, codes, eqb, leb, not, ◌-◌}
 use Rattle.std.proofs.lemmas.List.{append-nil}
 use Rattle.std.proofs.lemmas.Int.{ints}
+use Rattle.std.proofs.lemmas.Bool.{and_parts}
 use Rattle.std.specs.List.{before_first, after_first}
 use Rattle.life_rle.specs.declared.lines.Phase.TheVariants as phases
 use Rattle.life_base.specs.declared.kind.Kind.{Kind}
@@ -30,16 +31,10 @@ use Rattle.life_rle.specs.Reading.{IsRead, ItemsBreak, no_item, bad_item}
 use Rattle.life_rle.proofs.Progress.{with_items, with_items-nil, placed_behind-append, IsPreamble-push, IsUnmarked-push, IsMarked-begun, IsMarked-push, header-IsUnmarked, passed-IsUnmarked}
 use Rattle.life_rle.proofs.Unique.{IsRle-unique, with_items-twice}
 use Rattle.life_rle.proofs.Refusal.{IsPreamble-refused}
-use Rattle.life_rle.proofs.Places.{rows_in-Cells, rows_in-RowEnds, columns_in-Cells, columns_in-RowEnds}
+use Rattle.life_rle.proofs.Places.{rows_in-Cells, rows_in-RowEnds, columns_in-Cells, columns_in-RowEnds, plus_none, regroup}
 use Rattle.life_rle.proofs.ReadItems.{runs_of-append}
 use Rattle.life_rle.proofs.ShortKinds.{is_short_kind}
 use Rattle.life_rle.proofs.PlaneLemmas.{zero-coordinate}
-
-regroup : (z : ℤ) (a b : ℕ) → z +ℤ pos (a + b) ≡ (z +ℤ pos a) +ℤ pos b
-regroup z a b = omega (arith, ints)
-
-plus_none : (z : ℤ) → z +ℤ pos 0 ≡ z
-plus_none z = omega (arith, ints)
 
 -- the cursor follows an item
 IsBehind-moved : (c : Cursor) (file : Rle) (item : Item) → IsBehind c file → IsBehind (moved c item) (with_items file (item ∷ []))
@@ -102,17 +97,13 @@ IsPlaneField level (Ok (Generation n)) = Unit {0}
 IsPlaneField level (Ok Other) = Unit {0}
 IsPlaneField level (Err kind) = is_short_kind kind ≡ true
 
-and_both : (a b : Bool) → (a && b) ≡ true → (a ≡ true) × (b ≡ true)
-and_both true b e = (refl, e)
-and_both false b e = cc
-
 corner_of-plane : (level : ℕ) (a b : Option ℤ) → IsPlaneField level (corner_of level a b)
 corner_of-plane level None b = refl
 corner_of-plane level (Some x) None = refl
 corner_of-plane level (Some x) (Some y) =
     elim (is_coordinate level x && is_coordinate level y)
     as (λ t. (is_coordinate level x && is_coordinate level y) ≡ t → IsPlaneField level (cond t (Ok (Corner x y)) (Err OutOfPlane)))
-    [ true ↦ λ e. and_both (is_coordinate level x) (is_coordinate level y) e | false ↦ λ _. refl ] refl
+    [ true ↦ λ e. and_parts (is_coordinate level x) (is_coordinate level y) e | false ↦ λ _. refl ] refl
 
 generation-plane : (level n : ℕ) (digits fits : Bool)
     → IsPlaneField level (and_then (cond (not digits) (Err BadNumber) (cond fits (Ok n) (Err TooLarge))) (λ n. Ok (Generation n)))

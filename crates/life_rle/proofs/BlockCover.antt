@@ -2,7 +2,7 @@
 use Rattle.std.proofs.Common.{◌≡◌, ◌≢◌, ℕ, zero, suc, ◌+◌, ◌*◌, ◌-◌, ◌/◌, ◌<◌, ◌≤◌, Bool, true, false, List, [], ◌∷◌, ◌++◌, refl, ap, sym, ◌∙◌, subst, arith, ◌⊎◌, inl, inr}
 use Rattle.std.specs.Prelude.{nat_le, nat_lt, ◌&&◌, ◌==◌, if◌then◌else◌}
 use Rattle.std.proofs.lemmas.Bool.Decides.{nat_tests}
-use Rattle.std.proofs.lemmas.Bool.{cases_lt, cases_eq}
+use Rattle.std.proofs.lemmas.Bool.{cases_lt, cases_eq, cases_Bool}
 use Rattle.std.proofs.lemmas.Nat.{div-mul-add}
 use Rattle.life_rle.specs.declared.item.Item.{Item}
 use Rattle.life_rle.specs.declared.item.Item.TheVariants.{Cells, RowEnds}
@@ -10,10 +10,6 @@ use Rattle.life_rle.proofs.BlockItems.{after_cells, after_rows, places_from, pla
 use Rattle.life_rle.proofs.BlockPlaces.{Step, stays, next, far, step, cells-large, cells-paid}
 
 -- ---- lists
-
-pub bool_cases : (b : Bool) → (b ≡ true) ⊎ (b ≡ false)
-bool_cases true = inl refl
-bool_cases false = inr refl
 
 pub among-left : {A : Type 0} (xs ys : List A) (a : A) → Among xs a → Among (xs ++ ys) a
 among-left [] ys a h = absurd h
@@ -237,7 +233,7 @@ module _ (m left : ℕ) (h : 0 < m) (column row : ℕ) where
       → (t : ℕ) × Visits m left x y items (row / m) t × (column / m ≤ t)
   east x y [] some = absurd (some refl)
   east x y (RowEnds count ∷ items) some = let rest = east left (y + count) items some in (rest.0, inr rest.1, rest.2)
-  east x y (Cells count state ∷ items) some = elim (bool_cases (row == y && (nat_le x column && nat_lt column (x + count)))) [
+  east x y (Cells count state ∷ items) some = elim (cases_Bool (row == y && (nat_le x column && nat_lt column (x + count)))) [
     | inl e ↦
         let same : row ≡ y = grind (arith, nat_tests, e) in
         let below : column < x + count = grind (arith, nat_tests, e) in (
@@ -254,7 +250,7 @@ module _ (m left : ℕ) (h : 0 < m) (column row : ℕ) where
   pub from_left : (x y : ℕ) (items : List Item) → left ≤ x → (state_from left x y items column row ≡ 0 → ⊥) → left ≤ column
   from_left x y [] le some = absurd (some refl)
   from_left x y (RowEnds count ∷ items) le some = from_left left (y + count) items (omega arith) some
-  from_left x y (Cells count state ∷ items) le some = elim (bool_cases (row == y && (nat_le x column && nat_lt column (x + count)))) [
+  from_left x y (Cells count state ∷ items) le some = elim (cases_Bool (row == y && (nat_le x column && nat_lt column (x + count)))) [
     | inl e ↦ let above : x ≤ column = grind (arith, nat_tests, e) in omega (arith, above, le)
     | inr e ↦
         from_left (x + count) y items (omega (arith, le)) (λ z. some (ap (λ b. if b then state else state_from left (x + count) y items column row) e ∙ z))

@@ -1,6 +1,6 @@
 -- The longest front of lines that breaks no rule has all runs that any front of them has.
 use Rattle.std.proofs.Common.{◌≡◌, ℕ, ◌+◌, ◌*◌, ◌≤◌, List, [], ◌∷◌, ◌++◌, length, refl, sym, ap, ◌∙◌, subst, inl, inr, ◌⊎◌, append_assoc, length-append, arith, ℤ}
-use Rattle.std.proofs.lemmas.List.{append-nil}
+use Rattle.std.proofs.lemmas.List.{append-nil, nil_from_length}
 use Rattle.life_base.specs.Lines.{joined}
 use Rattle.life_base.specs.Rules.{default_rule}
 use Rattle.life_base.specs.declared.cell.Run.{Run}
@@ -214,10 +214,6 @@ fronts-blocks top lines front behind (Begun file) e s g most whole = of-file top
 fronts-blocks top lines front behind (Ended file) e s g most whole = of-file top lines front behind file e (inr s) most whole
 fronts-blocks top lines front behind (Refused kind) e s g most whole = absurd g
 
-no-lines : (more : Lines) → length more ≡ 0 → more ≡ []
-no-lines [] h = refl
-no-lines (line ∷ more) h = absurd (omega (arith, h))
-
 -- of a file it is all lines
 whole-runs : (level : ℕ) (lines : Lines) (l : Longest level lines) (file : Rle) → IsRle level lines file
     → runs_in (progress level start l.front) ≡ runs_of (placed file)
@@ -226,7 +222,7 @@ whole-runs level lines l file h =
     let m = l.most lines [] (sym (append-nil lines)) has.0 in
     let a = ap (λ (ls : Lines). length ls) m.1 ∙ length-append lines m.0 in
     let b = ap (λ (ls : Lines). length ls) l.whole ∙ length-append l.front l.behind in
-    let none : m.0 ≡ [] = no-lines m.0 (omega (arith, a, b)) in
+    let none : m.0 ≡ [] = nil_from_length m.0 (omega (arith, a, b)) in
     let all : l.front ≡ lines = m.1 ∙ ap (λ (ls : Lines). lines ++ ls) none ∙ append-nil lines in
     ap (λ (ls : Lines). runs_in (progress level start ls)) all ∙ sym has.1
 

@@ -5,6 +5,7 @@ use Rattle.std.specs.Ordering.{int_eq}
 use Rattle.std.proofs.lemmas.Bool.Decides.{nat_tests}
 use Rattle.std.proofs.lemmas.Int.{ints}
 use Rattle.std.proofs.lemmas.Nat.{pow_pos}
+use Rattle.std.proofs.lemmas.Bool.{cases_Bool}
 use Rattle.std.proofs.Math.Nat.{le_of_mul-le-mul_right}
 use Rattle.life_base.specs.Lines.{joined}
 use Rattle.life_rle.specs.declared.item.Item.{Item}
@@ -16,26 +17,26 @@ use Rattle.life_rle.proofs.BlockItems.{places, block_at, all_blocks, state_from,
 use Rattle.life_rle.proofs.Places.{placed_from}
 use Rattle.life_rle.proofs.RunsLaws.{placed-from, IsRle-plane, low-side}
 use Rattle.life_rle.proofs.BlockSums.{all-few}
-use Rattle.life_rle.proofs.BlockCover.{cover, among-left, among-right, bool_cases}
+use Rattle.life_rle.proofs.BlockCover.{cover, among-left, among-right}
 use Rattle.life_rle.proofs.BlockBytes.{file-pays}
 
 -- ---- the cells of a file, counted from the corner of the plane
 
 module _ (e : ℤ) where
   row-same : (r y : ℕ) → int_eq (pos r -ℤ e) (pos y -ℤ e) ≡ (r == y)
-  row-same r y = elim (bool_cases (r == y)) [
+  row-same r y = elim (cases_Bool (r == y)) [
     | inl h ↦ let f : int_eq (pos r -ℤ e) (pos y -ℤ e) ≡ true = grind (arith, ints, nat_tests, h) in f ∙ sym h
     | inr h ↦ let f : int_eq (pos r -ℤ e) (pos y -ℤ e) ≡ false = grind (arith, ints, nat_tests, h) in f ∙ sym h
   ]
 
   from-same : (x c : ℕ) → int_le (pos x -ℤ e) (pos c -ℤ e) ≡ nat_le x c
-  from-same x c = elim (bool_cases (nat_le x c)) [
+  from-same x c = elim (cases_Bool (nat_le x c)) [
     | inl h ↦ let f : int_le (pos x -ℤ e) (pos c -ℤ e) ≡ true = grind (arith, ints, nat_tests, h) in f ∙ sym h
     | inr h ↦ let f : int_le (pos x -ℤ e) (pos c -ℤ e) ≡ false = grind (arith, ints, nat_tests, h) in f ∙ sym h
   ]
 
   to-same : (x n c : ℕ) → int_lt (pos c -ℤ e) ((pos x -ℤ e) +ℤ pos n) ≡ nat_lt c (x + n)
-  to-same x n c = elim (bool_cases (nat_lt c (x + n))) [
+  to-same x n c = elim (cases_Bool (nat_lt c (x + n))) [
     | inl h ↦ let f : int_lt (pos c -ℤ e) ((pos x -ℤ e) +ℤ pos n) ≡ true = grind (arith, ints, nat_tests, h) in f ∙ sym h
     | inr h ↦ let f : int_lt (pos c -ℤ e) ((pos x -ℤ e) +ℤ pos n) ≡ false = grind (arith, ints, nat_tests, h) in f ∙ sym h
   ]

@@ -9,6 +9,7 @@ use Rattle.life_rle.specs.declared.item.Item.{Item}
 use Rattle.life_rle.specs.declared.item.Item.TheVariants.{Cells, RowEnds}
 use Rattle.life_rle.proofs.BlockItems.{weight}
 use Rattle.life_rle.proofs.BlockItems.{after_cells, after_rows, places_from, places, weigh, saved}
+use Rattle.life_rle.proofs.BlockWeights.{weight-small}
 
 -- how a step leads from square to square
 pub data Step (m x c : ℕ) : Type 0 where
@@ -54,9 +55,6 @@ saved-some m left x h = let e : nat_lt (left / m) (x / m) ≡ true = grind (arit
 
 weight-large : (m c : ℕ) → m ≤ c → weight m c ≡ 4 * m
 weight-large m c h = let e : nat_le m c ≡ true = grind (arith, nat_tests, h) in rw e refl
-
-weight-small : (m c : ℕ) → c < m → weight m c ≡ 2 * c
-weight-small m c h = let e : nat_le m c ≡ false = grind (arith, nat_tests, h) in rw e refl
 
 pub cells-large : (m left x y c : ℕ) → m ≤ c → after_cells m left x y c ≡ (y / m, (x + c) / m - 1) ∷ (y / m, (x + c) / m) ∷ []
 cells-large m left x y c h = let e : nat_le m c ≡ true = grind (arith, nat_tests, h) in rw e refl

@@ -17,7 +17,7 @@ weight-most side count = by (nat_le side count) refl
     by true e = rw e (omega arith)
     by false e = let h : count < side = grind (arith, nat_tests, e) in rw e (omega (arith, h))
 
-weight-small : (side count : ℕ) → count < side → weight side count ≡ 2 * count
+pub weight-small : (side count : ℕ) → count < side → weight side count ≡ 2 * count
 weight-small side count h = let e : nat_le side count ≡ false = grind (arith, nat_tests, h) in rw e refl
 
 -- every item, however large

@@ -15,7 +15,7 @@ use Rattle.life_rle.specs.States.{is_state_of}
 use Rattle.life_rle.specs.Written.{with_gap, with_cells, items_from}
 use Rattle.life_rle.specs.Sorted.{state_in}
 use Rattle.life_rle.specs.Writing.{IsGoodCell, Follow}
-use Rattle.life_rle.proofs.Places.{placed_from}
+use Rattle.life_rle.proofs.Places.{placed_from, cond_zero}
 use Rattle.life_base.specs.declared.cell.TheConstants.{MAX_LEVEL}
 
 -- the state of a pair from items from a place on
@@ -85,10 +85,6 @@ AreGood-behind rule left column row (Cells n s ∷ items) x y g (inr h) =
     ∙ AreGood-behind rule left (column +ℤ pos n) row items x y g.5 (inr (h.0, less))
 AreGood-behind rule left column row (RowEnds n ∷ items) x y g (inl h) = AreGood-behind rule left left (row +ℤ pos n) items x y g.3 (inl (omega (arith, ints)))
 AreGood-behind rule left column row (RowEnds n ∷ items) x y g (inr h) = AreGood-behind rule left left (row +ℤ pos n) items x y g.3 (inl (omega (arith, ints)))
-
-cond_zero : (p : Bool) (n : ℕ) → (p ≡ true → n ≡ 0) → cond p 0 n ≡ n
-cond_zero true n h = sym (h refl)
-cond_zero false n h = refl
 
 -- dead cells in front of items change no state
 with_gap-state : (rule : Rule) (left column row : ℤ) (n : ℕ) (items : List Item) (x y : ℤ) → AreGood rule left (column +ℤ pos n) row items

@@ -1,6 +1,7 @@
 -- The fields of a position line.
 use Rattle.std.proofs.Common.{◌≡◌, ℕ, ◌&&◌, Bool, true, false, cond, List, [], ◌∷◌, length, drop, refl, sym, ap, ◌∙◌, Some, None, Ok, Err, Option, Result, ℤ, codes}
 use Rattle.std.specs.Prelude.{◌==◌}
+use mathlib.Core.Bool.{and-false}
 use Rattle.life_base.specs.declared.kind.Kind.{Kind}
 use Rattle.life_base.specs.declared.kind.Kind.TheVariants.{BadNumber, OutOfPlane}
 use Rattle.life_base.specs.Text.{begins_with, with_word}
@@ -9,10 +10,6 @@ use Rattle.life_rle.specs.declared.position.Position.{Position}
 use Rattle.life_rle.specs.Plane.{is_coordinate}
 use Rattle.life_rle.specs.Reading.{IsNumberRead}
 use Rattle.life_rle.specs.Position.{Field, Corner, Generation, Other, corner_of, corner_in, field_of, with_field, and_then, position_with}
-
-and_no : (b : Bool) → (b && false) ≡ false
-and_no true = refl
-and_no false = refl
 
 pub corner-no_second : (level : ℕ) (z : ℤ) (sx sy : Option ℤ) (f : Field → Result Position Kind) → IsNumberRead level (Some z) sx → IsNumberRead level None sy
     → and_then (corner_of level sx sy) f ≡ Err BadNumber
@@ -44,7 +41,7 @@ corner-left level x y sx sy f h k e = corner-out level x y sx sy f h k (ap (λ t
 
 pub corner-right : (level : ℕ) (x y : ℤ) (sx sy : Option ℤ) (f : Field → Result Position Kind) → IsNumberRead level (Some x) sx → IsNumberRead level (Some y) sy
     → is_coordinate level y ≡ false → and_then (corner_of level sx sy) f ≡ Err OutOfPlane
-corner-right level x y sx sy f h k e = corner-out level x y sx sy f h k (ap (λ t. is_coordinate level x && t) e ∙ and_no (is_coordinate level x))
+corner-right level x y sx sy f h k e = corner-out level x y sx sy f h k (ap (λ t. is_coordinate level x && t) e ∙ and-false (is_coordinate level x))
 
 -- the choice between fields
 abbrev chosen : ℕ → List ℕ → (Field → Result Position Kind) → Bool → Bool → Result Position Kind

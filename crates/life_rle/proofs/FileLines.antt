@@ -1,9 +1,10 @@
 -- What is written on lines is read on lines.
-use Rattle.std.proofs.Common.{◌≡◌, ℕ, ◌+◌, ◌-◌, ◌/◌, ◌%◌, ◌^◌, decimal, ◌≤◌, ◌&&◌, ◌||◌, ◌⊎◌, codes, take, drop, Err, Result, inl, inr, Bool, true, false, cond, List, [], ◌∷◌, ◌++◌, length, map, refl, sym, ap, ◌∙◌, subst, Ok, None, arith, append_assoc, eqb, ltb, leb}
+use Rattle.std.proofs.Common.{◌≡◌, ℕ, ◌+◌, ◌-◌, ◌/◌, ◌%◌, ◌^◌, decimal, ◌≤◌, ◌||◌, ◌⊎◌, codes, take, drop, Err, Result, inl, inr, Bool, true, false, cond, List, [], ◌∷◌, ◌++◌, length, map, refl, sym, ap, ◌∙◌, subst, Ok, None, arith, append_assoc, eqb, ltb, leb}
 use Rattle.std.proofs.lemmas.Bool.Decides.{nat_tests}
 use Rattle.std.proofs.lemmas.List.{append-nil, length-append}
 use Rattle.std.specs.List.{list_all}
 use Rattle.std.proofs.lemmas.Fmt.{length-decimal-le}
+use Rattle.std.proofs.lemmas.Bool.{and_parts, and_left, and_right, or_from}
 use Rattle.life_base.specs.declared.kind.Kind.{Kind}
 use Rattle.life_base.specs.declared.kind.Kind.TheVariants.{LineTooLong, LateHeader, SecondHeader}
 use Rattle.life_base.specs.declared.rule.Rule.{Rule}
@@ -24,7 +25,7 @@ use Rattle.life_rle.specs.Written.{wrapped, item_text, count_text}
 use Rattle.life_rle.specs.Laws.{StatesReadBack}
 use Rattle.life_rle.proofs.Progress.{with_items, with_items-nil, IsUnmarked-push, IsMarked-begun}
 use Rattle.life_rle.proofs.Unique.{fault-parts, with_items-twice}
-use Rattle.life_rle.proofs.Texts.{IsWritten, item_text-Spelled, digit-plain, decimal-is_digit_text, both_true}
+use Rattle.life_rle.proofs.Texts.{IsWritten, item_text-Spelled, digit-plain, decimal-is_digit_text}
 use Rattle.life_base.specs.declared.cell.TheConstants.{MAX_LEVEL}
 use Rattle.life_rle.specs.Plane.{most_count}
 
@@ -69,31 +70,21 @@ choice-items long blank position comment header a b c d e =
     ap (λ t. choice t blank position comment header) a ∙ ap (λ t. choice false t position comment header) b ∙ ap (λ t. choice false false t comment header) c
     ∙ ap (λ t. choice false false false t header) d ∙ ap (λ t. choice false false false false t) e
 
-false_and : (a b : Bool) → a ≡ false → (a && b) ≡ false
-false_and a b h = ap (λ t. t && b) h
-
-and_false : (a b : Bool) → b ≡ false → (a && b) ≡ false
-and_false true b h = h
-and_false false b h = refl
-
 -- another first byte, and another second byte
 begins_other : (b w : ℕ) (line word : List ℕ) → eqb b w ≡ false → begins_with (b ∷ line) (w ∷ word) ≡ false
-begins_other b w line word h = false_and (eqb b w) (bytes_eq (take (length word) line) word) h
+begins_other b w line word h = and_left (eqb b w) (bytes_eq (take (length word) line) word) h
 
 begins_second : (b c v w : ℕ) (line word : List ℕ) → eqb c w ≡ false → begins_with (b ∷ c ∷ line) (v ∷ w ∷ word) ≡ false
-begins_second b c v w line word h = and_false (eqb b v) (begins_with (c ∷ line) (w ∷ word)) (begins_other c w line word h)
-
-neither : (a b : Bool) → a ≡ false → b ≡ false → (a || b) ≡ false
-neither a b h k = ap (λ t. t || b) h ∙ k
+begins_second b c v w line word h = and_right (eqb b v) (begins_with (c ∷ line) (w ∷ word)) (begins_other c w line word h)
 
 -- no second header
 no_second : (b c : ℕ) (rest : List ℕ) → ((eqb b 120 ≡ false) ⊎ ((eqb c 32 ≡ false) × (eqb c 61 ≡ false)))
     → (begins_with (b ∷ c ∷ rest) (codes "x ") || begins_with (b ∷ c ∷ rest) (codes "x=")) ≡ false
-no_second b c rest (inl e) = neither _ _ (begins_other b 120 (c ∷ rest) (32 ∷ []) e) (begins_other b 120 (c ∷ rest) (61 ∷ []) e)
-no_second b c rest (inr e) = neither _ _ (begins_second b c 120 32 rest [] e.0) (begins_second b c 120 61 rest [] e.1)
+no_second b c rest (inl e) = or_from _ _ (begins_other b 120 (c ∷ rest) (32 ∷ []) e) (begins_other b 120 (c ∷ rest) (61 ∷ []) e)
+no_second b c rest (inr e) = or_from _ _ (begins_second b c 120 32 rest [] e.0) (begins_second b c 120 61 rest [] e.1)
 
 no_position : (b : ℕ) (line : List ℕ) → eqb b 35 ≡ false → is_position_line (b ∷ line) ≡ false
-no_position b line h = false_and (begins_with (b ∷ line) (codes "#CXRLE")) (is_blank (take 1 (drop 6 (b ∷ line)))) (begins_other b 35 line (codes "CXRLE") h)
+no_position b line h = and_left (begins_with (b ∷ line) (codes "#CXRLE")) (is_blank (take 1 (drop 6 (b ∷ line)))) (begins_other b 35 line (codes "CXRLE") h)
 
 -- such a line of at most 70 bytes is a line of items
 later_of-items : (line : List ℕ) → BeginsAsItem line → length line ≤ 70 → later_of line ≡ Ok Data
@@ -101,14 +92,14 @@ later_of-items [] h s = absurd h
 later_of-items (b ∷ []) h s =
     choice-items false (is_blank (b ∷ [])) (is_position_line (b ∷ [])) (begins_with (b ∷ []) (codes "#"))
     (begins_with (b ∷ []) (codes "x ") || begins_with (b ∷ []) (codes "x="))
-    refl (false_and (is_whitespace b) true h.0) (no_position b [] h.1) (begins_other b 35 [] [] h.1)
-    (neither _ _ (begins_other b 120 [] (32 ∷ []) h.2) (begins_other b 120 [] (61 ∷ []) h.2))
+    refl (and_left (is_whitespace b) true h.0) (no_position b [] h.1) (begins_other b 35 [] [] h.1)
+    (or_from _ _ (begins_other b 120 [] (32 ∷ []) h.2) (begins_other b 120 [] (61 ∷ []) h.2))
 later_of-items (b ∷ c ∷ rest) h s =
     let line = b ∷ c ∷ rest in
     let short : ltb (2 ^ 20) (length line) ≡ false = grind (arith, nat_tests) in
     choice-items (ltb (2 ^ 20) (length line)) (is_blank line) (is_position_line line) (begins_with line (codes "#"))
     (begins_with line (codes "x ") || begins_with line (codes "x="))
-    short (false_and (is_whitespace b) (is_blank (c ∷ rest)) h.0) (no_position b (c ∷ rest) h.1) (begins_other b 35 (c ∷ rest) [] h.1) (no_second b c rest h.2)
+    short (and_left (is_whitespace b) (is_blank (c ∷ rest)) h.0) (no_position b (c ∷ rest) h.1) (begins_other b 35 (c ∷ rest) [] h.1) (no_second b c rest h.2)
 
 -- items that can be written
 abbrev pub AreWritten : Rule → List Item → Type 0
@@ -121,7 +112,7 @@ BeginsAsItem-digit d (c ∷ rest) h = ((digit-plain d h).0, grind (arith, nat_te
 
 BeginsAsItem-digits : (digits tag : List ℕ) → is_digit_text digits ≡ true → BeginsAsItem (digits ++ tag)
 BeginsAsItem-digits [] tag h = cc
-BeginsAsItem-digits (d ∷ digits) tag h = BeginsAsItem-digit d (digits ++ tag) (both_true (is_ascii_digit d) (list_all is_ascii_digit digits) h).0
+BeginsAsItem-digits (d ∷ digits) tag h = BeginsAsItem-digit d (digits ++ tag) (and_parts (is_ascii_digit d) (list_all is_ascii_digit digits) h).0
 
 BeginsAsItem-count : (n : ℕ) (tag : List ℕ) → n ≤ most_count MAX_LEVEL → BeginsAsItem tag → BeginsAsItem (count_text n ++ tag)
 BeginsAsItem-count n tag high h =

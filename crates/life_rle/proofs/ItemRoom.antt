@@ -1,7 +1,7 @@
 -- Texts at the end of an item's room.
 use Rattle.std.proofs.Common.{◌≡◌, ℕ, ◌≤◌, ◌<◌, ◌^◌, List, [], ◌∷◌, drop, length, decimal, refl, ap, ◌∙◌, arith}
 use Rattle.std.specs.Prelude.{slice_set}
-use Rattle.std.proofs.lemmas.List.{drop-set, drop-set-add, length-drop}
+use Rattle.std.proofs.lemmas.List.{drop-set, drop-set-add, length-drop, nil_from_length}
 use Rattle.std.proofs.lemmas.Fmt.{length-decimal-le}
 
 last-one : (ys : List ℕ) (a b : ℕ) → length ys ≡ 1 → slice_set (a ∷ ys) 1 b ≡ a ∷ b ∷ []
@@ -9,15 +9,11 @@ last-one [] a b h = absurd (omega (arith, h))
 last-one (y ∷ []) a b h = refl
 last-one (y ∷ z ∷ ys) a b h = absurd (omega (arith, h))
 
-none-left : (ys : List ℕ) → length ys ≡ 0 → ys ≡ []
-none-left [] h = refl
-none-left (y ∷ ys) h = absurd (omega (arith, h))
-
 -- one byte
 pub room-byte : (room : List ℕ) (byte : ℕ) → length room ≡ 23 → drop 22 (slice_set room 22 byte) ≡ byte ∷ []
 room-byte room byte h =
     let size = length-drop 23 room in
-    drop-set room 22 byte (omega (arith, h)) ∙ ap (λ ys. byte ∷ ys) (none-left (drop 23 room) (omega (arith, h, size)))
+    drop-set room 22 byte (omega (arith, h)) ∙ ap (λ ys. byte ∷ ys) (nil_from_length (drop 23 room) (omega (arith, h, size)))
 
 -- two bytes
 pub room-pair : (room : List ℕ) (a b : ℕ) → length room ≡ 23 → drop 21 (slice_set (slice_set room 21 a) 22 b) ≡ a ∷ b ∷ []

@@ -11,7 +11,8 @@ use Rattle.life_rle.specs.Plane.{edge, is_coordinate}
 use Rattle.life_rle.specs.Pattern.{Placed, placed, covers, item_state, cell_among}
 use Rattle.life_rle.specs.ItemsLaw.{ItemsAreCells}
 use Rattle.life_rle.proofs.Places.{placed_from}
-use Rattle.life_rle.proofs.RunsLaws.{Good, file-Good, placed-from, IsRle-plane, low-side, further}
+use Rattle.life_rle.proofs.RunsLaws.{Good, file-Good, placed-from, IsRle-plane, low-side}
+use Rattle.life_rle.proofs.RowLimits.{further}
 
 -- the pair doesn't stand before a place
 abbrev NotBefore : ℤ → ℤ → ℤ → ℤ → Type 0

@@ -4,6 +4,7 @@ use Rattle.std.specs.Prelude.{nat_abs}
 use Rattle.std.specs.Ordering.{int_eq}
 use Rattle.std.proofs.lemmas.Int.{ints}
 use Rattle.std.proofs.lemmas.Bool.Decides.{nat_tests}
+use Rattle.std.proofs.lemmas.Bool.{and_parts, eqb-false}
 use Rattle.life_base.specs.declared.cell.Cell.{Cell}
 use Rattle.life_base.specs.declared.rule.Rule.{Rule}
 use Rattle.life_rle.specs.declared.item.Item.{Item}
@@ -14,7 +15,6 @@ use Rattle.life_rle.specs.States.{is_state_of}
 use Rattle.life_rle.specs.Written.{with_gap, with_cells, items_from, items_of, box_of}
 use Rattle.life_rle.specs.Sorted.{is_live_cell, rises, are_sorted_cells}
 use Rattle.life_rle.specs.LongestRuns.{IsLive, MayFollow, AreLongest, RunsAreLongest}
-use Rattle.life_rle.proofs.Texts.{both_true}
 
 -- ---- item by item
 
@@ -66,9 +66,6 @@ longer count more state (RowEnds n ∷ items) h c = (h, c.1, c.2)
 same-state : (a b : ℕ) → eqb a b ≡ true → b ≡ a
 same-state a b e = grind (arith, nat_tests)
 
-other-state : (a b : ℕ) → eqb a b ≡ false → a ≡ b → ⊥
-other-state a b e = grind (arith, nat_tests)
-
 with_cell-begins : (state : ℕ) (items : List Item) → 1 ≤ state → Chain items → BeginsAs state (with_cells 1 state items)
 with_cell-begins state [] live c = ((omega arith, live), refl)
 with_cell-begins state (RowEnds n ∷ items) live c = ((omega arith, live, c), refl)
@@ -78,7 +75,7 @@ with_cell-begins state (Cells n other ∷ items) live c = by (eqb state other) r
     by true e =
         let P : ℕ → Type 0 = λ s. Chain (Cells n s ∷ items) in
         (longer n (1 + n) state items (omega arith) (subst P (same-state state other e) c), refl)
-    by false e = ((omega arith, other-state state other e, c), refl)
+    by false e = ((omega arith, eqb-false state other e, c), refl)
 
 -- dead cells in front of live ones
 gap-chain : (gap state : ℕ) (items : List Item) → 1 ≤ state → BeginsAs state items → Chain (with_gap gap items)
@@ -118,16 +115,16 @@ items-chain left x y (c ∷ cells) l =
 
 live-state : (level : ℕ) (rule : Rule) (c : Cell) → is_live_cell level rule c ≡ true → 1 ≤ c.state
 live-state level rule c h =
-    let parts = both_true (is_coordinate level c.x && is_coordinate level c.y) (ltb 0 c.state && is_state_of rule c.state) h in
-    let some = (both_true (ltb 0 c.state) (is_state_of rule c.state) parts.1).0 in
+    let parts = and_parts (is_coordinate level c.x && is_coordinate level c.y) (ltb 0 c.state && is_state_of rule c.state) h in
+    let some = (and_parts (ltb 0 c.state) (is_state_of rule c.state) parts.1).0 in
     grind (arith, nat_tests)
 
 sorted-live : (level : ℕ) (rule : Rule) (cells : List Cell) → are_sorted_cells level rule cells ≡ true → AreLive cells
 sorted-live level rule [] h = tt
 sorted-live level rule (c ∷ []) h = (live-state level rule c h, tt)
 sorted-live level rule (c ∷ d ∷ cells) h =
-    let parts = both_true (is_live_cell level rule c && rises c d) (are_sorted_cells level rule (d ∷ cells)) h in
-    let first = both_true (is_live_cell level rule c) (rises c d) parts.0 in
+    let parts = and_parts (is_live_cell level rule c && rises c d) (are_sorted_cells level rule (d ∷ cells)) h in
+    let first = and_parts (is_live_cell level rule c) (rises c d) parts.0 in
     (live-state level rule c first.0, sorted-live level rule (d ∷ cells) parts.1)
 
 pub runs_are_longest : RunsAreLongest

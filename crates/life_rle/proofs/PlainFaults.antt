@@ -17,6 +17,7 @@ use Rattle.life_base.proofs.FrontDigits.{list_all-front}
 use Rattle.life_rle.proofs.Texts.{Stops, front-stop, behind-stop}
 use Rattle.life_rle.proofs.PlainItems.{IsRead-text, IsTextOf-Spells, Spells-IsTextOf, state_at-text}
 use Rattle.life_rle.proofs.PlainHeader.{trim_start-HasNoIndent}
+use Rattle.life_rle.proofs.ReadBack.{digits-all}
 
 -- where no item stands a fault is found
 
@@ -90,14 +91,10 @@ item_behind-none count (b ∷ bytes) h =
     ] refl in
     ap (λ t. cond t (Spelled (RowEnds count) bytes) (cells_of count (state_at (b ∷ bytes)))) other ∙ ap (cells_of count) (no_state-None (b ∷ bytes) h)
 
-digits_of : (digits : List ℕ) → is_digit_text digits ≡ true → list_all is_ascii_digit digits ≡ true
-digits_of [] h = cc
-digits_of (d ∷ digits) h = h
-
 IsNoItem-Broken : (level : ℕ) (bytes : List ℕ) (kind : Kind) → HasItemPlace bytes → IsNoItem level bytes kind → next_of level bytes ≡ Broken kind
-IsNoItem-Broken level bytes kind place (zero_count digits rest e h s v k) = next_of-counted level digits rest bytes place e (digits_of digits h) s
+IsNoItem-Broken level bytes kind place (zero_count digits rest e h s v k) = next_of-counted level digits rest bytes place e (digits-all digits h) s
     ∙ counted-zero level digits rest h v ∙ ap Broken (sym k)
-IsNoItem-Broken level bytes kind place (large_count digits rest e h s v k) = next_of-counted level digits rest bytes place e (digits_of digits h) s
+IsNoItem-Broken level bytes kind place (large_count digits rest e h s v k) = next_of-counted level digits rest bytes place e (digits-all digits h) s
     ∙ counted-large level digits rest h v ∙ ap Broken (sym k)
 IsNoItem-Broken level bytes kind place (no_state digits rest count e c s h k) =
     next_of-counted level digits rest bytes place e (count-digits level count digits c) s ∙ counted-count level count digits rest c

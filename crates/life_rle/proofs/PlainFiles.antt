@@ -4,6 +4,8 @@ use Rattle.std.specs.Prelude.{int_lt, int_le}
 use Rattle.std.specs.List.{slice_get}
 use Rattle.std.proofs.lemmas.Int.{ints}
 use Rattle.std.proofs.lemmas.Bool.Decides.{nat_tests}
+use Rattle.std.proofs.lemmas.Bool.{and_parts}
+use Rattle.std.proofs.lemmas.Option.{same_Some}
 use Rattle.life_base.specs.declared.kind.Kind.{Kind}
 use Rattle.life_base.specs.declared.kind.Kind.TheVariants.{LineTooLong, NoHeader, LateHeader, SecondHeader, StateRange, OutOfPlane}
 use Rattle.life_base.specs.declared.rule.Rule.{Rule}
@@ -26,11 +28,11 @@ use Rattle.life_rle.specs.Pattern.{Rle, Placed, placed, item_fault, placed_fault
 use Rattle.life_rle.specs.Grammar.{opening_of, later_of, IsPreamble, LineSpells, BodySpells, IsUnmarked, IsMarked, IsRle}
 use Rattle.life_rle.specs.PlainPosition.{IsPositionText}
 use Rattle.life_rle.specs.PlainFile.{IsShort, IsComment, ArePreamble, IsRuleLine, IsData, IsBodyLine, IsLastLine, AreBody, MayStand, IsOpenFile, IsEndedFile, FilesArePlain}
-use Rattle.life_rle.proofs.Texts.{both_true}
 use Rattle.life_rle.proofs.Progress.{option_or-both, IsOpenBy-map, IsEndedBy-map}
 use Rattle.life_rle.proofs.PlainItems.{items_are_plain}
 use Rattle.life_rle.proofs.PlainHeader.{headers_are_plain}
 use Rattle.life_rle.proofs.PlainPosition.{positions_are_plain}
+use Rattle.life_rle.proofs.RowLimits.{is-on, le-true}
 
 -- ---- lengths
 
@@ -48,7 +50,7 @@ hash-first b rest h = grind (arith, nat_tests)
 position-first : (line : List ℕ) → is_position_line line ≡ true → (rest : List ℕ) × (line ≡ 35 ∷ rest)
 position-first [] h = cc
 position-first (b ∷ rest) h =
-    let front = (both_true (begins_with (b ∷ rest) (codes "#CXRLE")) (is_blank (take 1 (drop 6 (b ∷ rest)))) h).0 in
+    let front = (and_parts (begins_with (b ∷ rest) (codes "#CXRLE")) (is_blank (take 1 (drop 6 (b ∷ rest)))) h).0 in
     (rest, ap (λ c. c ∷ rest) (hash-first b rest front))
 
 no-position : (line : List ℕ) → begins_with line (codes "#") ≡ false → is_position_line line ≡ false
@@ -298,15 +300,8 @@ is-inside false row column e = cc
 inside-is : (state row column : Bool) → state ≡ true → row ≡ true → column ≡ true → cells-by state row column ≡ None
 inside-is state row column s r c = ap (λ b. cells-by b row column) s ∙ ap (λ b. cells-by true b column) r ∙ ap (cells-by true true) c
 
-is-on : (row : Bool) → cond row None (Some OutOfPlane) ≡ None → row ≡ true
-is-on true e = refl
-is-on false e = cc
-
 lt-true : (a b : ℤ) → int_lt a b ≡ true → a <ℤ b
 lt-true a b e = grind (arith, ints)
-
-le-true : (a b : ℤ) → int_le a b ≡ true → a ≤ℤ b
-le-true a b e = grind (arith, ints)
 
 true-lt : (a b : ℤ) → a <ℤ b → int_lt a b ≡ true
 true-lt a b e = grind (arith, ints)
@@ -326,16 +321,13 @@ place-item level rule row column (Cells n s) h =
     (true-le (column +ℤ pos n) (edge level) h.2)
 place-item level rule row column (RowEnds n) h = ap (λ b. cond b None (Some OutOfPlane)) (true-le (row +ℤ pos n) (edge level) h)
 
-same : (p q : Placed) → Some p ≡ Some q → p ≡ q
-same p q e = cc
-
 fault-places : (level : ℕ) (rule : Rule) (ps : List Placed) → first_fault level rule ps ≡ None → (i : ℕ) (p : Placed) → slice_get ps i ≡ Some p
     → MayStand level rule p.row p.column p.item
 fault-places level rule [] e i p at = cc
 fault-places level rule (q ∷ ps) e zero p at =
     let none = option_or-both (placed_fault level rule q) (first_fault level rule ps) e in
     let P : Placed → Type 0 = λ r. MayStand level rule r.row r.column r.item in
-    subst P (same q p at) (item-place level rule q.row q.column q.item none.0)
+    subst P (same_Some q p at) (item-place level rule q.row q.column q.item none.0)
 fault-places level rule (q ∷ ps) e (suc i) p at = fault-places level rule ps (option_or-both (placed_fault level rule q) (first_fault level rule ps) e).1 i p
     at
 

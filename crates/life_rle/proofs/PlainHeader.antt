@@ -3,6 +3,7 @@ use Rattle.std.proofs.Common.{◌≡◌, ℕ, true, false, not, cond, List, [], 
 use Rattle.std.proofs.lemmas.Bool.Decides.{nat_tests}
 use Rattle.std.proofs.lemmas.List.{take-append-drop}
 use Rattle.std.proofs.lemmas.Slice.Eq.{bytes_eq-Decides}
+use Rattle.std.proofs.lemmas.Bool.{and_parts}
 use Rattle.std.proofs.Math.Seq.{take-append_seam, drop-append_seam}
 use Rattle.std.specs.Char.{is_ascii_digit}
 use Rattle.std.specs.List.{list_all, prefix_len}
@@ -10,7 +11,7 @@ use Rattle.life_base.specs.Text.{is_empty, is_whitespace, is_blank, is_digit_tex
 use Rattle.life_rle.specs.Items.{front_digits, behind_digits}
 use Rattle.life_rle.specs.Header.{◌>>=◌, after_word, after_number, rule_part, header_form}
 use Rattle.life_rle.specs.Plain.{AreTokens, size_tokens, HasNoIndent, IsHeaderLine, HeadersArePlain}
-use Rattle.life_rle.proofs.Texts.{both_true, Stops, front-stop, behind-stop, digit-plain}
+use Rattle.life_rle.proofs.Texts.{Stops, front-stop, behind-stop, digit-plain}
 use Rattle.life_rle.proofs.PlainItems.{trim_start-space, indented}
 
 -- one token, whitespace, and a text that begins with none
@@ -80,7 +81,7 @@ token-after_word word space more bytes h e n =
 
 space-Stops : (space more : List ℕ) → is_blank space ≡ true → Stops is_ascii_digit more → Stops is_ascii_digit (space ++ more)
 space-Stops [] more h s = s
-space-Stops (b ∷ space) more h s = let parts = both_true (is_whitespace b) (is_blank space) h in grind (arith, nat_tests, parts.0)
+space-Stops (b ∷ space) more h s = let parts = and_parts (is_whitespace b) (is_blank space) h in grind (arith, nat_tests, parts.0)
 
 -- a digit text is read as a number
 token-after_number : (digits space more bytes : List ℕ) → is_digit_text digits ≡ true → is_blank space ≡ true → bytes ≡ digits ++ (space ++ more)
@@ -88,7 +89,7 @@ token-after_number : (digits space more bytes : List ℕ) → is_digit_text digi
 token-after_number digits space more bytes d h e n s =
     let all = digits ++ (space ++ more) in
     let stops = space-Stops space more h s in
-    let parts = both_true (not (is_empty digits)) (list_all is_ascii_digit digits) d in
+    let parts = and_parts (not (is_empty digits)) (list_all is_ascii_digit digits) d in
     ap after_number e
     ∙ ap (λ (t : List ℕ). cond (is_digit_text t) (Some (trim_start (behind_digits all))) None) (front-stop is_ascii_digit digits (space ++ more) parts.1 stops)
     ∙ ap (λ t. cond t (Some (trim_start (behind_digits all))) None) d
@@ -97,7 +98,7 @@ token-after_number digits space more bytes d h e n s =
 
 digits-HasNoIndent : (digits more : List ℕ) → is_digit_text digits ≡ true → HasNoIndent (digits ++ more)
 digits-HasNoIndent [] more h = cc
-digits-HasNoIndent (d ∷ digits) more h = (digit-plain d (both_true (is_ascii_digit d) (list_all is_ascii_digit digits) h).0).0
+digits-HasNoIndent (d ∷ digits) more h = (digit-plain d (and_parts (is_ascii_digit d) (list_all is_ascii_digit digits) h).0).0
 
 -- the chain of tokens
 

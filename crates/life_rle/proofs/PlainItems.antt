@@ -2,6 +2,7 @@
 use Rattle.std.proofs.Common.{◌≡◌, ◌↔◌, ℕ, ◌+◌, ◌-◌, ◌*◌, ◌<◌, ◌≤◌, true, false, cond, ◌&&◌, ◌||◌, List, [], ◌∷◌, ◌++◌, refl, sym, ap, ◌∙◌, subst, inl, inr, ◌⊎◌, Some, None, Option, arith, append_assoc, eqb, ltb, leb}
 use Rattle.std.proofs.lemmas.Bool.Decides.{nat_tests}
 use Rattle.std.proofs.lemmas.List.{take-append-drop}
+use Rattle.std.proofs.lemmas.Bool.{and_parts}
 use Rattle.std.specs.Char.{is_ascii_digit}
 use Rattle.std.specs.List.{list_all, prefix_len}
 use Rattle.life_base.specs.declared.kind.Kind.TheVariants.{ZeroCount, TooLarge}
@@ -14,13 +15,14 @@ use Rattle.life_rle.specs.Plane.{most_count}
 use Rattle.life_rle.specs.Items.{front_digits, behind_digits, Next, End, Mark, Spelled, Broken, cells_of, item_behind, counted, item_in, next_of, Spells}
 use Rattle.life_rle.specs.Plain.{IsStateText, letter_b, dot, letter_o, letter, prefixed, IsCountText, IsItemText, IsTextOf, ItemsArePlain}
 use Rattle.life_base.proofs.FrontDigits.{list_all-front}
-use Rattle.life_rle.proofs.Texts.{both_true, IsTag, IsTag-letter, next_of-tag, next_of-digits}
+use Rattle.life_rle.proofs.Texts.{IsTag, IsTag-letter, next_of-tag, next_of-digits}
+use Rattle.life_rle.proofs.StatesRead.{one-byte, two-bytes}
 
 -- whitespace in front is passed over
 pub trim_start-space : (space text : List ℕ) → is_blank space ≡ true → trim_start (space ++ text) ≡ trim_start text
 trim_start-space [] text h = refl
 trim_start-space (b ∷ space) text h =
-    let parts = both_true (is_whitespace b) (is_blank space) h in
+    let parts = and_parts (is_whitespace b) (is_blank space) h in
     ap (λ t. cond t (trim_start (space ++ text)) (b ∷ (space ++ text))) parts.0 ∙ trim_start-space space text parts.1
 
 next_of-count : (level count : ℕ) (digits tag : List ℕ) → IsCountText level digits count → IsTag tag → next_of level (digits ++ tag) ≡ item_behind count tag
@@ -39,13 +41,6 @@ prefixed_state-places : (prefix place state : ℕ) → prefix < 10 → place < 2
     → prefixed_state (112 + prefix) (65 + place) ≡ Some state
 prefixed_state-places prefix place state h k e low = grind (arith, nat_tests)
 
-state_at-single : (b state : ℕ) (rest : List ℕ) → single_state b ≡ Some state → state_at (b ∷ rest) ≡ Some (state, rest)
-state_at-single b state [] h = ap (λ o. with_rest o []) h
-state_at-single b state (c ∷ rest) h = ap (λ o. option_or (with_rest o (c ∷ rest)) (with_rest (prefixed_state b c) rest)) h
-
-state_at-prefixed : (b c state : ℕ) (rest : List ℕ) → single_state b ≡ None → prefixed_state b c ≡ Some state → state_at (b ∷ c ∷ rest) ≡ Some (state, rest)
-state_at-prefixed b c state rest h k = ap (λ o. option_or (with_rest o (c ∷ rest)) (with_rest (prefixed_state b c) rest)) h ∙ ap (λ o. with_rest o rest) k
-
 item_behind-state : (n b state : ℕ) (bytes rest : List ℕ) → eqb b 36 ≡ false → state_at (b ∷ bytes) ≡ Some (state, rest)
     → item_behind n (b ∷ bytes) ≡ Spelled (Cells n state) rest
 item_behind-state n b state bytes rest h k = ap (λ t. cond t (Spelled (RowEnds n) bytes) (cells_of n (state_at (b ∷ bytes)))) h ∙ ap (cells_of n) k
@@ -56,7 +51,7 @@ IsRead count bytes item rest = IsTag bytes × (item_behind count bytes ≡ Spell
 
 IsRead-single : (count b state : ℕ) (rest : List ℕ) → IsTag (b ∷ rest) → eqb b 36 ≡ false → single_state b ≡ Some state
     → IsRead count (b ∷ rest) (Cells count state) rest
-IsRead-single count b state rest t h k = (t, item_behind-state count b state rest rest h (state_at-single b state rest k))
+IsRead-single count b state rest t h k = (t, item_behind-state count b state rest rest h (one-byte b state rest k))
 
 pub IsRead-text : (count state : ℕ) (text rest : List ℕ) → IsStateText text state → IsRead count (text ++ rest) (Cells count state) rest
 IsRead-text count state text rest (letter_b e v) =
@@ -76,7 +71,7 @@ IsRead-text count state text rest (prefixed prefix place h k e v low) =
     subst (λ (t : List ℕ). IsRead count (t ++ rest) (Cells count state) rest) (sym e) (
       IsTag-letter (112 + prefix) ((65 + place) ∷ rest) (omega arith),
       item_behind-state count (112 + prefix) state ((65 + place) ∷ rest) rest (grind (arith, nat_tests))
-          (state_at-prefixed (112 + prefix) (65 + place) state rest (single-prefix prefix h) (prefixed_state-places prefix place state h k v low)),
+          (two-bytes (112 + prefix) (65 + place) state rest (single-prefix prefix h) (prefixed_state-places prefix place state h k v low)),
     )
 
 -- the text of an item, with whitespace before it, is read as that item
@@ -146,7 +141,7 @@ text_of-single b state =
 
     text_of-letter : (b state : ℕ) → (leb 65 b && leb b 88) ≡ true → b - 64 ≡ state → IsStateText (b ∷ []) state
     text_of-letter b state e h =
-        let parts = both_true (leb 65 b) (leb b 88) e in
+        let parts = and_parts (leb 65 b) (leb b 88) e in
         let low : 65 ≤ b = grind (arith, nat_tests) in
         let high : b ≤ 88 = grind (arith, nat_tests) in
         letter (b - 65) (omega (arith, low, high)) (ap (λ (n : ℕ). n ∷ []) (omega (arith, low))) (omega (arith, low, h))

@@ -3,6 +3,8 @@ use Rattle.std.proofs.Common.{◌≡◌, ℕ, suc, ◌+◌, ◌-◌, ◌^◌, �
 use Rattle.std.proofs.lemmas.Bool.Decides.{nat_tests}
 use Rattle.std.proofs.lemmas.List.{take-append-drop}
 use Rattle.std.proofs.lemmas.Slice.Eq.{bytes_eq-Decides}
+use Rattle.std.proofs.lemmas.Bool.{and_parts}
+use Rattle.std.proofs.lemmas.Option.{same_Some}
 use Rattle.std.proofs.Math.Seq.{take-append_seam}
 use Rattle.std.specs.Char.{is_ascii_digit}
 use Rattle.std.specs.List.{list_all, before_first, after_first, position_or_len}
@@ -14,12 +16,8 @@ use Rattle.life_rle.specs.declared.position.Position.{Position}
 use Rattle.life_rle.specs.Plane.{is_coordinate}
 use Rattle.life_rle.specs.Position.{Field, Corner, Generation, Other, default_position, and_then, is_position_line, signed_number, corner_of, corner_in, field_of, with_field, position_with, position_of}
 use Rattle.life_rle.specs.PlainPosition.{AreWords, IsNumberText, IsFieldText, corner, generation, other, IsNoField, no_corner, outside, no_generation, large, AreFields, HasNoCorner, HasNoGeneration, IsLastCorner, IsLastGeneration, IsPositionText, IsNoPosition, PositionsArePlain}
-use Rattle.life_rle.proofs.Texts.{both_true}
 use Rattle.life_rle.proofs.ReadPosition.{is_plain, digits-plain, signed_number-digits, before-comma, after-comma}
-use Rattle.life_rle.proofs.PlainWords.{AreWords-words_of, words_of-AreWords}
-
-no : {X : Type 0} → true ≡ false → X
-no e = cc
+use Rattle.life_rle.proofs.PlainWords.{AreWords-words_of, words_of-AreWords, no}
 
 -- ---- words in front
 
@@ -41,20 +39,17 @@ not-begins text word h =
 
 -- ---- numbers
 
-some-same : {X : Type 0} {a b : X} → Some a ≡ Some b → a ≡ b
-some-same e = cc
-
 digits-number : (text : List ℕ) (z : ℤ) → cond (is_digit_text text) (Some (pos (value_of text))) None ≡ Some z → (is_digit_text text ≡ true)
     × (z ≡ pos (value_of text))
 digits-number text z =
     elim (is_digit_text text) as (λ t. cond t (Some (pos (value_of text))) None ≡ Some z → (t ≡ true) × (z ≡ pos (value_of text)))
-    [ true ↦ λ h. (refl, sym (some-same h)) | false ↦ λ h. cc ]
+    [ true ↦ λ h. (refl, sym (same_Some _ _ h)) | false ↦ λ h. cc ]
 
 minus-number : (digits : List ℕ) (z : ℤ) → cond (is_digit_text digits) (Some (neg_ℤ (pos (value_of digits)))) None ≡ Some z → (is_digit_text digits ≡ true)
     × (z ≡ neg_ℤ (pos (value_of digits)))
 minus-number digits z =
     elim (is_digit_text digits) as (λ t. cond t (Some (neg_ℤ (pos (value_of digits)))) None ≡ Some z → (t ≡ true) × (z ≡ neg_ℤ (pos (value_of digits))))
-    [ true ↦ λ h. (refl, sym (some-same h)) | false ↦ λ h. cc ]
+    [ true ↦ λ h. (refl, sym (same_Some _ _ h)) | false ↦ λ h. cc ]
 
 number-text : (text : List ℕ) (z : ℤ) → signed_number text ≡ Some z → IsNumberText text z
 number-text text z =
@@ -73,9 +68,9 @@ text-number text z (inr h) =
 
 -- no byte of a number is a comma
 number-plain : (text : List ℕ) (z : ℤ) → IsNumberText text z → list_all is_plain text ≡ true
-number-plain text z (inl h) = digits-plain text (both_true (not (is_empty text)) (list_all is_ascii_digit text) h.0).1
+number-plain text z (inl h) = digits-plain text (and_parts (not (is_empty text)) (list_all is_ascii_digit text) h.0).1
 number-plain text z (inr h) =
-    ap (list_all is_plain) h.1 ∙ digits-plain h.0 (both_true (not (is_empty h.0)) (list_all is_ascii_digit h.0) h.2).1
+    ap (list_all is_plain) h.1 ∙ digits-plain h.0 (and_parts (not (is_empty h.0)) (list_all is_ascii_digit h.0) h.2).1
 
 -- ---- the corner
 
@@ -154,7 +149,7 @@ corner-IsReadAs level text rest (Some x) (Some y) t e f = by (is_coordinate leve
 
     by : (v : Bool) → (is_coordinate level x && is_coordinate level y) ≡ v → IsReadAs level text (cond v (Ok (Corner x y)) (Err OutOfPlane))
     by true v =
-        let parts = both_true (is_coordinate level x) (is_coordinate level y) v in
+        let parts = and_parts (is_coordinate level x) (is_coordinate level y) v in
         corner (before rest) (behind rest) x y whole (number-text (before rest) x e) (number-text (behind rest) y f) parts.0 parts.1 refl
     by false v = outside (before rest) (behind rest) x y whole (number-text (before rest) x e) (number-text (behind rest) y f) v refl
 
@@ -401,9 +396,6 @@ same-position p q x y n =
 
 -- ---- a line
 
-abbrev line_text : List ℕ → List ℕ
-line_text text = codes "#CXRLE" ++ text
-
 text-position : (level : ℕ) (line : List ℕ) (position : Position) → IsPositionText level line position → (is_position_line line ≡ true)
     × (position_of level line ≡ Ok position)
 text-position level line position h =
@@ -419,7 +411,7 @@ position-text : (level : ℕ) (line : List ℕ) (position : Position) → (is_po
     → IsPositionText level line position
 position-text level line position h =
     let text : List ℕ = drop 6 line in
-    let parts = both_true (begins_with line (codes "#CXRLE")) (is_blank (take 1 text)) h.0 in
+    let parts = and_parts (begins_with line (codes "#CXRLE")) (is_blank (take 1 text)) h.0 in
     let read = read-fields level default_position position (words_of text) h.1 in
     record {
       text = text;
@@ -443,7 +435,7 @@ fault-position level line kind h =
 position-fault : (level : ℕ) (line : List ℕ) (kind : Kind) → (is_position_line line ≡ true) × (position_of level line ≡ Err kind) → IsNoPosition level line kind
 position-fault level line kind h =
     let text : List ℕ = drop 6 line in
-    let parts = both_true (begins_with line (codes "#CXRLE")) (is_blank (take 1 text)) h.0 in
+    let parts = and_parts (begins_with line (codes "#CXRLE")) (is_blank (take 1 text)) h.0 in
     let read = read-fault level default_position (words_of text) kind h.1 in
     record {
       text = text;

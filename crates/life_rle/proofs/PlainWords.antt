@@ -1,20 +1,17 @@
 -- A text has the words that stand in it between whitespace.
-use Rattle.std.proofs.Common.{◌≡◌, ℕ, Bool, true, false, not, cond, ◌&&◌, List, [], ◌∷◌, ◌++◌, take, refl, sym, ap, ◌∙◌}
+use Rattle.std.proofs.Common.{◌≡◌, ℕ, Bool, true, false, not, ◌&&◌, List, [], ◌∷◌, ◌++◌, take, refl, sym, ap, ◌∙◌}
 use Rattle.std.specs.List.{list_all}
 use Rattle.std.proofs.lemmas.List.{append-nil}
+use Rattle.std.proofs.lemmas.Bool.{and_parts, not-true}
 use Rattle.life_base.specs.Text.{is_empty, is_whitespace, is_blank, words_of, onto_first}
 use Rattle.life_rle.specs.PlainPosition.{IsWord, AreWords}
-use Rattle.life_rle.proofs.Texts.{both_true}
-use Rattle.life_rle.proofs.ReadPosition.{words_of-plain, EndsWord, from_not}
-
-abbrev step_to : ℕ → List ℕ → Bool → Bool → List (List ℕ)
-step_to b text space last = cond space (words_of text) (cond last ((b ∷ []) ∷ words_of text) (onto_first b (words_of text)))
+use Rattle.life_rle.proofs.ReadPosition.{words_of-plain, EndsWord, step_to}
 
 -- whitespace in front has no words
 blank_words : (space text : List ℕ) → is_blank space ≡ true → words_of (space ++ text) ≡ words_of text
 blank_words [] text h = refl
 blank_words (b ∷ space) text h =
-    let parts = both_true (is_whitespace b) (is_blank space) h in
+    let parts = and_parts (is_whitespace b) (is_blank space) h in
     ap (λ v. step_to b (space ++ text) v (is_blank (take 1 (space ++ text)))) parts.0 ∙ blank_words space text parts.1
 
 no_words : (text : List ℕ) → is_blank text ≡ true → words_of text ≡ []
@@ -22,22 +19,22 @@ no_words text h = ap words_of (sym (append-nil text)) ∙ blank_words text [] h
 
 blank-take : (text : List ℕ) → is_blank text ≡ true → is_blank (take 1 text) ≡ true
 blank-take [] h = refl
-blank-take (b ∷ text) h = ap (λ v. v && true) (both_true (is_whitespace b) (is_blank text) h).0
+blank-take (b ∷ text) h = ap (λ v. v && true) (and_parts (is_whitespace b) (is_blank text) h).0
 
 take-EndsWord : (text : List ℕ) → is_blank (take 1 text) ≡ true → EndsWord text
 take-EndsWord [] h = tt
-take-EndsWord (b ∷ text) h = (both_true (is_whitespace b) true h).0
+take-EndsWord (b ∷ text) h = (and_parts (is_whitespace b) true h).0
 
 -- some whitespace in front
 space-take : (space text : List ℕ) → is_empty space ≡ false → is_blank space ≡ true → is_blank (take 1 (space ++ text)) ≡ true
 space-take [] text n h = cc
-space-take (b ∷ space) text n h = ap (λ v. v && true) (both_true (is_whitespace b) (is_blank space) h).0
+space-take (b ∷ space) text n h = ap (λ v. v && true) (and_parts (is_whitespace b) (is_blank space) h).0
 
 first-word : (word more : List ℕ) → IsWord word → is_blank (take 1 more) ≡ true → words_of (word ++ more) ≡ word ∷ words_of more
 first-word [] more w h = let no : true ≡ false = w.0 in cc
 first-word (b ∷ word) more w h =
-    let parts = both_true (not (is_whitespace b)) (list_all (λ b. not (is_whitespace b)) word) w.1 in
-    words_of-plain b word more (from_not (is_whitespace b) parts.0) parts.1 (take-EndsWord more h)
+    let parts = and_parts (not (is_whitespace b)) (list_all (λ b. not (is_whitespace b)) word) w.1 in
+    words_of-plain b word more (not-true (is_whitespace b) parts.0) parts.1 (take-EndsWord more h)
 
 -- words between whitespace are the words of the text
 pub AreWords-words_of : (words : List (List ℕ)) (text : List ℕ) → AreWords text words → (is_blank (take 1 text) ≡ true) × (words_of text ≡ words)
@@ -58,7 +55,7 @@ one_blank : (b : ℕ) (words : List (List ℕ)) (text : List ℕ) → is_whitesp
 one_blank b [] text h s = ap (λ v. v && is_blank text) h ∙ s
 one_blank b (word ∷ words) text h s = (b ∷ s.0, s.1, ap (λ v. v && is_blank s.0) h ∙ s.2, s.3, ap (λ (u : List ℕ). b ∷ u) s.4, s.5, s.6)
 
-no : {X : Type 0} → true ≡ false → X
+pub no : {X : Type 0} → true ≡ false → X
 no e = cc
 
 solid : (b : ℕ) → is_whitespace b ≡ false → not (is_whitespace b) ≡ true
@@ -86,8 +83,8 @@ separated (b ∷ text) = step b text (is_whitespace b) (is_blank (take 1 text)) 
 no_indent : (word more : List ℕ) → IsWord word → is_blank (take 1 (word ++ more)) ≡ true → ⊥
 no_indent [] more w h = no w.0
 no_indent (b ∷ word) more w h =
-    let parts = both_true (not (is_whitespace b)) (list_all (λ b. not (is_whitespace b)) word) w.1 in
-    no (sym (both_true (is_whitespace b) true h).0 ∙ from_not (is_whitespace b) parts.0)
+    let parts = and_parts (not (is_whitespace b)) (list_all (λ b. not (is_whitespace b)) word) w.1 in
+    no (sym (and_parts (is_whitespace b) true h).0 ∙ not-true (is_whitespace b) parts.0)
 
 Separated-AreWords : (words : List (List ℕ)) (text : List ℕ) → is_blank (take 1 text) ≡ true → Separated text words → AreWords text words
 Separated-AreWords [] text h s = s

@@ -3,6 +3,7 @@ use Rattle.std.proofs.Common.{◌≡◌, ℕ, ◌^◌, ◌<◌, Bool, true, fals
 use Rattle.std.specs.Prelude.{flat_map}
 use Rattle.std.specs.List.{list_all}
 use Rattle.std.proofs.lemmas.Bool.Decides.{nat_tests}
+use Rattle.std.proofs.lemmas.Bool.{and_parts}
 use Rattle.life_base.specs.declared.rule.Rule.{Rule}
 use Rattle.life_base.specs.Rules.{rule_of, rule_text}
 use Rattle.life_base.specs.Text.{is_digit_text, trim_start, lines_of, onto_first}
@@ -11,7 +12,7 @@ use Rattle.life_rle.specs.Items.{behind_digits}
 use Rattle.life_rle.specs.Header.{◌>>=◌}
 use Rattle.life_rle.specs.Header.{after_word, after_number, rule_part, header_form, rule_in, header_of}
 use Rattle.life_rle.specs.Written.{header_text}
-use Rattle.life_rle.proofs.Texts.{both_true, decimal-is_digit_text, digit-plain, Stops, front-stop, behind-stop}
+use Rattle.life_rle.proofs.Texts.{decimal-is_digit_text, digit-plain, Stops, front-stop, behind-stop}
 
 -- no line feed in the line
 abbrev pub is_one_line : List ℕ → Bool
@@ -20,7 +21,7 @@ is_one_line line = list_all (λ b. not (eqb b 10)) line
 lines-feed : (line rest : List ℕ) → is_one_line line ≡ true → lines_of (line ++ 10 ∷ rest) ≡ line ∷ lines_of rest
 lines-feed [] rest h = refl
 lines-feed (b ∷ line) rest h =
-    let parts = both_true (not (eqb b 10)) (is_one_line line) h in
+    let parts = and_parts (not (eqb b 10)) (is_one_line line) h in
     let other : eqb b 10 ≡ false = grind (arith, nat_tests) in
     ap (λ t. cond t ([] ∷ lines_of (line ++ 10 ∷ rest)) (onto_first b (lines_of (line ++ 10 ∷ rest)))) other ∙ ap (onto_first b) (lines-feed line rest parts.1)
 
@@ -39,7 +40,7 @@ lines-ended (l ∷ ls) h =
 digits-trimmed : (digits rest : List ℕ) → is_digit_text digits ≡ true → trim_start (digits ++ rest) ≡ digits ++ rest
 digits-trimmed [] rest h = cc
 digits-trimmed (d ∷ digits) rest h = ap (λ t. cond t (trim_start (digits ++ rest)) (d ∷ (digits ++ rest)))
-    (digit-plain d (both_true (is_ascii_digit d) (list_all is_ascii_digit digits) h).0).0
+    (digit-plain d (and_parts (is_ascii_digit d) (list_all is_ascii_digit digits) h).0).0
 
 pub digits-all : (digits : List ℕ) → is_digit_text digits ≡ true → list_all is_ascii_digit digits ≡ true
 digits-all [] h = refl

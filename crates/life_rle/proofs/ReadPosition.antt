@@ -5,6 +5,7 @@ use Rattle.std.specs.Fmt.{signed_decimal}
 use Rattle.std.proofs.lemmas.Bool.Decides.{nat_tests}
 use Rattle.std.proofs.lemmas.List.{append-nil}
 use Rattle.std.proofs.lemmas.List.Folds.{list_all-append}
+use Rattle.std.proofs.lemmas.Bool.{and_parts, not-true}
 use Rattle.std.proofs.Math.Seq.{take-append_seam, drop-append-add}
 use Rattle.life_base.specs.declared.kind.Kind.TheVariants.{TooLarge, OutOfPlane, BadNumber}
 use Rattle.life_base.specs.Text.{is_whitespace, is_digit_text, value_of}
@@ -14,7 +15,7 @@ use Rattle.life_base.specs.Numbers.{u64_of}
 use Rattle.life_rle.specs.Position.{signed_number, Corner, Generation, default_position, corner_of, field_of, with_field, and_then, position_with, position_of}
 use Rattle.life_rle.specs.Plane.{is_coordinate}
 use Rattle.life_rle.specs.Written.{position_text, generation_text}
-use Rattle.life_rle.proofs.Texts.{both_true, decimal-is_digit_text, value_of-decimal}
+use Rattle.life_rle.proofs.Texts.{decimal-is_digit_text, value_of-decimal}
 use Rattle.life_rle.proofs.ReadBack.{digits-all}
 use Rattle.life_base.specs.declared.cell.TheConstants.{MAX_LEVEL}
 
@@ -31,7 +32,7 @@ signed_number-digits [] h = cc
 signed_number-digits (d ∷ digits) h =
     ap (λ t. cond (t && true) (cond (is_digit_text digits) (Some (neg_ℤ (pos (value_of digits)))) None)
     (cond (is_digit_text (d ∷ digits)) (Some (pos (value_of (d ∷ digits)))) None))
-    (not_minus d (both_true (is_ascii_digit d) (list_all is_ascii_digit digits) h).0)
+    (not_minus d (and_parts (is_ascii_digit d) (list_all is_ascii_digit digits) h).0)
     ∙ ap (λ t. cond t (Some (pos (value_of (d ∷ digits)))) None) h
 
 -- a written number is read
@@ -58,7 +59,7 @@ digit-is_plain b h = grind (arith, nat_tests)
 pub digits-plain : (digits : List ℕ) → list_all is_ascii_digit digits ≡ true → list_all is_plain digits ≡ true
 digits-plain [] h = refl
 digits-plain (d ∷ digits) h =
-    let parts = both_true (is_ascii_digit d) (list_all is_ascii_digit digits) h in
+    let parts = and_parts (is_ascii_digit d) (list_all is_ascii_digit digits) h in
     ap (λ t. t && list_all is_plain digits) (digit-is_plain d parts.0) ∙ digits-plain digits parts.1
 
 signed-plain : (z : ℤ) → IsShort z → list_all is_plain (signed_decimal z) ≡ true
@@ -74,27 +75,23 @@ ends_blank : (ys : List ℕ) → EndsWord ys → is_blank (take 1 ys) ≡ true
 ends_blank [] h = refl
 ends_blank (y ∷ ys) h = ap (λ t. t && true) h
 
-pub from_not : (b : Bool) → not b ≡ true → b ≡ false
-from_not true e = cc
-from_not false e = refl
-
 -- the first word of a text that begins with it
-abbrev cut : ℕ → List ℕ → Bool → Bool → List (List ℕ)
-cut b text space last = cond space (words_of text) (cond last ((b ∷ []) ∷ words_of text) (onto_first b (words_of text)))
+abbrev pub step_to : ℕ → List ℕ → Bool → Bool → List (List ℕ)
+step_to b text space last = cond space (words_of text) (cond last ((b ∷ []) ∷ words_of text) (onto_first b (words_of text)))
 
 pub words_of-plain : (b : ℕ) (xs ys : List ℕ) → is_whitespace b ≡ false → list_all (λ b. not (is_whitespace b)) xs ≡ true → EndsWord ys
     → words_of (b ∷ (xs ++ ys)) ≡ (b ∷ xs) ∷ words_of ys
-words_of-plain b [] ys e h s = ap (λ t. cut b ys t (is_blank (take 1 ys))) e ∙ ap (cut b ys false) (ends_blank ys s)
+words_of-plain b [] ys e h s = ap (λ t. step_to b ys t (is_blank (take 1 ys))) e ∙ ap (step_to b ys false) (ends_blank ys s)
 words_of-plain b (x ∷ xs) ys e h s =
-    let parts = both_true (not (is_whitespace x)) (list_all (λ b. not (is_whitespace b)) xs) h in
-    let inside : is_whitespace x ≡ false = from_not (is_whitespace x) parts.0 in
-    ap (λ t. cut b (x ∷ (xs ++ ys)) t (is_whitespace x && true)) e ∙ ap (λ t. cut b (x ∷ (xs ++ ys)) false (t && true)) inside
+    let parts = and_parts (not (is_whitespace x)) (list_all (λ b. not (is_whitespace b)) xs) h in
+    let inside : is_whitespace x ≡ false = not-true (is_whitespace x) parts.0 in
+    ap (λ t. step_to b (x ∷ (xs ++ ys)) t (is_whitespace x && true)) e ∙ ap (λ t. step_to b (x ∷ (xs ++ ys)) false (t && true)) inside
     ∙ ap (onto_first b) (words_of-plain x xs ys inside parts.1 s)
 
 position-seam : (xs ys : List ℕ) → list_all is_plain xs ≡ true → position_or_len (λ b. eqb b 44) (xs ++ 44 ∷ ys) ≡ length xs
 position-seam [] ys h = refl
 position-seam (x ∷ xs) ys h =
-    let parts = both_true (is_plain x) (list_all is_plain xs) h in
+    let parts = and_parts (is_plain x) (list_all is_plain xs) h in
     let more = position-seam xs ys parts.1 in
     let other : eqb x 44 ≡ false = grind (arith, nat_tests) in
     ap (λ t. cond (not t) (1 + position_or_len (λ b. eqb b 44) (xs ++ 44 ∷ ys)) 0) other ∙ one_more (position_or_len (λ b. eqb b 44) (xs ++ 44 ∷ ys))
@@ -131,8 +128,8 @@ generation-field g h = ap (λ r. and_then r (λ n. Ok (Generation n))) (u64_of-d
 no_space : (xs : List ℕ) → list_all is_plain xs ≡ true → list_all (λ b. not (is_whitespace b)) xs ≡ true
 no_space [] h = refl
 no_space (b ∷ xs) h =
-    let parts = both_true (is_plain b) (list_all is_plain xs) h in
-    ap (λ t. t && list_all (λ b. not (is_whitespace b)) xs) (both_true (not (is_whitespace b)) (not (eqb b 44)) parts.0).0 ∙ no_space xs parts.1
+    let parts = and_parts (is_plain b) (list_all is_plain xs) h in
+    ap (λ t. t && list_all (λ b. not (is_whitespace b)) xs) (and_parts (not (is_whitespace b)) (not (eqb b 44)) parts.0).0 ∙ no_space xs parts.1
 
 Pos-plain : (x y : ℤ) → IsShort x → IsShort y → list_all (λ b. not (is_whitespace b)) (corner_text x y) ≡ true
 Pos-plain x y sx sy =

@@ -18,7 +18,7 @@ below : (x : ℤ) (n : ℕ) → neg_ℤ (edge MAX_LEVEL) ≤ℤ x → int_le (x 
 below x n h = grind (arith, ints)
 
 -- cells stand in the plane where they stand within the limit
-pub within-limit : (y x limit : ℤ) (n : ℕ) → neg_ℤ (edge MAX_LEVEL) ≤ℤ x → limit ≡ row_limit MAX_LEVEL y
+within-limit : (y x limit : ℤ) (n : ℕ) → neg_ℤ (edge MAX_LEVEL) ≤ℤ x → limit ≡ row_limit MAX_LEVEL y
     → (int_lt y (edge MAX_LEVEL) && int_le (x +ℤ pos n) (edge MAX_LEVEL)) ≡ int_le (x +ℤ pos n) limit
 within-limit y x limit n near e =
     rw e (elim (int_lt y (edge MAX_LEVEL))
@@ -31,11 +31,11 @@ within-limit y x limit n near e =
 abbrev pub cells-by : (known inside : Bool) → Option Kind
 cells-by known inside = if not known then Some StateRange else if inside then None else Some OutOfPlane
 
-pub fault-within : (known inside : Bool) → known ≡ true → inside ≡ true → cells-by known inside ≡ None
-fault-within known inside k h = rw (k, h) refl
-
-pub fault-beyond : (known inside : Bool) → known ≡ true → inside ≡ false → cells-by known inside ≡ Some OutOfPlane
-fault-beyond known inside k h = rw (k, h) refl
+-- their fault, by whether they stand within the limit
+pub fault-by : (known : Bool) (y x limit : ℤ) (n : ℕ) → neg_ℤ (edge MAX_LEVEL) ≤ℤ x → limit ≡ row_limit MAX_LEVEL y → known ≡ true → (inside : Bool)
+    → int_le (x +ℤ pos n) limit ≡ inside
+    → cells-by known (int_lt y (edge MAX_LEVEL) && int_le (x +ℤ pos n) (edge MAX_LEVEL)) ≡ (if inside then None else Some OutOfPlane)
+fault-by known y x limit n near e k inside h = rw (k, within-limit y x limit n near e, h) refl
 
 is-inside : (known row column : Bool) → cells-by known (row && column) ≡ None → column ≡ true
 is-inside true true true e = refl
@@ -43,14 +43,14 @@ is-inside true true false e = cc
 is-inside true false column e = cc
 is-inside false row column e = cc
 
-is-on : (row : Bool) → cond row None (Some OutOfPlane) ≡ None → row ≡ true
+pub is-on : (row : Bool) → cond row None (Some OutOfPlane) ≡ None → row ≡ true
 is-on true e = refl
 is-on false e = cc
 
-le-true : (a b : ℤ) → int_le a b ≡ true → a ≤ℤ b
+pub le-true : (a b : ℤ) → int_le a b ≡ true → a ≤ℤ b
 le-true a b e = grind (arith, ints)
 
-further : (low z : ℤ) (n : ℕ) → low ≤ℤ z → low ≤ℤ (z +ℤ pos n)
+pub further : (low z : ℤ) (n : ℕ) → low ≤ℤ z → low ≤ℤ (z +ℤ pos n)
 further low z n h = omega (arith, ints)
 
 up-to : (a b : ℤ) → a <ℤ b → a ≤ℤ b

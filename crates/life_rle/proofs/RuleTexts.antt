@@ -3,13 +3,12 @@ use Rattle.std.proofs.Common.{◌≡◌, ℕ, ◌≤◌, List, [], ◌∷◌, le
 use Rattle.std.specs.Prelude.{nat_le, nat_lt, ◌==◌}
 use Rattle.std.specs.List.{list_all}
 use Rattle.std.proofs.lemmas.Bool.Decides.{nat_tests}
-use Rattle.std.proofs.lemmas.Bool.{ltb-false}
+use Rattle.std.proofs.lemmas.Bool.{ltb-false, and_parts}
 use Rattle.life_base.specs.Text.{is_whitespace, is_empty, trim_start}
 use Rattle.life_base.specs.Rules.{rule_text, IsRule}
 use Rattle.life_base.specs.declared.rule.Rule.{Rule}
 use Rattle.life_base.proofs.NamesRead.{all_pass}
 use Rattle.life_base.proofs.RuleTexts.{texts_visible}
-use Rattle.life_rle.proofs.Texts.{both_true}
 use Rattle.life_rle.proofs.ReadBack.{is_one_line}
 
 abbrev is_visible : ℕ → Bool
@@ -44,4 +43,4 @@ visible-one_line text h = all_pass is_visible (λ b. not (b == 10)) visible-inne
 
 pub visible-bare : (text : List ℕ) → list_all is_visible text ≡ true → trim_start text ≡ text
 visible-bare [] h = refl
-visible-bare (b ∷ text) h = ap (λ t. cond t (trim_start text) (b ∷ text)) (visible-solid b (both_true (is_visible b) (list_all is_visible text) h).0)
+visible-bare (b ∷ text) h = ap (λ t. cond t (trim_start text) (b ∷ text)) (visible-solid b (and_parts (is_visible b) (list_all is_visible text) h).0)

@@ -4,7 +4,6 @@ use Rattle.std.specs.Prelude.{int_lt, int_le}
 use Rattle.std.specs.Ordering.{int_eq}
 use Rattle.std.proofs.lemmas.Int.{ints}
 use Rattle.std.proofs.lemmas.Bool.Decides.{nat_tests}
-use Rattle.life_base.specs.declared.kind.Kind.{Kind}
 use Rattle.life_base.specs.declared.kind.Kind.TheVariants.{StateRange, OutOfPlane, ZeroCount, TooLarge}
 use Rattle.life_base.specs.declared.rule.Rule.{Rule}
 use Rattle.life_base.specs.Text.{trim_start, value_of, is_too_long}
@@ -16,16 +15,17 @@ use Rattle.life_rle.specs.Plane.{edge}
 use Rattle.life_rle.specs.States.{is_state_of, state_at}
 use Rattle.life_rle.specs.Items.{front_digits, behind_digits, Next, End, Mark, Spelled, Broken, cells_of, item_behind, counted, item_in, Spells}
 use Rattle.life_rle.specs.Position.{default_position}
-use Rattle.std.specs.Option.{option_or}
 use Rattle.life_rle.specs.Pattern.{Rle, Placed, placed, item_fault, first_fault, cell_among, cell}
 use Rattle.life_rle.specs.Runs.{runs_of}
 use Rattle.life_rle.specs.Cursor.{item_count}
 use Rattle.life_rle.specs.Grammar.{IsPreamble, LineSpells, BodySpells, IsRle}
 use Rattle.life_rle.specs.RunsLaw.{AreGoodRuns, StandsBeforeAll, AreInOrder, has_cell, state_by, IsOutside}
-use Rattle.life_rle.proofs.Places.{placed_from, placed_behind-from}
+use Rattle.life_rle.proofs.Places.{placed_from, placed_behind-from, plus_none, cond_zero}
 use Rattle.life_rle.proofs.Advance.{IsInPlane}
 use Rattle.life_rle.proofs.LineKinds.{IsTameOpening, opening-tame}
 use Rattle.life_rle.proofs.PlaneLemmas.{zero-coordinate}
+use Rattle.life_rle.proofs.Progress.{option_or-both}
+use Rattle.life_rle.proofs.RowLimits.{further}
 
 -- ---- an item counts at least one
 
@@ -120,10 +120,6 @@ Good level rule left column row (Cells n s ∷ items) =
     (1 ≤ n) × (is_state_of rule s ≡ true) × (row <ℤ edge level) × ((column +ℤ pos n) ≤ℤ edge level) × Good level rule left (column +ℤ pos n) row items
 Good level rule left column row (RowEnds n ∷ items) = (1 ≤ n) × Good level rule left left (row +ℤ pos n) items
 
-both_none : (a b : Option Kind) → option_or a b ≡ None → (a ≡ None) × (b ≡ None)
-both_none None b e = (refl, e)
-both_none (Some k) b e = cc
-
 cells-none : (state inside : Bool) → cond (not state) (Some StateRange) (cond inside None (Some OutOfPlane)) ≡ None → (state ≡ true) × (inside ≡ true)
 cells-none true true e = (refl, refl)
 cells-none true false e = cc
@@ -137,16 +133,13 @@ sound-Good : (level : ℕ) (rule : Rule) (left column row : ℤ) (items : List I
 unfolding AllCount
 sound-Good level rule left column row [] c e = tt
 sound-Good level rule left column row (Cells n s ∷ items) c e =
-    let parts = both_none (item_fault level rule row column (Cells n s)) (first_fault level rule (placed_from left (column +ℤ pos n) row items)) e in
+    let parts = option_or-both (item_fault level rule row column (Cells n s)) (first_fault level rule (placed_from left (column +ℤ pos n) row items)) e in
     let here = cells-none (is_state_of rule s) (int_lt row (edge level) && int_le (column +ℤ pos n) (edge level)) parts.0 in
     let place = inside-plane row (column +ℤ pos n) (edge level) here.1 in
     (c.0, here.0, place.0, place.1, sound-Good level rule left (column +ℤ pos n) row items c.1 parts.1)
 sound-Good level rule left column row (RowEnds n ∷ items) c e =
-    let parts = both_none (item_fault level rule row column (RowEnds n)) (first_fault level rule (placed_from left left (row +ℤ pos n) items)) e in
+    let parts = option_or-both (item_fault level rule row column (RowEnds n)) (first_fault level rule (placed_from left left (row +ℤ pos n) items)) e in
     (c.0, sound-Good level rule left left (row +ℤ pos n) items c.1 parts.1)
-
-pub further : (low z : ℤ) (n : ℕ) → low ≤ℤ z → low ≤ℤ (z +ℤ pos n)
-further low z n h = omega (arith, ints)
 
 -- ---- their runs
 
@@ -233,10 +226,6 @@ before-zero column row (run ∷ runs) x y b h =
     ] in
     ap (λ t. cond t run.state (state_by runs x y)) off ∙ before-zero column row runs x y b.1 h
 
-dead : (covers : Bool) (n : ℕ) → (covers ≡ true → n ≡ 0) → cond covers 0 n ≡ n
-dead true n h = sym (h refl)
-dead false n h = refl
-
 covered : (column row x y : ℤ) (n : ℕ) → (int_eq y row && (int_le column x && int_lt x (column +ℤ pos n))) ≡ true → (y ≡ row) × (x <ℤ (column +ℤ pos n))
 covered column row x y n e = (grind (arith, ints), grind (arith, ints))
 
@@ -247,16 +236,13 @@ cells-runs level rule left column row (Cells n zero ∷ items) x y g =
     let rest = runs_of (placed_from left (column +ℤ pos n) row items) in
     let covers = int_eq y row && (int_le column x && int_lt x (column +ℤ pos n)) in
     ap (cond covers 0) (cells-runs level rule left (column +ℤ pos n) row items x y g.4)
-    ∙ dead covers (state_by rest x y)
+    ∙ cond_zero covers (state_by rest x y)
     (λ e. before-zero (column +ℤ pos n) row rest x y (runs-Behind level rule left (column +ℤ pos n) row items g.4) (inr (covered column row x y n e)))
 cells-runs level rule left column row (Cells n (suc s) ∷ items) x y g =
     ap (cond (int_eq y row && (int_le column x && int_lt x (column +ℤ pos n))) (suc s)) (cells-runs level rule left (column +ℤ pos n) row items x y g.4)
 cells-runs level rule left column row (RowEnds n ∷ items) x y g = cells-runs level rule left left (row +ℤ pos n) items x y g.1
 
 -- ---- of a file
-
-plus_none : (z : ℤ) → z +ℤ pos 0 ≡ z
-plus_none z = omega (arith, ints)
 
 pub placed-from : (file : Rle) → placed file ≡ placed_from file.position.x file.position.x file.position.y file.items
 placed-from file =

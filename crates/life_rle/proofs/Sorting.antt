@@ -5,6 +5,7 @@ use Rattle.std.specs.Ordering.{int_eq}
 use Rattle.std.specs.Int.{int_min, int_max}
 use Rattle.std.proofs.lemmas.Int.{ints}
 use Rattle.std.proofs.lemmas.Bool.Decides.{nat_tests}
+use Rattle.std.proofs.lemmas.Bool.{and_parts}
 use Rattle.life_base.specs.declared.kind.Kind.TheVariants.{StateRange, OutOfPlane}
 use Rattle.life_base.specs.declared.cell.Cell.{Cell}
 use Rattle.life_base.specs.declared.rule.Rule.{Rule}
@@ -17,7 +18,6 @@ use Rattle.life_rle.specs.Pattern.{item_fault, first_fault}
 use Rattle.life_rle.specs.States.{is_state_of}
 use Rattle.life_rle.specs.Written.{box_of, joined, box_of_cell}
 use Rattle.life_rle.specs.Sorted.{is_live_cell, rises, are_sorted_cells}
-use Rattle.life_rle.proofs.Texts.{both_true}
 use Rattle.life_rle.proofs.Places.{placed_from}
 use Rattle.life_rle.proofs.FileLines.{AreWritten}
 use Rattle.life_rle.specs.Writing.{IsGoodCell, Follow, IsInPlane}
@@ -55,15 +55,15 @@ AreGood-sound rule left column row (RowEnds n ∷ items) g =
 
 coordinate-range : (z : ℤ) → is_coordinate MAX_LEVEL z ≡ true → (neg_ℤ (edge MAX_LEVEL) ≤ℤ z) × (z <ℤ edge MAX_LEVEL)
 coordinate-range z h =
-    let parts = both_true (int_le (neg_ℤ (edge MAX_LEVEL)) z) (int_lt z (edge MAX_LEVEL)) h in
+    let parts = and_parts (int_le (neg_ℤ (edge MAX_LEVEL)) z) (int_lt z (edge MAX_LEVEL)) h in
     let low = parts.0 in let high = parts.1 in
     (grind (arith, ints), grind (arith, ints))
 
 live-good : (rule : Rule) (c : Cell) → is_live_cell MAX_LEVEL rule c ≡ true → IsGoodCell rule c
 live-good rule c h =
-    let parts = both_true (is_coordinate MAX_LEVEL c.x && is_coordinate MAX_LEVEL c.y) (ltb 0 c.state && is_state_of rule c.state) h in
-    let place = both_true (is_coordinate MAX_LEVEL c.x) (is_coordinate MAX_LEVEL c.y) parts.0 in
-    let state = both_true (ltb 0 c.state) (is_state_of rule c.state) parts.1 in
+    let parts = and_parts (is_coordinate MAX_LEVEL c.x && is_coordinate MAX_LEVEL c.y) (ltb 0 c.state && is_state_of rule c.state) h in
+    let place = and_parts (is_coordinate MAX_LEVEL c.x) (is_coordinate MAX_LEVEL c.y) parts.0 in
+    let state = and_parts (ltb 0 c.state) (is_state_of rule c.state) parts.1 in
     let x = coordinate-range c.x place.0 in
     let y = coordinate-range c.y place.1 in
     let some = state.0 in
@@ -96,7 +96,7 @@ rises-cases : (a b : Cell) → rises a b ≡ true → (a.y <ℤ b.y) ⊎ ((a.y �
 rises-cases a b h =
     elim (int_lt a.y b.y) as (λ t. int_lt a.y b.y ≡ t → (t || (int_eq a.y b.y && int_lt a.x b.x)) ≡ true → (a.y <ℤ b.y) ⊎ ((a.y ≡ b.y) × (a.x <ℤ b.x))) [
       | true ↦ λ e k. inl (grind (arith, ints))
-      | false ↦ λ e k. let parts = both_true (int_eq a.y b.y) (int_lt a.x b.x) k in let same = parts.0 in let less = parts.1 in
+      | false ↦ λ e k. let parts = and_parts (int_eq a.y b.y) (int_lt a.x b.x) k in let same = parts.0 in let less = parts.1 in
           inr (grind (arith, ints), grind (arith, ints))
     ] refl h
 
@@ -107,24 +107,24 @@ min-first a b h = grind (arith, ints)
 pub box-top : (rule : Rule) (c : Cell) (cells : List Cell) → are_sorted_cells MAX_LEVEL rule (c ∷ cells) ≡ true → (box_of c cells).top ≡ c.y
 box-top rule c [] h = refl
 box-top rule c (d ∷ cells) h =
-    let parts = both_true (is_live_cell MAX_LEVEL rule c && rises c d) (are_sorted_cells MAX_LEVEL rule (d ∷ cells)) h in
-    let up = rises-cases c d (both_true (is_live_cell MAX_LEVEL rule c) (rises c d) parts.0).1 in
+    let parts = and_parts (is_live_cell MAX_LEVEL rule c && rises c d) (are_sorted_cells MAX_LEVEL rule (d ∷ cells)) h in
+    let up = rises-cases c d (and_parts (is_live_cell MAX_LEVEL rule c) (rises c d) parts.0).1 in
     let less : c.y ≤ℤ d.y = elim up as (λ _. c.y ≤ℤ d.y) [ inl h ↦ omega (arith, ints, h) | inr h ↦ omega (arith, ints, h.0) ] in
     ap (int_min c.y) (box-top rule d cells parts.1) ∙ min-first c.y d.y less
 
 first-live : (rule : Rule) (c : Cell) (cells : List Cell) → are_sorted_cells MAX_LEVEL rule (c ∷ cells) ≡ true → is_live_cell MAX_LEVEL rule c ≡ true
 first-live rule c [] h = h
 first-live rule c (d ∷ cells) h
-    = (both_true (is_live_cell MAX_LEVEL rule c) (rises c d)
-    (both_true (is_live_cell MAX_LEVEL rule c && rises c d) (are_sorted_cells MAX_LEVEL rule (d ∷ cells)) h).0).0
+    = (and_parts (is_live_cell MAX_LEVEL rule c) (rises c d)
+    (and_parts (is_live_cell MAX_LEVEL rule c && rises c d) (are_sorted_cells MAX_LEVEL rule (d ∷ cells)) h).0).0
 
 -- sorted cells follow their first
 Follow-rest : (rule : Rule) (left : ℤ) (c : Cell) (cells : List Cell) → are_sorted_cells MAX_LEVEL rule (c ∷ cells) ≡ true → AllRight left (c ∷ cells)
     → Follow rule left (c.x +ℤ pos 1) c.y cells
 Follow-rest rule left c [] h a = tt
 Follow-rest rule left c (d ∷ cells) h a =
-    let parts = both_true (is_live_cell MAX_LEVEL rule c && rises c d) (are_sorted_cells MAX_LEVEL rule (d ∷ cells)) h in
-    let up = rises-cases c d (both_true (is_live_cell MAX_LEVEL rule c) (rises c d) parts.0).1 in (
+    let parts = and_parts (is_live_cell MAX_LEVEL rule c && rises c d) (are_sorted_cells MAX_LEVEL rule (d ∷ cells)) h in
+    let up = rises-cases c d (and_parts (is_live_cell MAX_LEVEL rule c) (rises c d) parts.0).1 in (
       live-good rule d (first-live rule d cells parts.1),
       elim up as (λ _. ((d.y ≡ c.y) × ((c.x +ℤ pos 1) ≤ℤ d.x)) ⊎ ((c.y <ℤ d.y) × (left ≤ℤ d.x)))
           [ inl u ↦ inr (u, a.1.0) | inr u ↦ inl (sym u.0, omega (arith, ints, u.1)) ],
@@ -162,5 +162,5 @@ IsInPlane-cell rule c g = record { left = g.left; wide = grind (arith, ints); ri
 pub sorted-IsInPlane : (rule : Rule) (c : Cell) (cells : List Cell) → are_sorted_cells MAX_LEVEL rule (c ∷ cells) ≡ true → IsInPlane (box_of c cells)
 sorted-IsInPlane rule c [] h = IsInPlane-cell rule c (live-good rule c h)
 sorted-IsInPlane rule c (d ∷ cells) h =
-    let parts = both_true (is_live_cell MAX_LEVEL rule c && rises c d) (are_sorted_cells MAX_LEVEL rule (d ∷ cells)) h in
+    let parts = and_parts (is_live_cell MAX_LEVEL rule c && rises c d) (are_sorted_cells MAX_LEVEL rule (d ∷ cells)) h in
     IsInPlane-joined rule c (box_of d cells) (live-good rule c (first-live rule c (d ∷ cells) h)) (sorted-IsInPlane rule d cells parts.1)

@@ -7,12 +7,12 @@ use Rattle.life_rle.specs.States.{single_state, prefixed_state, prefixed_number,
 use Rattle.life_rle.specs.Laws.{StatesReadBack}
 
 -- a state of one byte
-one-byte : (b state : ℕ) (rest : List ℕ) → single_state b ≡ Some state → state_at (b ∷ rest) ≡ Some (state, rest)
+pub one-byte : (b state : ℕ) (rest : List ℕ) → single_state b ≡ Some state → state_at (b ∷ rest) ≡ Some (state, rest)
 one-byte b state [] e = ap (λ s. with_rest s []) e
 one-byte b state (c ∷ rest) e = ap (λ s. option_or (with_rest s (c ∷ rest)) (with_rest (prefixed_state b c) rest)) e
 
 -- a state of two bytes
-two-bytes : (b c state : ℕ) (rest : List ℕ) → single_state b ≡ None → prefixed_state b c ≡ Some state → state_at (b ∷ c ∷ rest) ≡ Some (state, rest)
+pub two-bytes : (b c state : ℕ) (rest : List ℕ) → single_state b ≡ None → prefixed_state b c ≡ Some state → state_at (b ∷ c ∷ rest) ≡ Some (state, rest)
 two-bytes b c state rest e f = ap (λ s. option_or (with_rest s (c ∷ rest)) (with_rest (prefixed_state b c) rest)) e ∙ ap (λ s. with_rest s rest) f
 
 abbrev single-by : (dead live letter : Bool) → ℕ → Option ℕ

@@ -4,6 +4,7 @@ use Rattle.std.proofs.lemmas.Bool.Decides.{nat_tests}
 use Rattle.std.proofs.lemmas.Fmt.{decimal_by_steps, decimal_is_IsNumeral}
 use Rattle.std.specs.List.{list_all}
 use Rattle.std.proofs.lemmas.List.Folds.{list_all-append}
+use Rattle.std.proofs.lemmas.Bool.{and_parts}
 use Rattle.life_base.specs.declared.kind.Kind.TheVariants.{ZeroCount, TooLarge}
 use Rattle.life_base.specs.declared.rule.Rule.{Rule}
 use Rattle.life_base.specs.declared.rule.Rule.TheVariants.{Life, Named}
@@ -39,10 +40,6 @@ decimal-is_digit_text n h =
 pub value_of-decimal : (n : ℕ) → n < 2 ^ 64 → value_of (decimal n) ≡ n
 value_of-decimal n h = (decimal_is_IsNumeral n h).1
 
-pub both_true : (a b : Bool) → (a && b) ≡ true → (a ≡ true) × (b ≡ true)
-both_true true b e = (refl, e)
-both_true false b e = cc
-
 -- what no digit text continues
 abbrev pub Stops : (ℕ → Bool) → List ℕ → Type 0
 Stops test [] = Unit {0}
@@ -52,7 +49,7 @@ pub prefix_len-stop : (test : ℕ → Bool) (xs ys : List ℕ) → list_all test
 prefix_len-stop test [] [] h s = refl
 prefix_len-stop test [] (y ∷ ys) h s = ap (λ t. cond t (1 + prefix_len test ys) 0) s
 prefix_len-stop test (x ∷ xs) ys h s =
-    let parts = both_true (test x) (list_all test xs) h in
+    let parts = and_parts (test x) (list_all test xs) h in
     let one : 1 + length xs ≡ suc (length xs) = omega arith in
     ap (λ t. cond t (1 + prefix_len test (xs ++ ys)) 0) parts.0 ∙ ap (λ n. 1 + n) (prefix_len-stop test xs ys parts.1 s) ∙ one
 
@@ -88,7 +85,7 @@ pub next_of-digits : (level n : ℕ) (digits tag : List ℕ) → is_digit_text d
     → next_of level (digits ++ tag) ≡ item_behind n tag
 next_of-digits level n [] tag h v low high t = cc
 next_of-digits level n (d ∷ digits) tag h v low high t =
-    let parts = both_true (is_ascii_digit d) (list_all is_ascii_digit digits) h in
+    let parts = and_parts (is_ascii_digit d) (list_all is_ascii_digit digits) h in
     let plain = digit-plain d parts.0 in
     let trimmed : trim_start ((d ∷ digits) ++ tag) ≡ (d ∷ digits) ++ tag = ap (λ t. cond t (trim_start (digits ++ tag)) (d ∷ (digits ++ tag))) plain.0 in
     let some : eqb n 0 ≡ false = grind (arith, nat_tests) in

@@ -1,6 +1,7 @@
 -- What a line that breaks no rule says, case by case.
 use Rattle.std.proofs.Common.{◌≡◌, ℕ, List, [], ◌∷◌, ◌++◌, Bool, true, false, not, refl, ap, sym, ◌∙◌, ◌⊎◌, inl, inr}
 use Rattle.std.specs.Prelude.{Option, Some, None, Result, Ok, Err, if◌then◌else◌, is_some}
+use Rattle.std.proofs.lemmas.Bool.{cases_Bool}
 use Rattle.life_base.specs.Text.{is_empty, is_too_long}
 use Rattle.life_base.specs.declared.kind.Kind.{Kind}
 use Rattle.life_base.specs.declared.kind.Kind.TheVariants.{LineTooLong, NoRuleLine, BadDescriptor, UnsupportedNeighborhood, UnsupportedSymmetry, BadVariable, BadTransition, UnboundOutput, NotQuiet}
@@ -48,10 +49,6 @@ pub data Case (parsed : Parsed) (number : ℕ) (line : List ℕ) (directive : Di
   says : parsed.section ≡ Open → is_section_line line ≡ false → is_empty (content line) ≡ false → Says parsed number (content line) directive
       → Case parsed number line directive
   behind : parsed.section ≡ Behind → directive ≡ Nothing → Case parsed number line directive
-
-pub known : (b : Bool) → (b ≡ true) ⊎ (b ≡ false)
-known true = inl refl
-known false = inr refl
 
 pub some_or_none : {X : Type 0} (o : Option X) → ((x : X) × (o ≡ Some x)) ⊎ (o ≡ None)
 some_or_none None = inr refl
@@ -131,11 +128,11 @@ module _ (parsed : Parsed) (number : ℕ) (text : List ℕ) (directive : Directi
   descriptor_case : is_descriptor text ≡ true → parse_descriptor parsed.n_states parsed.neighborhood parsed.symmetry text ≡ Ok directive
       → Says parsed number text directive
   unfolding parse_descriptor
-  descriptor_case d h = elim (known (is_states_key (key_of text))) [
+  descriptor_case d h = elim (cases_Bool (is_states_key (key_of text))) [
     | inl yes_states ↦ states_case d yes_states (then_part (is_states_key (key_of text)) _ _ (Ok directive) yes_states h)
     | inr no_states ↦
         let g = else_part (is_states_key (key_of text)) _ _ (Ok directive) no_states h in
-        elim (known (is_neighborhood_key (key_of text))) [
+        elim (cases_Bool (is_neighborhood_key (key_of text))) [
           | inl yes_neighbors ↦ neighbors_case d no_states yes_neighbors (then_part (is_neighborhood_key (key_of text)) _ _ (Ok directive) yes_neighbors g)
           | inr no_neighbors ↦ third_case d no_states no_neighbors (else_part (is_neighborhood_key (key_of text)) _ _ (Ok directive) no_neighbors g)
         ]
@@ -171,7 +168,7 @@ module _ (parsed : Parsed) (number : ℕ) (text : List ℕ) (directive : Directi
   settled_case : is_descriptor text ≡ false → (n : ℕ) (h : Neighborhood) (y : Symmetry) → parsed.n_states ≡ Some n → parsed.neighborhood ≡ Some h
       → parsed.symmetry ≡ Some y
       → parse_settled n h parsed.vars parsed.lines number text ≡ Ok directive → Says parsed number text directive
-  settled_case d n h y en eh ey a = elim (known (is_variable_line text)) [
+  settled_case d n h y en eh ey a = elim (cases_Bool (is_variable_line text)) [
     | inl does ↦ variable_case d n h y en eh ey does (then_part (is_variable_line text) _ _ (Ok directive) does a)
     | inr does_not ↦ transition_case d n h y en eh ey does_not (else_part (is_variable_line text) _ _ (Ok directive) does_not a)
   ]
@@ -187,7 +184,7 @@ module _ (parsed : Parsed) (number : ℕ) (text : List ℕ) (directive : Directi
   pub text_case : (if is_descriptor text then parse_descriptor parsed.n_states parsed.neighborhood parsed.symmetry text
       else parse_rest parsed.n_states parsed.neighborhood parsed.symmetry parsed.vars parsed.lines number text) ≡ Ok directive
       → Says parsed number text directive
-  text_case a = elim (known (is_descriptor text)) [
+  text_case a = elim (cases_Bool (is_descriptor text)) [
     | inl does ↦ descriptor_case does (then_part (is_descriptor text) _ _ (Ok directive) does a)
     | inr does_not ↦ rest_case does_not parsed.n_states parsed.neighborhood parsed.symmetry refl refl refl
         (else_part (is_descriptor text) _ _ (Ok directive) does_not a)
@@ -196,7 +193,7 @@ module _ (parsed : Parsed) (number : ℕ) (text : List ℕ) (directive : Directi
 module _ (parsed : Parsed) (number : ℕ) (line : List ℕ) (directive : Directive) where
   start_case : parsed.section ≡ Ahead → parsed.name ≡ None → (if is_passed_over line then Ok Nothing else if_named (name_on line)) ≡ Ok directive
       → Case parsed number line directive
-  start_case s e a = elim (known (is_passed_over line)) [
+  start_case s e a = elim (cases_Bool (is_passed_over line)) [
     | inl does ↦ passed s e does (let g : Ok Nothing ≡ Ok directive = then_part (is_passed_over line) _ _ (Ok directive) does a in cc)
     | inr does_not ↦
         let g : if_named (name_on line) ≡ Ok directive = else_part (is_passed_over line) _ _ (Ok directive) does_not a in
@@ -210,7 +207,7 @@ module _ (parsed : Parsed) (number : ℕ) (line : List ℕ) (directive : Directi
   opening = if is_table_line line then Ok TableOpens else Ok Nothing
 
   behind_rule_case : parsed.section ≡ Ahead → (name : List ℕ) → parsed.name ≡ Some name → opening ≡ Ok directive → Case parsed number line directive
-  behind_rule_case s name e a = elim (known (is_table_line line)) [
+  behind_rule_case s name e a = elim (cases_Bool (is_table_line line)) [
     | inl does ↦ opens s name e does (let g : Ok TableOpens ≡ Ok directive = then_part (is_table_line line) _ _ (Ok directive) does a in cc)
     | inr does_not ↦ ahead s name e does_not (let g : Ok Nothing ≡ Ok directive = else_part (is_table_line line) _ _ (Ok directive) does_not a in cc)
   ]
@@ -224,13 +221,13 @@ module _ (parsed : Parsed) (number : ℕ) (line : List ℕ) (directive : Directi
       (if is_descriptor (content line) then parse_descriptor parsed.n_states parsed.neighborhood parsed.symmetry (content line)
       else parse_rest parsed.n_states parsed.neighborhood parsed.symmetry parsed.vars parsed.lines number (content line))) ≡ Ok directive
       → Case parsed number line directive
-  content_case s l a = elim (known (is_empty (content line))) [
+  content_case s l a = elim (cases_Bool (is_empty (content line))) [
     | inl does ↦ silent s l does (let g : Ok Nothing ≡ Ok directive = then_part (is_empty (content line)) _ _ (Ok directive) does a in cc)
     | inr does_not ↦ says s l does_not (text_case parsed number (content line) directive (else_part (is_empty (content line)) _ _ (Ok directive) does_not a))
   ]
 
   table_case : parsed.section ≡ Open → parse_in_table parsed number line ≡ Ok directive → Case parsed number line directive
-  table_case s a = elim (known (is_section_line line)) [
+  table_case s a = elim (cases_Bool (is_section_line line)) [
     | inl does ↦
         let g = not_fault (is_described parsed) BadDescriptor (Ok TableEnds) directive (then_part (is_section_line line) _ _ (Ok directive) does a) in
         ends s does g.0 (let f : Ok TableEnds ≡ Ok directive = g.1 in cc)

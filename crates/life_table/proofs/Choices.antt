@@ -1,8 +1,8 @@
 -- Choices of states for variables, and the states that they give to entries.
-use Rattle.std.proofs.Common.{◌≡◌, ◌≢◌, ℕ, zero, suc, ◌+◌, ◌<◌, List, [], ◌∷◌, ◌++◌, map, take, length, get_or, cond, true, false, refl, ap, sym, ◌∙◌, subst, inl, inr, arith, eq-eqb, ◌↔◌}
+use Rattle.std.proofs.Common.{◌≡◌, ◌≢◌, ℕ, suc, ◌+◌, ◌<◌, List, [], ◌∷◌, ◌++◌, map, take, length, get_or, cond, true, false, refl, ap, sym, ◌∙◌, subst, inl, inr, arith, eq-eqb, ◌↔◌}
 use Rattle.std.specs.Prelude.{slice_get, IfSome, IsTrue, nat_eq}
 use Rattle.std.proofs.lemmas.Bool.Decides.{eqb_tells}
-use Rattle.std.proofs.lemmas.List.{take_more, get_or-take}
+use Rattle.std.proofs.lemmas.List.{take_more, get_or-take, length-map, map-append}
 use Rattle.std.proofs.Common.{length-take}
 use Rattle.life_table.specs.Meaning.{IsChoice, state_of, HasState}
 use Rattle.life_table.specs.Found.{Consistent}
@@ -25,19 +25,6 @@ snoc_both (x ∷ us) (y ∷ bs) a b n e =
     let r = snoc_both us bs a b lengths tails in
     let rest = r.0 in
     (cc, r.1)
-
-map_snoc : {X : Type 0} (f : X → ℕ) (xs : List X) (x : X) → map f (xs ++ x ∷ []) ≡ map f xs ++ f x ∷ []
-map_snoc f [] x = refl
-map_snoc f (y ∷ ys) x = ap (λ z. f y ∷ z) (map_snoc f ys x)
-
-length_map : {X : Type 0} (f : X → ℕ) (xs : List X) → length (map f xs) ≡ length xs
-length_map f [] = refl
-length_map f (x ∷ xs) = ap suc (length_map f xs)
-
-value_at : {X : Type 0} (f : X → ℕ) (xs : List X) (k : ℕ) (d : X) (n : ℕ) → k < length xs → get_or (map f xs) k n ≡ f (get_or xs k d)
-value_at f [] k d n h = absurd (omega (arith, h))
-value_at f (x ∷ xs) zero d n h = refl
-value_at f (x ∷ xs) (suc k) d n h = value_at f xs k d n (omega (arith, h))
 
 -- the choice that gives x to the variable i
 abbrev pub changed : (ℕ → ℕ) → ℕ → ℕ → ℕ → ℕ
@@ -71,12 +58,12 @@ changed_others choice i x (e ∷ es) h =
 
 module _ (vars : List Var) (es : List Entry) (ws : List ℕ) (same : length es ≡ length ws) where
   pub ends : (e : Entry) (x : ℕ) (c : Consistent vars (es ++ e ∷ []) (ws ++ x ∷ [])) → (map (state_of c.choice) es ≡ ws) × (state_of c.choice e ≡ x)
-  ends e x c = snoc_both (map (state_of c.choice) es) ws (state_of c.choice e) x (length_map (state_of c.choice) es ∙ same)
-      (sym (map_snoc (state_of c.choice) es e) ∙ c.values)
+  ends e x c = snoc_both (map (state_of c.choice) es) ws (state_of c.choice e) x (length-map es (state_of c.choice) ∙ same)
+      (sym (map-append (state_of c.choice) es (e ∷ [])) ∙ c.values)
 
   join : (choice : ℕ → ℕ) → IsChoice vars choice → map (state_of choice) es ≡ ws → (e : Entry) (x : ℕ) → state_of choice e ≡ x
       → Consistent vars (es ++ e ∷ []) (ws ++ x ∷ [])
-  join choice is values e x h = record { choice = choice; is_choice = is; values = map_snoc (state_of choice) es e ∙ cc }
+  join choice is values e x h = record { choice = choice; is_choice = is; values = map-append (state_of choice) es (e ∷ []) ∙ cc }
 
   -- the front of consistent states
   pub front : (e : Entry) (x : ℕ) → Consistent vars (es ++ e ∷ []) (ws ++ x ∷ []) → Consistent vars es ws

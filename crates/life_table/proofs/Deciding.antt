@@ -1,5 +1,5 @@
 -- What a line gives by counts, from the groups of its open inputs and the places that its settled inputs leave free.
-use Rattle.std.proofs.Common.{◌≡◌, ℕ, ◌+◌, ◌-◌, ◌<◌, List, [], ◌∷◌, map, take, drop, length, get_or, cond, nat_eq, Bool, true, false, refl, ap, sym, ◌∙◌, subst, ◌⊎◌, inl, inr, arith, length-drop}
+use Rattle.std.proofs.Common.{◌≡◌, ℕ, ◌+◌, ◌-◌, ◌<◌, List, [], ◌∷◌, map, take, drop, length, get_or, cond, nat_eq, Bool, true, false, refl, ap, sym, ◌∙◌, subst, inl, inr, arith, length-drop}
 use Rattle.std.specs.Prelude.{Option, Some, None, slice_get, IfSome, All}
 use Rattle.std.specs.List.{sum_by}
 use Rattle.std.specs.Option.{option_map_or}
@@ -7,6 +7,8 @@ use Rattle.std.proofs.lemmas.Bool.Decides.{eqb_tells}
 use Rattle.std.proofs.lemmas.List.{take_all}
 use Rattle.std.proofs.lemmas.List.Elements.{All-head, All-tail}
 use Rattle.std.proofs.lemmas.List.Sums.{sum_by-cons}
+use Rattle.std.proofs.lemmas.Bool.{cases_Bool}
+use Rattle.std.proofs.lemmas.Option.{same_Some}
 use Rattle.life_table.specs.Meaning.{IsChoice, has_state, state_of, count_of, GivesByCounts}
 use Rattle.life_table.specs.Found.{Tells}
 use Rattle.life_table.specs.Valid.{is_variable}
@@ -23,10 +25,6 @@ use Rattle.life_table.specs.declared.table.Entry.TheVariants as entries
 use Rattle.life_table.specs.declared.table.Transition.{Transition}
 use Rattle.life_table.specs.declared.groups.Group.{Group}
 
-known : (b : Bool) → (b ≡ true) ⊎ (b ≡ false)
-known true = inl refl
-known false = inr refl
-
 -- the centre's variable has the centre's state
 centre_is : (choice : ℕ → ℕ) (i : ℕ) (first : Entry) → is_variable i first ≡ true → state_of choice first ≡ choice i
 centre_is choice i (entries.Fixed s) h = absurd (let z : ⊥ = cc in z)
@@ -39,7 +37,7 @@ centre_is choice i (entries.Var j) h = elim (eqb_tells i j) [
 one_entry : (choice : ℕ → ℕ) (first : Entry) (centre t : ℕ) → state_of choice first ≡ centre → (e : Entry) →
     of_state t (state_of choice e) 1 ≡ option_map_or (λ s. of_state t s 1) (settled first centre e) 0 + open_state first choice t e
 one_entry choice first centre t h (entries.Fixed s) = omega arith
-one_entry choice first centre t h (entries.Var i) = elim (known (is_variable i first)) [
+one_entry choice first centre t h (entries.Var i) = elim (cases_Bool (is_variable i first)) [
   | inl is_one ↦
       let a = ap (λ b. option_map_or (λ s. of_state t s 1) (cond b (Some centre) None) 0 + cond b 0 (of_state t (choice i) 1)) is_one in
       let b = ap (λ s. of_state t s 1) (sym (centre_is choice i first is_one) ∙ h) in
@@ -63,9 +61,6 @@ split_count choice first centre t h (e ∷ es) =
 
 some_none : {X : Type 0} {x : X} → Some x ≡ None → ⊥
 some_none e = cc
-
-some_same : (a b : ℕ) → Some a ≡ Some b → a ≡ b
-some_same a b e = cc
 
 some_holds : {X : Type 0} (p : X → Bool) (o : Option X) → option_map_or p o false ≡ true → IfSome o (λ x. p x ≡ true)
 some_holds p None h = absurd (let z : ⊥ = cc in z)
@@ -161,9 +156,9 @@ module _ (vars : List Var) (line : Transition) (first : Entry) (rest : List Entr
 
     -- where the output is settled
     settled_is : (choice : ℕ → ℕ) → state_of choice first ≡ centre → (e : Entry) (o : ℕ) → settled first centre e ≡ Some o → state_of choice e ≡ o
-    settled_is choice h (entries.Fixed s) o is = some_same s o is
-    settled_is choice h (entries.Var i) o is = elim (known (is_variable i first)) [
-      | inl is_one ↦ sym (centre_is choice i first is_one) ∙ h ∙ some_same centre o (sym (ap (λ b. cond b (Some centre) None) is_one) ∙ is)
+    settled_is choice h (entries.Fixed s) o is = same_Some s o is
+    settled_is choice h (entries.Var i) o is = elim (cases_Bool (is_variable i first)) [
+      | inl is_one ↦ sym (centre_is choice i first is_one) ∙ h ∙ same_Some centre o (sym (ap (λ b. cond b (Some centre) None) is_one) ∙ is)
       | inr is_none ↦ absurd (some_none (sym (sym (ap (λ b. cond b (Some centre) None) is_none) ∙ is)))
     ]
 
@@ -180,7 +175,7 @@ module _ (vars : List Var) (line : Transition) (first : Entry) (rest : List Entr
         → ((i : ℕ) → e ≡ entries.Var i → is_variable i first ≡ false → first_variable output_groups ≡ i) →
         (state_of new e ≡ choice (first_variable output_groups)) × (state_of choice e ≡ choice (first_variable output_groups))
     open_is choice new c (entries.Fixed s) is h = absurd (some_none is)
-    open_is choice new c (entries.Var i) is h = elim (known (is_variable i first)) [
+    open_is choice new c (entries.Var i) is h = elim (cases_Bool (is_variable i first)) [
       | inl is_one ↦ absurd (some_none (sym (ap (λ b. cond b (Some centre) None) is_one) ∙ is))
       | inr is_none ↦ let v = h i refl is_none in (c.others i is_none ∙ ap choice (sym v), ap choice (sym v))
     ]

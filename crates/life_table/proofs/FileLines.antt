@@ -106,6 +106,10 @@ module _ (ps : List Numbered) (x : Numbered) (stands : Stands ps) where
       go (ruled r rs e t) f = absurd (not_ahead v (sym (section_ahead ps x r rs e t) ∙ s))
       go (tabled r rs e t bs b) f = f r rs e t bs b (same (list_any is_section bs) v (sym (section_within ps x r rs e t bs b) ∙ s))
 
+  -- what a test leaves of the text of the line
+  abbrev filter_one : Bool → List Numbered
+  filter_one b = if not b then (x.0, content x.1) ∷ [] else []
+
   says_line : section_of ps ≡ Open → is_section_line x.1 ≡ false → is_empty (content x.1) ≡ false → (directive : Directive)
       → Says (parsed_by ps) x.0 (content x.1) directive → More directive
   says_line s l e directive more = if_within false s (λ r rs er t bs et any. named_by r rs er (λ name n.
@@ -123,9 +127,6 @@ module _ (ps : List Numbered) (x : Numbered) (stands : Stands ps) where
           texts = subst TextsStand (sym g'.texts) m.1;
         },
       )))
-    where
-      filter_one : Bool → List Numbered
-      filter_one b = if not b then (x.0, content x.1) ∷ [] else []
 
   pub line_more : (directive : Directive) → Case (parsed_by ps) x.0 x.1 directive → More directive
   line_more directive (passed s n p is) = subst More (sym is) (passed_more s n p)
@@ -140,9 +141,6 @@ module _ (ps : List Numbered) (x : Numbered) (stands : Stands ps) where
       let none : contents (x ∷ []) ≡ [] = ap (λ (v : Bool). filter_one v) e in
       let g : Grown ps x (name_of ps) Open [] = subst (λ (ms : List Numbered). Grown ps x (name_of ps) Open ms) none (grown_text ps x r rs er t bs b any l) in
       still Nothing name Open g n (ap (λ (z : Section). parsed_in (name_of ps) z (table_texts ps)) (sym s)))))
-    where
-      filter_one : Bool → List Numbered
-      filter_one b = if not b then (x.0, content x.1) ∷ [] else []
   line_more directive (says s l e more) = says_line s l e directive more
   line_more directive (behind s is) = subst More (sym is) (if_within true s (λ r rs e t bs b any. named_by r rs e (λ name n.
       still Nothing name Behind (grown_behind ps x r rs e t bs b any) n (ap (λ (z : Section). parsed_in (name_of ps) z (table_texts ps)) (sym s)))))

@@ -1,5 +1,5 @@
 -- One more line: the rule line, the table line, and the lines of the table.
-use Rattle.std.proofs.Common.{◌≡◌, ℕ, List, [], ◌∷◌, ◌++◌, drop, Bool, true, false, not, refl, ap, sym, ◌∙◌, ◌||◌, ◌⊎◌, inl, inr}
+use Rattle.std.proofs.Common.{◌≡◌, ℕ, List, [], ◌∷◌, ◌++◌, drop, Bool, true, false, not, refl, ap, sym, ◌∙◌, ◌||◌, ◌⊎◌, inl, inr, append-nil}
 use Rattle.std.specs.Prelude.{Option, None, if◌then◌else◌, option_and_then, slice_get}
 use Rattle.std.specs.List.{list_any}
 use Rattle.std.proofs.lemmas.List.Folds.{list_any-append}
@@ -72,10 +72,6 @@ split_list : {X : Type 0} (xs : List X) → ((y : X) × (ys : List X) × (xs ≡
 split_list [] = inr refl
 split_list (x ∷ xs) = inl (x, xs, refl)
 
-known : (b : Bool) → (b ≡ true) ⊎ (b ≡ false)
-known true = inl refl
-known false = inr refl
-
 abbrev pub is_section : Numbered → Bool
 is_section line = is_section_line line.1
 
@@ -124,10 +120,6 @@ pub record Grown (ps : List Numbered) (x : Numbered) (new_name : Option (List �
   pub name : name_of (ps ++ x ∷ []) ≡ new_name
   pub section : section_of (ps ++ x ∷ []) ≡ new_section
   pub texts : table_texts (ps ++ x ∷ []) ≡ table_texts ps ++ more
-
-nothing_more : (xs : List Numbered) → xs ≡ xs ++ []
-nothing_more [] = refl
-nothing_more (x ∷ xs) = ap (λ (t : List Numbered). x ∷ t) (nothing_more xs)
 
 contents_step : (b : Bool) (number : ℕ) (line : List ℕ) (xs ys : List Numbered) → is_empty (content line) ≡ b → contents (xs ++ ys) ≡ contents xs ++ contents ys
     → contents ((number, line) ∷ (xs ++ ys)) ≡ contents ((number, line) ∷ xs) ++ contents ys
@@ -198,12 +190,12 @@ module _ (ps : List Numbered) (x : Numbered) where
       pub grown_behind : list_any is_section bs ≡ true → Grown ps x (name_of ps) Behind []
       grown_behind a =
           in_table None Behind [] (ap (λ (b : Bool). if b then Behind else Open) (any_more is_section bs x ∙ ap (λ (b : Bool). b || is_section x) a))
-          (ap contents (up_to_ended is_section bs x a) ∙ nothing_more (contents (up_to is_section bs)))
+          (ap contents (up_to_ended is_section bs x a) ∙ sym (append-nil (contents (up_to is_section bs))))
 
       pub grown_ends : list_any is_section bs ≡ false → is_section_line x.1 ≡ true → Grown ps x (name_of ps) Behind []
       grown_ends a p =
           in_table None Behind [] (ap (λ (b : Bool). if b then Behind else Open) (any_more is_section bs x ∙ ap (λ (b : Bool). b || is_section x) a ∙ p))
-          (ap contents (up_to_end is_section bs x p a ∙ sym (up_to_all is_section bs a)) ∙ nothing_more (contents (up_to is_section bs)))
+          (ap contents (up_to_end is_section bs x p a ∙ sym (up_to_all is_section bs a)) ∙ sym (append-nil (contents (up_to is_section bs))))
 
       pub grown_text : list_any is_section bs ≡ false → is_section_line x.1 ≡ false → Grown ps x (name_of ps) Open (contents (x ∷ []))
       grown_text a p =

@@ -1,5 +1,5 @@
 -- What is said so far are parts of a rule table.
-use Rattle.std.proofs.Common.{◌≡◌, ◌≢◌, ℕ, ◌+◌, ◌<◌, ◌≤◌, List, [], ◌∷◌, ◌++◌, length, Bool, true, false, refl, ap, sym, ◌∙◌, subst, ◌&&◌, ◌||◌, inl, inr, arith, cond, get_or, length-append}
+use Rattle.std.proofs.Common.{◌≡◌, ◌≢◌, ℕ, ◌+◌, ◌<◌, ◌≤◌, List, [], ◌∷◌, ◌++◌, length, Bool, true, false, refl, ap, sym, ◌∙◌, subst, ◌&&◌, ◌||◌, inl, inr, arith, get_or, length-append}
 use Rattle.std.specs.Prelude.{Option, Some, None, if◌then◌else◌, All, IsTrue, IfSome, nat_lt, nat_le, slice_get, bytes_eq}
 use Rattle.std.specs.List.{list_any, list_all, position_or_len}
 use Rattle.std.specs.Option.{option_map_or}
@@ -30,6 +30,7 @@ use Rattle.life_table.proofs.Fronts.{any_more}
 use Rattle.life_table.proofs.Cases.{Says, states, neighbors, orders, variable, transition, Case, passed, named, ahead, opens, ends, silent, says, behind}
 use Rattle.life_table.proofs.Texts.{all_more}
 use Rattle.life_table.proofs.Values.{tested, below_limit, is_variable_written, is_transition}
+use Rattle.life_table.proofs.Parts.{is_false}
 
 -- 1. One more variable
 
@@ -89,10 +90,6 @@ none_named vars name none i x there same =
     let fails_here : bytes_eq x.name name ≡ false = ap (λ (w : Var). bytes_eq w.name name) (sym at) ∙ fails in
     let passes : bytes_eq x.name name ≡ true = (bytes_eq-Decides x.name name).1 same in
     let z : true ≡ false = sym passes ∙ fails_here in cc
-  where
-    is_false : (b : Bool) (m : ℕ) → cond b (Some m) None ≡ None → b ≡ false
-    is_false true m h = absurd (let z : ⊥ = cc in z)
-    is_false false m h = refl
 
 abbrev AreApart : List Var → Type 0
 AreApart vars = (i j : ℕ) (x y : Var) → i < j → slice_get vars i ≡ Some x → slice_get vars j ≡ Some y → x.name ≢ y.name

@@ -3,12 +3,13 @@ use Rattle.std.proofs.Common.{◌≡◌, ◌≢◌, ℕ, ◌+◌, ◌-◌, ◌*�
 use Rattle.std.specs.Prelude.{All, Contains}
 use Rattle.std.specs.Int.{bit_at, w64}
 use Rattle.std.specs.List.{range_with_len}
-use Rattle.std.proofs.lemmas.Bool.Decides.{eqb_tells, leb_tells}
+use Rattle.std.proofs.lemmas.Bool.Decides.{eqb_tells}
 use Rattle.std.proofs.lemmas.List.{get_or-set_same, get_or-set_other, length-map, get_or-take, get_or_push, get_or_append_left, take_all, length_push}
 use Rattle.std.proofs.lemmas.List.Elements.{Contains-append_cases}
 use Rattle.std.proofs.lemmas.List.FromFn.{length-map-range_with_len, get_or-map-range_with_len}
 use Rattle.std.proofs.lemmas.Nat.{pow-add}
 use Rattle.std.proofs.lemmas.Nat.Bits.{shr_and_one, bit_at_and, bit_at_or, bit_at_set_same, bit_at_set_other, bit_at-lt, bit_at-zero}
+use Rattle.std.proofs.lemmas.Bool.{cases_lt}
 use Rattle.std.proofs.Math.Nat.{div-div-eq-div-mul}
 use Rattle.life_table.specs.Index.{Stay, HasLine, HasLines, AreBlocks, MayFit, IsImage, MayGive}
 use Rattle.life_table.specs.Meaning.{IsChoice, state_of, Gives, GivesNothing}
@@ -98,13 +99,6 @@ pub one_more_kept : (found i : ℕ) (P : ℕ → Type 0) → i < 64 → ((k : �
 one_more_kept found i P room before k below p = elim (eqb_tells k i) [
   | inl same ↦ ap (bit_at (bit_or found (1 * 2 ^ i % 2 ^ 64))) same.1 ∙ bit_at_set_same w64 found i room
   | inr other ↦ bit_at_set_other w64 found i room k other.1 ∙ before k (omega (arith, below, other.1)) p
-]
-
-pub one_more_left : (found i : ℕ) (P : ℕ → Type 0) → ¬ (P i) → ((k : ℕ) → k < i → P k → bit_at found k ≡ 1) → (k : ℕ) → k < i + 1 → P k
-    → bit_at found k ≡ 1
-one_more_left found i P none before k below p = elim (eqb_tells k i) [
-  | inl same ↦ absurd (none (subst P same.1 p))
-  | inr other ↦ before k (omega (arith, below, other.1)) p
 ]
 
 -- a bit that is not 0
@@ -203,17 +197,8 @@ module _ (ways : Turns) (cells : List ℕ) (stored : List (List ℕ)) (count : �
 
 -- ---- lines that are passed over
 
-less_or_not : (i n : ℕ) → (i < n) ⊎ (n ≤ i)
-less_or_not i n = elim (leb_tells n i) [ inl more ↦ inr more.1 | inr less ↦ inl less.1 ]
-
 module _ (symmetry : Symmetry) (vars : List Var) (centre : ℕ) (others : List ℕ) (lines : List Transition) (from may : ℕ)
     (in_set : MayGive symmetry vars centre others lines from may) where
-  -- a line that is not in the set gives nothing
-  pub silent_there : (k : ℕ) (line : Transition) → k < 64 → from + k < length lines → line ≡ get_or lines (from + k) line → bit_at may k ≢ 1
-      → GivesNothing symmetry vars centre others line
-  silent_there k line room inside at none = λ s g.
-      none (in_set k line room inside s (subst (λ (l : Transition). Gives symmetry vars l centre others s) at g))
-
   -- where no line is left in the set, the others of the 64 give nothing
   pub silent_rest : (k end : ℕ) → k ≤ 64 → may / 2 ^ k ≡ 0 → end ≤ from + 64 → All (GivesNothing symmetry vars centre others) (take (from + k) lines)
       → All (GivesNothing symmetry vars centre others) (take end lines)
@@ -221,7 +206,7 @@ module _ (symmetry : Symmetry) (vars : List Var) (centre : ℕ) (others : List �
       let size = length-take end lines in
       let before : i < end = omega (arith, below, size) in
       let inside : i < length lines = omega (arith, below, size) in
-      elim (less_or_not i (from + k)) [
+      elim (cases_lt i (from + k)) [
         | inl less ↦
             let there : i < length (take (from + k) lines) = let e = length-take (from + k) lines in omega (arith, e, less, inside) in
             subst (GivesNothing symmetry vars centre others) (get_or-take (from + k) lines i d less ∙ sym (get_or-take end lines i d before)) (silent i d there)
@@ -236,7 +221,7 @@ module _ (symmetry : Symmetry) (vars : List Var) (centre : ℕ) (others : List �
 -- so give the lines of a list that end together
 pub ends_together : (lines : List Transition) (from k : ℕ) → from ≤ length lines → k ≡ min 64 (length lines - from)
     → take (from + k) lines ≡ take (from + 64) lines
-ends_together lines from k inside is = elim (less_or_not (length lines) (from + 64)) [
+ends_together lines from k inside is = elim (cases_lt (length lines) (from + 64)) [
   | inl less ↦ take_all (from + k) lines (omega (arith, less, inside, is)) ∙ sym (take_all (from + 64) lines (omega (arith, less)))
   | inr more ↦ ap (λ n. take n lines) (omega (arith, more, is))
 ]

@@ -1,9 +1,8 @@
 -- What a text of the table is, and the tests by which it is read.
-use Rattle.std.proofs.Common.{◌≡◌, inl, inr, ℕ, zero, suc, ◌+◌, ◌<◌, ◌≤◌, List, [], ◌∷◌, ◌++◌, length, take, map, Bool, true, false, refl, sym, ap, subst, ◌∙◌, arith}
+use Rattle.std.proofs.Common.{◌≡◌, inl, inr, ℕ, zero, suc, ◌+◌, ◌≤◌, List, [], ◌∷◌, ◌++◌, length, take, map, Bool, true, false, refl, sym, ap, subst, ◌∙◌, arith, lt-ltb, eq-eqb, eqb-true}
 use Rattle.std.specs.Prelude.{Option, Some, None, if◌then◌else◌, is_some, nat_le, nat_lt, ◌==◌, ◌&&◌, bytes_eq, codes, slice_get, option_map, option_and_then}
 use Rattle.std.specs.List.{AllZip}
-use Rattle.std.proofs.lemmas.Bool.{le-leb, leb-true, and_from, and_parts}
-use Rattle.std.proofs.lemmas.Bool.Decides.{nat_tests}
+use Rattle.std.proofs.lemmas.Bool.{le-leb, leb-true, and_from, and_parts, cases_Bool}
 use Rattle.std.proofs.lemmas.List.{length-append, length-take-le}
 use Rattle.std.proofs.lemmas.Slice.Eq.{bytes_eq-Decides}
 use Rattle.std.proofs.Math.Seq.{take-append_seam}
@@ -17,7 +16,7 @@ use Rattle.life_table.specs.declared.table.Symmetry.{Symmetry}
 use Rattle.life_table.specs.declared.table.Symmetry.TheVariants.{Identity, Rotate4, Rotate4Reflect, ReflectHorizontal, Permute, Rotate8, Rotate8Reflect}
 use Rattle.life_table.specs.declared.table.Transition.{Transition}
 use Rattle.life_table.specs.declared.table.Var.{Var}
-use Rattle.life_table.proofs.Cases.{known, then_part, else_part, not_some}
+use Rattle.life_table.proofs.Cases.{then_part, else_part, not_some}
 use Rattle.life_table.proofs.Texts.{split_some}
 use Rattle.life_table.proofs.Values.{mapped, followed, tested, tested_not, below_limit}
 
@@ -31,21 +30,12 @@ pub take_else : {X : Type 0} (b : Bool) (x y : X) → b ≡ false → (if b then
 take_else true x y e = cc
 take_else false x y e = refl
 
-below : (a b : ℕ) → a < b → nat_lt a b ≡ true
-below a b h = grind (arith, nat_tests)
-
-equal : (a b : ℕ) → a ≡ b → (a == b) ≡ true
-equal a b h = grind (arith, nat_tests)
-
-equals : (a b : ℕ) → (a == b) ≡ true → a ≡ b
-equals a b h = grind (arith, nat_tests)
-
 -- ---- the words of descriptors
 
 pub states_are : (word : List ℕ) (n : ℕ) → is_digit_text word ≡ true → value_of word ≡ n → 2 ≤ n → n ≤ 256 → states_named word ≡ Some n
 states_are word n d v l m =
     let low : nat_le 2 (value_of word) ≡ true = le-leb 2 (value_of word) (omega (arith, v, l)) in
-    let high : nat_lt (value_of word) 257 ≡ true = below (value_of word) 257 (omega (arith, v, m)) in
+    let high : nat_lt (value_of word) 257 ≡ true = lt-ltb (value_of word) 257 (omega (arith, v, m)) in
     take_then (nat_le 2 (value_of word)) (number_below 257 word) None low
     ∙ take_then (is_digit_text word && nat_lt (value_of word) 257) (Some (value_of word)) None
     (and_from (is_digit_text word) (nat_lt (value_of word) 257) d high)
@@ -62,7 +52,7 @@ states_parsed word n h =
 -- a chain of words: the first that fits is what is meant
 one_word : {X : Type 0} (word_of : X → List ℕ) (word own : List ℕ) (x : X) (rest : Option X) → own ≡ word_of x → ((y : X) → rest ≡ Some y → word ≡ word_of y)
     → (y : X) → (if bytes_eq word own then Some x else rest) ≡ Some y → word ≡ word_of y
-one_word word_of word own x rest e more y h = elim (known (bytes_eq word own)) [
+one_word word_of word own x rest e more y h = elim (cases_Bool (bytes_eq word own)) [
   | inl does ↦
       let g : Some x ≡ Some y = then_part (bytes_eq word own) (Some x) rest (Some y) does h in
       let same : x ≡ y = cc in
@@ -172,7 +162,7 @@ words_parsed n vars (word ∷ words) es h =
     let s = split_some (entry_of n vars word) (map (entry_of n vars) words) es h in
     subst (AllZip (Writes n vars) (word ∷ words)) (sym s.4) (s.2, words_parsed n vars words s.1 s.3)
 
-last_at : {X : Type 0} (xs : List X) (x : X) → slice_get (xs ++ x ∷ []) (length xs) ≡ Some x
+pub last_at : {X : Type 0} (xs : List X) (x : X) → slice_get (xs ++ x ∷ []) (length xs) ≡ Some x
 last_at [] x = refl
 last_at (y ∷ xs) x = last_at xs x
 
@@ -197,7 +187,7 @@ module _ (n k : ℕ) (vars : List Var) (number : ℕ) (text : List ℕ) (line : 
       let last : slice_get whole (k + 1) ≡ Some line.output = ap (slice_get whole) (sym t.count) ∙ last_at line.inputs line.output in
       let made : Entry → Transition = new_line number (take (k + 1) whole) in
       ap (option_and_then (transition_from k number)) (words_are n vars (transition_words text) whole t.words)
-      ∙ take_then (length whole == k + 2) (option_map made (slice_get whole (k + 1))) None (equal (length whole) (k + 2) long)
+      ∙ take_then (length whole == k + 2) (option_map made (slice_get whole (k + 1))) None (eq-eqb (length whole) (k + 2) long)
       ∙ ap (option_map made) last ∙ ap (λ (inputs : List Entry). Some (new_line number inputs line.output)) front
       ∙ ap (λ (m : ℕ). Some (new_line m line.inputs line.output)) (sym t.number_is)
 
@@ -210,7 +200,7 @@ module _ (n k : ℕ) (vars : List Var) (number : ℕ) (text : List ℕ) (line : 
       let es : List Entry = f.0 in
       let g = tested (length es == k + 2) (option_map (new_line number (take (k + 1) es)) (slice_get es (k + 1))) line f.2 in
       let m = mapped (new_line number (take (k + 1) es)) (slice_get es (k + 1)) line g.1 in
-      let long : length es ≡ k + 2 = equals (length es) (k + 2) g.0 in
+      let long : length es ≡ k + 2 = eqb-true (length es) (k + 2) g.0 in
       let parts : whole ≡ es = ap (λ (l : Transition). l.inputs ++ l.output ∷ []) m.2 ∙ last_of (k + 1) es m.0 (omega (arith, long)) m.1 in
       record {
         colon = d;

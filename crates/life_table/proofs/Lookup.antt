@@ -12,6 +12,7 @@ use Rattle.indexmap.specs.IndexMap.{IndexMap, get, insert_entry}
 use Rattle.indexmap.proofs.CallerLemmas.{insert_entry-new}
 use Rattle.indexmap.proofs.MapLemmas.{some_index}
 use Rattle.std.proofs.lemmas.Nat.Bits.{bit_at_lowest}
+use Rattle.life_table.proofs.Cases.{not_some}
 use Rattle.life_table.specs.Meaning.{has_state}
 use Rattle.life_table.specs.ByName.{var_of}
 use Rattle.life_table.specs.Reading.{variable_named}
@@ -45,11 +46,7 @@ number_named word es =
 module _ {S : Type 0} (m : IndexMap (Vec ℕ) (List ℕ) S) (key : Vec ℕ) (var : Var) where
   -- a name that no variable has is no key
   absent : variable_named (map var_of m.entries) key.items ≡ None → get same_bytes m key ≡ None
-  absent none = nothing (get same_bytes m key) (sym (some_index (same_bytes key) m.entries) ∙ ap is_some (number_named key.items m.entries ∙ none))
-    where
-      nothing : {X : Type 0} (o : Option X) → is_some o ≡ false → o ≡ None
-      nothing None h = refl
-      nothing (Some x) h = absurd (let z : ⊥ = cc in z)
+  absent none = not_some (get same_bytes m key) (sym (some_index (same_bytes key) m.entries) ∙ ap is_some (number_named key.items m.entries ∙ none))
 
   -- a new variable goes last
   pub pushed : key.items ≡ var.name → variable_named (map var_of m.entries) var.name ≡ None

@@ -31,10 +31,10 @@ last_part : (p : ℕ → Bool) (text : List ℕ) → length text ≤ position_or
 last_part p [] h = refl
 last_part p (b ∷ text) h = last_step p (p b) b text refl (last_part p text) h
 
-none : (v : Bool) (i : ℕ) → cond v (Some i) None ≡ None → v ≡ false
-none true i h = cc
-none false i h = refl
+pub is_false : (v : Bool) (i : ℕ) → cond v (Some i) None ≡ None → v ≡ false
+is_false true i h = cc
+is_false false i h = refl
 
 -- there is no separator
 pub parts_without : (p : ℕ → Bool) (text : List ℕ) → position p text ≡ None → slice_split p text ≡ text ∷ []
-parts_without p text h = last_part p text (ltb-false _ _ (none (ltb (position_or_len p text) (length text)) _ h))
+parts_without p text h = last_part p text (ltb-false _ _ (is_false (ltb (position_or_len p text) (length text)) _ h))

@@ -6,13 +6,14 @@ use Rattle.std.specs.Option.{option_map_or}
 use Rattle.std.proofs.lemmas.Bool.Decides.{eqb_tells}
 use Rattle.std.proofs.lemmas.Option.{slice_get_cases}
 use Rattle.std.proofs.lemmas.List.Elements.{All-nil, All-cons, All-head, All-tail}
+use Rattle.std.proofs.lemmas.Bool.{cases_Bool}
 use Rattle.life_table.specs.Orders.{images, orders, insertions}
 use Rattle.life_table.specs.Meaning.{IsChoice, HasState, has_state, state_of, Gives, GivesNothing}
 use Rattle.life_table.specs.Valid.{IsVariable, IsEntry, IsTransition, allows_zero, fits_zero, is_quiet_output, is_quiet, neighbour_count, is_variable}
 use Rattle.life_table.specs.Laws.{ZeroStaysZero}
 use Rattle.life_table.proofs.Members.{in_one, in_none, in_cases, from_map, from_flat_map}
 use Rattle.life_table.proofs.Counts.{order_by_counts}
-use Rattle.life_table.proofs.Choosing.{some_state}
+use Rattle.life_table.proofs.Choosing.{some_state, with_first, is_first}
 use Rattle.life_table.specs.declared.table.Neighborhood.{Neighborhood}
 use Rattle.life_table.specs.declared.table.Neighborhood.TheVariants.{VonNeumann, Moore}
 use Rattle.life_table.specs.declared.table.Symmetry.{Symmetry}
@@ -106,31 +107,17 @@ bound_zero choice i (entries.Var j ∷ es) there h = elim (eqb_tells i j) [
 
 -- a choice that takes 0 wherever it may
 
-known : (b : Bool) → (b ≡ true) ⊎ (b ≡ false)
-known true = inl refl
-known false = inr refl
-
 quiet_state : (n : ℕ) (var : Var) → IsVariable n var → (s : ℕ) × HasState var s × (HasState var 0 → s ≡ 0)
-quiet_state n var v = elim (known (has_state var 0)) [
+quiet_state n var v = elim (cases_Bool (has_state var 0)) [
   | inl does ↦ (0, does, λ h. refl)
   | inr not_so ↦ let s = some_state n var v in (s.0, s.1, λ h. absurd (let e : true ≡ false = sym h ∙ not_so in cc))
 ]
-
-with_first : ℕ → (ℕ → ℕ) → ℕ → ℕ
-with_first s rest zero = s
-with_first s rest (suc i) = rest i
 
 -- it takes 0 for each variable that may be 0
 abbrev TakesZero : List Var → (ℕ → ℕ) → Type 0
 TakesZero vars choice = (i : ℕ) (var : Var) → slice_get vars i ≡ Some var → HasState var 0 → choice i ≡ 0
 
-first_choice : (v : Var) (vars : List Var) (s : ℕ) → HasState v s → (rest : ℕ → ℕ) → IsChoice vars rest → IsChoice (v ∷ vars) (with_first s rest)
-unfolding with_first
-first_choice v vars s has rest r zero below = has
-first_choice v vars s has rest r (suc i) below = r i (omega (arith, below))
-
 first_zero : (v : Var) (vars : List Var) (s : ℕ) → (HasState v 0 → s ≡ 0) → (rest : ℕ → ℕ) → TakesZero vars rest → TakesZero (v ∷ vars) (with_first s rest)
-unfolding with_first
 first_zero v vars s quiet rest r zero var is h = quiet (subst (λ w. HasState w 0) (let e : var ≡ v = cc in e) h)
 first_zero v vars s quiet rest r (suc i) var is h = r i var is h
 
@@ -139,7 +126,7 @@ quiet_choice n [] h = ((λ i. 0), (λ i below. absurd (omega (arith, below))), (
 quiet_choice n (v ∷ vars) h =
     let s = quiet_state n v (All-head (IsVariable n) v vars h) in
     let rest = quiet_choice n vars (All-tail (IsVariable n) v vars h) in
-    (with_first s.0 rest.0, first_choice v vars s.0 s.1 rest.0 rest.1, first_zero v vars s.0 s.2 rest.0 rest.2)
+    (with_first s.0 rest.0, is_first v vars s.0 s.1 rest.0 rest.1, first_zero v vars s.0 s.2 rest.0 rest.2)
 
 -- an entry that is 0 under a choice may be 0, and under the quiet choice an entry that may be 0 is
 
@@ -179,7 +166,7 @@ record FirstFit (vars : List Var) (lines : List Transition) : Type 0 where
 
 first_fit : (vars : List Var) (lines : List Transition) → is_quiet vars lines ≡ true → FirstFit vars lines ⊎ All (λ line. fits_zero vars line ≡ false) lines
 first_fit vars [] q = inr (All-nil (λ line. fits_zero vars line ≡ false))
-first_fit vars (x ∷ xs) q = elim (known (fits_zero vars x)) [
+first_fit vars (x ∷ xs) q = elim (cases_Bool (fits_zero vars x)) [
   | inl fits ↦ inl (record {
     before = [];
     line = x;
@@ -206,7 +193,7 @@ first_fit vars (x ∷ xs) q = elim (known (fits_zero vars x)) [
 -- a test that each element passes, or one doesn't
 all_pass : (p : Entry → Bool) (es : List Entry) → list_all p es ≡ true → All (λ e. p e ≡ true) es
 all_pass p [] h = All-nil (λ e. p e ≡ true)
-all_pass p (e ∷ es) h = elim (known (p e)) [
+all_pass p (e ∷ es) h = elim (cases_Bool (p e)) [
   | inl does ↦ All-cons (λ e. p e ≡ true) e es does (all_pass p es (subst (λ (b : Bool). (b && list_all p es) ≡ true) does h))
   | inr not_so ↦ absurd (let e : false ≡ true = subst (λ (b : Bool). (b && list_all p es) ≡ true) not_so h in let z : ⊥ = cc in z)
 ]

@@ -1,4 +1,5 @@
 -- What lines say together with one more that breaks no rule.
+use mathlib.Core.Bool.{and-false}
 use Rattle.std.proofs.Common.{◌≡◌, ℕ, List, [], ◌∷◌, ◌++◌, Bool, true, false, not, refl, ap, sym, ◌∙◌, subst, ◌&&◌, ◌⊎◌, inl, inr}
 use Rattle.std.specs.Prelude.{Option, Some, None, if◌then◌else◌, is_some, option_to_list, All, codes, bytes_eq}
 use Rattle.std.specs.List.{cons_option}
@@ -238,7 +239,7 @@ module _ (name : Option (List ℕ)) (ts : List Numbered) (number : ℕ) (text : 
       let there : variables_written n (texts_of (ts ++ x ∷ [])) ≡ V d n h y en eh ey ++ var ∷ [] = variables_more n ts x
       ∙ ap (λ (vs : List Var). V d n h y en eh ey ++ vs) w in
       let last : IsRead n (neighbour_count h) (V d n h y en eh ey ++ var ∷ []) x = λ is. absurd (
-      let no : is_transition_line text ≡ false = ap (λ (b : Bool). not (is_descriptor text) && not b) v ∙ and_false (not (is_descriptor text)) in
+      let no : is_transition_line text ≡ false = ap (λ (b : Bool). not (is_descriptor text) && not b) v ∙ and-false (not (is_descriptor text)) in
       let z : true ≡ false = sym is ∙ no in let q : ⊥ = cc in q) in (
         parsed_same name Open on' on oh' oh oy' oy _ _ _ _ (states_same d n h y en eh ey) (neighbors_same d n h y en eh ey) (symmetry_same d n h y en eh ey)
             (vars ∙ ap (λ (vs : List Var). vs ++ var ∷ []) (sym (vars_are d n h y en eh ey))) lines,
@@ -248,10 +249,6 @@ module _ (name : Option (List ℕ)) (ts : List Numbered) (number : ℕ) (text : 
             (variables_new n (V d n h y en eh ey) var ts x (stand.variables n en) (ap (λ (b : Bool). b && not (is_descriptor text)) v ∙ ap not d)
             (ap (λ (vs : List Var). variable_of n vs text) (sym (vars_are d n h y en eh ey)) ∙ e))),
       )
-    where
-      and_false : (b : Bool) → (b && false) ≡ false
-      and_false true = refl
-      and_false false = refl
 
   says_transition : is_descriptor text ≡ false → (n : ℕ) (h : Neighborhood) (y : Symmetry) → on ≡ Some n → oh ≡ Some h → oy ≡ Some y
       → is_variable_line text ≡ false → (t : Transition)

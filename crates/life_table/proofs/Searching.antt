@@ -131,7 +131,7 @@ failed_more vars groups states marks free k below h none f j is c = elim (eqb_te
   | inr other ↦ h f j (sym (get_or-set_other marks free f (k + 1) 0 other.1) ∙ is) c
 ]
 
-zeros_at : (n t : ℕ) → slice_index (replicate n 0) t ≡ 0
+pub zeros_at : (n t : ℕ) → slice_index (replicate n 0) t ≡ 0
 zeros_at zero t = refl
 zeros_at (suc n) zero = refl
 zeros_at (suc n) (suc t) = zeros_at n t

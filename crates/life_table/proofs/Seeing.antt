@@ -1,6 +1,6 @@
 -- Which neighbours an entry may be, place by place.
 use Rattle.std.proofs.Common.{◌≡◌, ◌≢◌, ℕ, ◌+◌, ◌-◌, ◌*◌, ◌%◌, ◌/◌, ◌^◌, ◌<◌, List, length, get_or, set, slice_index, replicate, cond, nat_lt, Bool, true, false, refl, ap, sym, ◌∙◌, subst, inl, inr, arith, bit_or, bit_and}
-use Rattle.std.specs.Prelude.{IsTrue, Option, Some, None, slice_get, ◌⊎◌}
+use Rattle.std.specs.Prelude.{IsTrue, Option, Some, None, slice_get}
 use Rattle.std.specs.Int.{bit_at, w16}
 use Rattle.std.proofs.lemmas.Bool.Decides.{eqb_tells}
 use Rattle.std.proofs.lemmas.List.{get_or-set_same, get_or-set_other, get_or_default, get_or-replicate}
@@ -10,6 +10,7 @@ use Rattle.std.proofs.Math.Nat.{div-div-eq-div-mul}
 use Rattle.std.proofs.lemmas.Nat.{pow-add}
 use Rattle.std.proofs.lemmas.Bool.Decides.{nat_tests}
 use Rattle.std.proofs.lemmas.Option.{slice_get_within, get_or_from_slice_get}
+use Rattle.std.proofs.lemmas.Bool.{cases_Bool}
 use Rattle.life_table.specs.Meaning.{has_state}
 use Rattle.life_table.specs.Taking.{can_be_state}
 use Rattle.life_table.specs.Seen.{places, IsSeen}
@@ -99,10 +100,6 @@ all_sixteen n fits h = same_from_bits_below 16 n (2 ^ 16 - 1) fits (omega arith)
 pub same_there : (vars : List Var) (i j : ℕ) (var read : Var) → j ≡ i → i < length vars → var ≡ get_or vars j var → read ≡ get_or vars i read → var ≡ read
 same_there vars i j var read same below is at = is ∙ ap (λ n. get_or vars n var) same ∙ get_or_default vars i var read below ∙ sym at
 
-known : (b : Bool) → (b ≡ true) ⊎ (b ≡ false)
-known true = inl refl
-known false = inr refl
-
 some_holds : {X : Type 0} (p : X → Bool) (o : Option X) → option_map_or p o false ≡ true → (x : X) × (o ≡ Some x) × (p x ≡ true)
 some_holds p None h = absurd (let z : ⊥ = cc in z)
 some_holds p (Some x) h = (x, refl, h)
@@ -124,7 +121,7 @@ seen_is vars others around fixed listed same states variables (entries.Fixed s) 
   | inl is ↦ ap (λ n. bit_at (slice_index fixed n) k) (is.1 ∙ sym (same k room)) ∙ states k room
   | inr other ↦ absurd (let e : true ≡ false = sym h ∙ other.0 in let z : ⊥ = cc in z)
 ]
-seen_is vars others around fixed listed same states variables (entries.Var i) k room h = elim (known (nat_lt i 64)) [
+seen_is vars others around fixed listed same states variables (entries.Var i) k room h = elim (cases_Bool (nat_lt i 64)) [
   | inl is_listed ↦
       let below : i < 64 = grind (arith, nat_tests, is_listed) in
       let r = some_there vars i (slice_index others (k % length others)) h in
@@ -142,7 +139,7 @@ untold_is vars others small (entries.Fixed s) k room h = elim (eqb_tells s (slic
       ap (λ n. bit_at n k) (get_or-replicate 256 s (2 ^ 16 - 1) 0 (omega (arith, is.1, below))) ∙ bit_at_ones 16 k room
   | inr other ↦ absurd (let e : true ≡ false = sym h ∙ other.0 in let z : ⊥ = cc in z)
 ]
-untold_is vars others small (entries.Var i) k room h = elim (known (nat_lt i 64)) [
+untold_is vars others small (entries.Var i) k room h = elim (cases_Bool (nat_lt i 64)) [
   | inl is_listed ↦
       let below : i < 64 = grind (arith, nat_tests, is_listed) in
       ap (λ b. bit_at (cond b (slice_index (replicate 64 (2 ^ 16 - 1)) i) (2 ^ 16 - 1)) k) is_listed

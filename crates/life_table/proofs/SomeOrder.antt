@@ -1,5 +1,5 @@
 -- Lines that may fit some order of the neighbours: as many inputs may be one of some states as there are neighbours of one.
-use Rattle.std.proofs.Common.{◌≡◌, ℕ, suc, ◌+◌, ◌-◌, ◌*◌, ◌<◌, ◌≤◌, ◌∷◌, List, [], take, length, get_or, set, slice_index, cond, Bool, true, false, nat_eq, ap, sym, ◌∙◌, subst, ◌⊎◌, inl, inr, refl, arith, eq-eqb, ◌||◌, length-take, bit_or}
+use Rattle.std.proofs.Common.{◌≡◌, ℕ, suc, ◌+◌, ◌-◌, ◌*◌, ◌<◌, ◌≤◌, ◌∷◌, List, [], take, length, get_or, set, slice_index, cond, Bool, true, false, nat_eq, ap, sym, ◌∙◌, subst, ◌⊎◌, inl, inr, refl, arith, eq-eqb, ◌||◌, length-take, bit_or, drop}
 use Rattle.std.specs.Prelude.{Contains, count_by}
 use Rattle.std.specs.Int.{bit_at}
 use Rattle.std.specs.List.{sum_by}
@@ -9,12 +9,13 @@ use Rattle.std.proofs.lemmas.List.Folds.{list_any-append, list_any_more}
 use Rattle.std.proofs.lemmas.List.Sums.{count_by_more_yes, count_by_more_no, sum_by-cons, sum_by-take-drop}
 use Rattle.std.proofs.lemmas.Map.Views.{Contains-from_any}
 use Rattle.std.proofs.lemmas.Bool.{or_cases, or_left, or_right}
-use Rattle.life_table.specs.Index.{is_among, AreCounts, MayBeBehind, MayFit}
+use Rattle.life_table.specs.Index.{is_among, AreCounts, MayBeBehind, MayFit, MayFitInSomeOrder}
 use Rattle.life_table.specs.Orders.{orders}
 use Rattle.life_table.specs.Meaning.{count_of}
 use Rattle.life_table.proofs.Counts.{sum-order, count-order, count-cons, is_one}
 use Rattle.life_table.proofs.Grouping.{is_clash}
 use Rattle.life_table.proofs.Seeing.{or_left as bits_left, or_right as bits_right}
+use Rattle.life_table.proofs.Deciding.{rest_of}
 use Rattle.life_table.specs.declared.block.Block.{Block}
 use Rattle.life_table.specs.declared.some_order.Counts.{Counts}
 
@@ -115,7 +116,7 @@ counted_more others states times count y n room space is before j below = elim (
 ]
 
 -- behind the centre
-pub behind : (block : Block) (centre : ℕ) (v : List ℕ) (k : ℕ) → MayFit block (centre ∷ v) k → MayBeBehind block v k
+behind : (block : Block) (centre : ℕ) (v : List ℕ) (k : ℕ) → MayFit block (centre ∷ v) k → MayBeBehind block v k
 behind block centre v k fit = λ p below small.
     let next : p + 1 ≡ suc p = omega arith in
     let here : slice_index (centre ∷ v) (p + 1) ≡ slice_index v p = ap (slice_index (centre ∷ v)) next in
@@ -123,10 +124,20 @@ behind block centre v k fit = λ p below small.
     (fit.states (p + 1) (omega (arith, below)) (subst (λ s. s < 256) (sym here) small))
 
 -- and the centre
-pub centre_may : (block : Block) (centre : ℕ) (v : List ℕ) (k : ℕ) → MayFit block (centre ∷ v) k → centre < 256 → bit_at (slice_index block.sets centre) k ≡ 1
+centre_may : (block : Block) (centre : ℕ) (v : List ℕ) (k : ℕ) → MayFit block (centre ∷ v) k → centre < 256 → bit_at (slice_index block.sets centre) k ≡ 1
 centre_may block centre v k fit small =
     let first : 0 + centre ≡ centre = omega arith in
     subst (λ n. bit_at (slice_index block.sets n) k ≡ 1) first (fit.states 0 (omega arith) small)
+
+-- what is told by an order of the neighbours in which a line may fit
+pub order_tells : (block : Block) (cells : List ℕ) (k : ℕ) (fit : MayFitInSomeOrder block cells k) → slice_index cells 0 < 256
+    → Contains (orders (take (length cells - 1) (drop 1 cells))) fit.order × MayBeBehind block fit.order k
+    × (bit_at (slice_index block.sets (slice_index cells 0)) k ≡ 1)
+order_tells block cells k fit small = (
+  subst (λ w. Contains (orders w) fit.order) (sym (rest_of cells)) fit.is_order,
+  behind block (slice_index cells 0) fit.order k fit.fits,
+  centre_may block (slice_index cells 0) fit.order k fit.fits small,
+)
 
 -- the state of some neighbour has its place among the counts
 pub counted_index : (others : List ℕ) (counts : Counts) → AreCounts others counts → (s : ℕ) → is_among others s ≡ true

@@ -1,11 +1,13 @@
 -- One more text of the table: what it changes of what is said.
-use Rattle.std.proofs.Common.{◌≡◌, ℕ, ◌+◌, ◌<◌, List, [], ◌∷◌, ◌++◌, map, length, Bool, true, false, not, refl, ap, sym, ◌∙◌, ◌&&◌, ◌⊎◌, inl, inr, arith, cond, eqb, length-append}
+use Rattle.std.proofs.Common.{◌≡◌, ℕ, ◌+◌, ◌<◌, List, [], ◌∷◌, ◌++◌, map, length, Bool, true, false, not, refl, ap, sym, ◌∙◌, ◌&&◌, arith, cond, eqb, length-append}
 use Rattle.std.proofs.lemmas.Bool.{ltb-true, lt-ltb, and_right}
 use Rattle.std.specs.Prelude.{Option, Some, None, if◌then◌else◌, option_map, option_and_then, option_to_list, All, nat_lt, bytes_eq}
 use Rattle.std.specs.List.{fold, position_or_len, position, cons_option}
 use Rattle.std.proofs.lemmas.List.Folds.{position_or_len_push}
 use Rattle.std.proofs.lemmas.List.Sums.{fold-append}
 use Rattle.std.proofs.lemmas.List.Elements.{All-nil, All-cons, All-head, All-tail, filter_map-append}
+use Rattle.std.proofs.lemmas.Option.{cond_some}
+use Rattle.std.proofs.lemmas.List.{map-append}
 use Rattle.life_base.specs.Text.{is_digit_text}
 use Rattle.life_table.specs.Valid.{neighbour_count}
 use Rattle.life_table.specs.Reading.{Numbered, texts_of, first_some, value_by, describes_by, is_descriptor, key_of, setting_of, is_variable_line, variable_of, variables_written, variables_in, is_transition_line, transition_of, transition_from, entries_of, entry_of, all_some, transition_words, transitions_written, transitions_in, variable_named, number_below}
@@ -15,10 +17,6 @@ use Rattle.life_table.specs.declared.table.Entry.{Entry}
 use Rattle.life_table.specs.declared.table.Entry.TheVariants as entries
 use Rattle.life_table.specs.declared.table.Transition.{Transition}
 
-known : (b : Bool) → (b ≡ true) ⊎ (b ≡ false)
-known true = inl refl
-known false = inr refl
-
 -- 1. Settings
 
 abbrev pub or_new : {X : Type 0} → Option X → Option X → Option X
@@ -26,11 +24,6 @@ or_new None o = o
 or_new (Some x) o = Some x
 
 module _ {X : Type 0} (f : List ℕ → Option X) where
-  first_step : (o : Option X) (os : List (Option X)) (new : Option X) → first_some (os ++ new ∷ []) ≡ or_new (first_some os) new
-      → first_some (o ∷ (os ++ new ∷ [])) ≡ or_new (first_some (o ∷ os)) new
-  first_step None os new ih = ih
-  first_step (Some x) os new ih = refl
-
   first_end : (o : Option X) → first_some (o ∷ []) ≡ o
   first_end None = refl
   first_end (Some x) = refl
@@ -83,8 +76,7 @@ abbrev pub written : ℕ → List Var → List ℕ → List Var
 written n vars text = if is_variable_line text && not (is_descriptor text) then option_to_list (variable_of n vars text) else []
 
 texts_more : (ts : List Numbered) (x : Numbered) → texts_of (ts ++ x ∷ []) ≡ texts_of ts ++ x.1 ∷ []
-texts_more [] x = refl
-texts_more (t ∷ ts) x = ap (λ (us : List (List ℕ)). t.1 ∷ us) (texts_more ts x)
+texts_more ts x = map-append (λ (text : Numbered). text.1) ts (x ∷ [])
 
 pub variables_more : (n : ℕ) (ts : List Numbered) (x : Numbered)
     → variables_written n (texts_of (ts ++ x ∷ [])) ≡ variables_written n (texts_of ts) ++ written n (variables_written n (texts_of ts)) x.1
@@ -104,7 +96,7 @@ transitions_more n k vars ts x = filter_map-append (on_line n k vars) ts (x ∷ 
 
 position_kept : (p : Var → Bool) (vars : List Var) (v : Var) (i : ℕ) → position p vars ≡ Some i → position p (vars ++ v ∷ []) ≡ Some i
 position_kept p vars v i h =
-    let w = in_front (nat_lt (position_or_len p vars) (length vars)) (position_or_len p vars) i h in
+    let w = cond_some (nat_lt (position_or_len p vars) (length vars)) (position_or_len p vars) i h in
     let below : position_or_len p vars < length vars = ltb-true _ _ w.0 in
     let apart : eqb (position_or_len p vars) (length vars) ≡ false = grind (arith, below) in
     let same : position_or_len p (vars ++ v ∷ []) ≡ position_or_len p vars =
@@ -112,10 +104,6 @@ position_kept p vars v i h =
     let longer : length (vars ++ v ∷ []) ≡ length vars + 1 = length-append vars (v ∷ []) in
     let within : nat_lt (position_or_len p (vars ++ v ∷ [])) (length (vars ++ v ∷ [])) ≡ true = lt-ltb _ _ (omega (arith, same, longer, below)) in
     ap (λ (b : Bool). cond b (Some (position_or_len p (vars ++ v ∷ []))) None) within ∙ ap Some (same ∙ w.1)
-  where
-    in_front : (b : Bool) (m i : ℕ) → cond b (Some m) None ≡ Some i → (b ≡ true) × (m ≡ i)
-    in_front true m i h = (refl, (let e : Some m ≡ Some i = h in cc))
-    in_front false m i h = absurd (let z : ⊥ = cc in z)
 
 map_kept : (o p : Option ℕ) (e : Entry) → ((i : ℕ) → o ≡ Some i → p ≡ Some i) → option_map entries.Var o ≡ Some e → option_map entries.Var p ≡ Some e
 map_kept None p e f h = absurd (let z : ⊥ = cc in z)

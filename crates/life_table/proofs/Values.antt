@@ -1,12 +1,12 @@
 -- The values that lines write are parts of a rule table.
-use Rattle.std.proofs.Common.{◌≡◌, ℕ, zero, suc, ◌+◌, ◌/◌, ◌%◌, ◌^◌, ◌<◌, ◌≤◌, List, [], ◌∷◌, map, take, length, Bool, true, false, refl, ap, sym, ◌∙◌, subst, ◌&&◌, ◌⊎◌, inl, inr, arith, cond, get_or, max, length-take}
+use Rattle.std.proofs.Common.{◌≡◌, ℕ, zero, suc, ◌+◌, ◌/◌, ◌%◌, ◌^◌, ◌<◌, ◌≤◌, List, [], ◌∷◌, map, take, length, Bool, true, false, refl, ap, sym, ◌∙◌, subst, ◌&&◌, ◌⊎◌, inl, inr, arith, cond, get_or, max, length-take, eqb-true}
 use Rattle.std.specs.Prelude.{Option, Some, None, if◌then◌else◌, is_some, option_map, option_and_then, All, IsTrue, nat_lt, ◌==◌, slice_get, slice_index, bit_or, bytes_eq}
 use Rattle.std.specs.Int.{bit_at}
 use Rattle.std.specs.List.{fold, list_any, position, slice_split, position_or_len, onto_first}
-use Rattle.std.proofs.lemmas.Bool.{ltb-true, and_parts}
+use Rattle.std.proofs.lemmas.Bool.{ltb-true, and_parts, cases_Bool}
 use Rattle.std.proofs.lemmas.Bool.Decides.{eqb_tells}
 use Rattle.std.proofs.lemmas.List.Elements.{All-nil, All-cons, All-head, All-tail, All-take}
-use Rattle.std.proofs.lemmas.Option.{get_or_from_slice_get}
+use Rattle.std.proofs.lemmas.Option.{get_or_from_slice_get, cond_some}
 use Rattle.std.proofs.lemmas.Nat.Bits.{bit_at_or, bit_at-pow_same, bit_at-pow_other, bit_at-zero, bit_at-lt}
 use Rattle.std.proofs.lemmas.List.{get_or_past}
 use Rattle.life_base.specs.Text.{is_digit_text, value_of, trim}
@@ -17,10 +17,8 @@ use Rattle.life_table.specs.declared.table.Entry.{Entry}
 use Rattle.life_table.specs.declared.table.Entry.TheVariants as entries
 use Rattle.life_table.specs.declared.table.Transition.{Transition}
 use Rattle.life_table.proofs.Texts.{split_some}
-
-known : (b : Bool) → (b ≡ true) ⊎ (b ≡ false)
-known true = inl refl
-known false = inr refl
+use Rattle.life_table.proofs.Cases.{not_some}
+use Rattle.life_table.proofs.Searching.{zeros_at}
 
 -- 1. What an option that is there came from
 
@@ -69,13 +67,9 @@ named_entry n vars word e h =
   where
     position_below : (p : Var → Bool) (vars : List Var) (i : ℕ) → position p vars ≡ Some i → i < length vars
     position_below p vars i h =
-        let w = in_front (nat_lt (position_or_len p vars) (length vars)) (position_or_len p vars) i h in
+        let w = cond_some (nat_lt (position_or_len p vars) (length vars)) (position_or_len p vars) i h in
         let less : position_or_len p vars < length vars = ltb-true _ _ w.0 in
         omega (arith, less, w.1)
-      where
-        in_front : (b : Bool) (m i : ℕ) → cond b (Some m) None ≡ Some i → (b ≡ true) × (m ≡ i)
-        in_front true m i h = (refl, (let e : Some m ≡ Some i = h in cc))
-        in_front false m i h = absurd (let z : ⊥ = cc in z)
 
 entry_cases : (digits : Bool) (a b : Option Entry) (e : Entry) → (if digits then a else b) ≡ Some e → (a ≡ Some e) ⊎ (b ≡ Some e)
 entry_cases true a b e h = inl h
@@ -136,7 +130,7 @@ pub record IsSet (n : ℕ) (states : List ℕ) : Type 0 where
   pub some : ¬ ((s : ℕ) → ¬ (bit_at (slice_index states (s / 64)) (s % 64) ≡ 1))
   pub below : (s : ℕ) → bit_at (slice_index states (s / 64)) (s % 64) ≡ 1 → s < n
 
-union_at : (a b : List ℕ) (k : ℕ) → k < 4 → slice_index (union a b) k ≡ bit_or (slice_index a k) (slice_index b k)
+pub union_at : (a b : List ℕ) (k : ℕ) → k < 4 → slice_index (union a b) k ≡ bit_or (slice_index a k) (slice_index b k)
 union_at a b zero h = refl
 union_at a b (suc zero) h = refl
 union_at a b (suc (suc zero)) h = refl
@@ -150,7 +144,7 @@ union_has : (a b : List ℕ) (s : ℕ) → s / 64 < 4 → bit_of (union a b) s �
 union_has a b s h = ap (λ (w : ℕ). bit_at w (s % 64)) (union_at a b (s / 64) h) ∙ bit_at_or (slice_index a (s / 64)) (slice_index b (s / 64)) (s % 64)
 
 union_of_either : (a b : List ℕ) (s : ℕ) → bit_of (union a b) s ≡ 1 → (bit_of a s ≡ 1) ⊎ (bit_of b s ≡ 1)
-union_of_either a b s h = elim (known (nat_lt (s / 64) 4)) [
+union_of_either a b s h = elim (cases_Bool (nat_lt (s / 64) 4)) [
   | inl within ↦ one_of (bit_of a s) (bit_of b s) (sym (union_has a b s (ltb-true (s / 64) 4 within)) ∙ h)
   | inr beyond ↦ absurd (
       let past : slice_index (union a b) (s / 64) ≡ 0 = get_or_past (union a b) (s / 64) 0 (grind (arith, beyond)) in
@@ -176,7 +170,7 @@ single_past s (suc (suc (suc zero))) h = absurd (omega (arith, h))
 single_past s (suc (suc (suc (suc k)))) h = refl
 
 single_alone : (s t : ℕ) → bit_of (single s) t ≡ 1 → t ≡ s
-single_alone s t h = elim (known (nat_lt (t / 64) 4)) [
+single_alone s t h = elim (cases_Bool (nat_lt (t / 64) 4)) [
   | inr beyond ↦ absurd (
       let past : slice_index (single s) (t / 64) ≡ 0 = single_past s (t / 64) (grind (arith, beyond)) in
       let none : bit_of (single s) t ≡ 0 = ap (λ (w : ℕ). bit_at w (t % 64)) past ∙ bit_at-zero (t % 64) in
@@ -241,19 +235,8 @@ fold_keeps acc [] s h e = e
 fold_keeps acc (set ∷ sets) s h e = fold_keeps (union acc set) sets s h (union_keeps acc set s h e)
 
 zeros_below : (n : ℕ) → IsBelow n (0 ∷ 0 ∷ 0 ∷ 0 ∷ [])
-zeros_below n s h = elim (known (nat_lt (s / 64) 4)) [
-  | inl within ↦ absurd (let none : bit_of (0 ∷ 0 ∷ 0 ∷ 0 ∷ []) s ≡ 0 = ap (λ (w : ℕ). bit_at w (s % 64)) (word_zero (s / 64)) ∙ bit_at-zero (s % 64) in
-      omega (arith, none, h))
-  | inr beyond ↦ absurd (let none : bit_of (0 ∷ 0 ∷ 0 ∷ 0 ∷ []) s ≡ 0 = ap (λ (w : ℕ). bit_at w (s % 64)) (word_zero (s / 64)) ∙ bit_at-zero (s % 64) in
-      omega (arith, none, h))
-]
-  where
-    word_zero : (k : ℕ) → slice_index (0 ∷ 0 ∷ 0 ∷ 0 ∷ []) k ≡ 0
-    word_zero zero = refl
-    word_zero (suc zero) = refl
-    word_zero (suc (suc zero)) = refl
-    word_zero (suc (suc (suc zero))) = refl
-    word_zero (suc (suc (suc (suc k)))) = refl
+zeros_below n s h = absurd (let none : bit_of (0 ∷ 0 ∷ 0 ∷ 0 ∷ []) s ≡ 0 = ap (λ (w : ℕ). bit_at w (s % 64)) (zeros_at 4 (s / 64)) ∙ bit_at-zero (s % 64) in
+    omega (arith, none, h))
 
 union_set : (n : ℕ) → n ≤ 256 → (set : List ℕ) (sets : List (List ℕ)) → All (IsSet n) (set ∷ sets) → IsSet n (union_of (set ∷ sets))
 union_set n most set sets all =
@@ -270,21 +253,15 @@ union_set n most set sets all =
 
 variable_set : (n : ℕ) (var : Var) → IsVariable n var → IsSet n var.states
 variable_set n var v = record {
-  some = λ none. v.some (λ s has. none s (one_is (bit_of var.states s) has));
+  some = λ none. v.some (λ s has. none s (eqb-true (bit_of var.states s) 1 has));
   below = λ s there. v.below s (ap (λ (b : ℕ). b == 1) there);
 }
-  where
-    one_is : (b : ℕ) → IsTrue (b == 1) → b ≡ 1
-    one_is b h = elim (eqb_tells b 1) [ inl same ↦ same.1 | inr other ↦ absurd (let z : true ≡ false = sym h ∙ other.0 in let w : ⊥ = cc in w) ]
 
 set_variable : (n : ℕ) (name states : List ℕ) → IsSet n states → IsVariable n (record { name = name; states = states })
 set_variable n name states v = record {
   some = λ none. v.some (λ s there. none s (ap (λ (b : ℕ). b == 1) there));
-  below = λ s has. v.below s (one_is (bit_of states s) has);
+  below = λ s has. v.below s (eqb-true (bit_of states s) 1 has);
 }
-  where
-    one_is : (b : ℕ) → IsTrue (b == 1) → b ≡ 1
-    one_is b h = elim (eqb_tells b 1) [ inl same ↦ same.1 | inr other ↦ absurd (let z : true ≡ false = sym h ∙ other.0 in let w : ⊥ = cc in w) ]
 
 entry_set : (n : ℕ) → n ≤ 256 → (vars : List Var) → All (IsVariable n) vars → (e : Entry) → IsEntry n vars e → (set : List ℕ)
     → states_of_entry vars e ≡ Some set → IsSet n set
@@ -341,10 +318,6 @@ list_set n most vars all words w ws e states h =
 listed_set : (n : ℕ) → n ≤ 256 → (vars : List Var) → All (IsVariable n) vars → (text states : List ℕ) → states_listed n vars text ≡ Some states → IsSet n states
 unfolding states_listed
 listed_set n most vars all text states h = let s = some_word text in list_set n most vars all (between_commas text) s.0 s.1 s.2 states h
-
-not_some : {X : Type 0} (o : Option X) → is_some o ≡ false → o ≡ None
-not_some None h = refl
-not_some (Some x) h = absurd (let z : ⊥ = cc in z)
 
 pub states_case : (n : ℕ) (vars : List Var) (name list states : List ℕ) → variable_states n vars name list ≡ Some states → (variable_named vars name ≡ None)
     × (states_listed n vars (within_braces list) ≡ Some states)

@@ -63,6 +63,11 @@ is_among states s = list_any (λ t. nat_eq t s) states
 abbrev pub MayBeBehind : Block → List ℕ → ℕ → Type 0
 MayBeBehind block v k = (p : ℕ) → p < length v → slice_index v p < 256 → bit_at (slice_index block.sets (256 * (p + 1) + slice_index v p)) k ≡ 1
 
+-- the lines that may be behind the centre's input in some order of the neighbours stay
+abbrev pub KeepsOrders : Block → List ℕ → ℕ → ℕ → Type 0
+KeepsOrders block others lines rest = (k : ℕ) (v : List ℕ) → k < 64 → Contains (orders others) v → MayBeBehind block v k → bit_at lines k ≡ 1
+    → bit_at rest k ≡ 1
+
 -- a line may fit some order of the neighbours
 pub record MayFitInSomeOrder (block : Block) (cells : List ℕ) (k : ℕ) : Type 0 where
   pub order : List ℕ

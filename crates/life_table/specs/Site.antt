@@ -1,11 +1,14 @@
 -- The cell at which the lines of a table are tried.
-use Rattle.std.specs.Prelude.{◌≡◌, ℕ, ◌-◌, ◌/◌, ◌<◌, ◌≤◌, List, [], drop, length, slice_index, All, IsTrue}
+use Rattle.std.specs.Prelude.{◌≡◌, ℕ, ◌-◌, ◌/◌, ◌<◌, ◌≤◌, List, [], drop, length, slice_index, All, IsTrue, ◌≢◌}
 use Rattle.std.specs.List.{list_any}
 use Rattle.life_table.specs.Found.{Consistent}
+use Rattle.life_table.specs.Orders.{images, family}
 use Rattle.life_table.specs.Seen.{IsSeen}
 use Rattle.life_table.specs.Valid.{IsEntry, is_variable}
 use Rattle.life_table.specs.declared.site.Site.{Site}
 use Rattle.life_table.specs.declared.table.Entry.TheVariants as entries
+use Rattle.life_table.specs.declared.table.Symmetry.{Symmetry}
+use Rattle.life_table.specs.declared.table.Symmetry.TheVariants.{Permute}
 use Rattle.life_table.specs.declared.table.Transition.{Transition}
 
 -- the states of the cell and of its neighbours
@@ -32,3 +35,7 @@ pub record IsLineAt (site : Site) (line : Transition) : Type 0 where
   pub count : length line.inputs ≡ length site.cells.now
   pub inputs : All (IsEntry 256 site.vars.now) line.inputs
   pub bound : (i : ℕ) → line.output ≡ entries.Var i → IsTrue (list_any (is_variable i) line.inputs)
+
+-- but under `permute`, the images of the neighbours are their turns
+abbrev pub TurnsAreImages : Symmetry → Site → Type 0
+TurnsAreImages symmetry site = symmetry ≢ Permute → images symmetry (others_of site) ≡ family site.ways.reflect site.ways.step (others_of site)

@@ -1,13 +1,12 @@
 //! A table with an index of its lines.
-ghost use Rattle.std.specs.Prelude.{◌≡◌, ◌≢◌, ℕ, ◌+◌, ◌*◌, ◌<◌, ◌≤◌, ◌∷◌, [], List, Contains, length, take, drop, All, Option, MatchOption, MatchResult, slice_index, slice_index_or};
+ghost use Rattle.std.specs.Prelude.{◌≡◌, ℕ, ◌+◌, ◌*◌, ◌<◌, ◌≤◌, ◌∷◌, [], List, Contains, length, take, drop, All, Option, MatchOption, MatchResult, slice_index, slice_index_or};
 ghost use Rattle.std.specs.Int.{bit_at};
 ghost use Rattle.life_table.specs.Meaning.{Gives, GivesNothing, Decides, Becomes, Ambiguous};
 ghost use Rattle.life_table.specs.Valid.{neighbour_count};
 ghost use Rattle.life_table.specs.Around.{cells_of};
-ghost use Rattle.life_table.specs.Orders.{images, family};
+ghost use Rattle.life_table.specs.Orders.{images};
 ghost use Rattle.life_table.specs.Index.{AnswersAmong, MayGive, MayFit, AreBlocks, IsQuery, Asks};
-ghost use Rattle.life_table.specs.Site.{IsSite, IsLineAt, GoesRound, centre_of, others_of};
-ghost use Rattle.life_table.specs.declared.table.Symmetry.TheVariants.{Permute};
+ghost use Rattle.life_table.specs.Site.{IsSite, IsLineAt, GoesRound, TurnsAreImages, centre_of, others_of};
 
 use crate::block::{Block, LINES};
 use crate::found::Found;
@@ -55,9 +54,7 @@ fn answer_among(
 ) -> Option<Result<State, Fault>>
     requires site { IsSite site.now }
     requires turns { GoesRound site.now }
-    requires images { symmetry ≢ Symmetry.Permute
-        → images symmetry (others_of site.now)
-        ≡ family site.now.ways.reflect site.now.ways.step (others_of site.now) }
+    requires images { TurnsAreImages symmetry site.now }
     requires lines { All (IsLineAt site.now) lines.now }
     requires from { from ≤ length lines.now }
     requires may { MayGive symmetry site.now.vars.now (centre_of site.now) (others_of site.now)
@@ -100,9 +97,7 @@ pub(crate) enum Query {
 fn query_of(symmetry: Symmetry, site: &Site) -> Query
     requires site { IsSite site.now }
     requires turns { GoesRound site.now }
-    requires images { symmetry ≢ Symmetry.Permute
-        → images symmetry (others_of site.now)
-        ≡ family site.now.ways.reflect site.now.ways.step (others_of site.now) }
+    requires images { TurnsAreImages symmetry site.now }
     ensures query { IsQuery site.now result }
     ensures asks { (v : List ℕ) → Contains (images symmetry (others_of site.now)) v
         → Asks site.now result v }
@@ -136,9 +131,7 @@ fn answer_by_blocks(
 ) -> Option<Result<State, Fault>>
     requires site { IsSite site.now }
     requires turns { GoesRound site.now }
-    requires images { symmetry ≢ Symmetry.Permute
-        → images symmetry (others_of site.now)
-        ≡ family site.now.ways.reflect site.now.ways.step (others_of site.now) }
+    requires images { TurnsAreImages symmetry site.now }
     requires lines { All (IsLineAt site.now) lines.now }
     requires blocks { AreBlocks site.now.vars.now lines.now blocks.now }
     ensures { AnswersAmong symmetry site.now.vars.now (centre_of site.now) (others_of site.now)

@@ -1,11 +1,10 @@
 //! What a table makes of a cell and its neighbours.
-ghost use Rattle.std.specs.Prelude.{◌≡◌, ◌≢◌, ◌+◌, ◌<◌, length, drop, All, MatchResult, slice_index};
+ghost use Rattle.std.specs.Prelude.{◌≡◌, ◌+◌, ◌<◌, length, drop, All, MatchResult, slice_index};
 ghost use Rattle.life_table.specs.Found.{Tells};
 ghost use Rattle.life_table.specs.Meaning.{Gives, Decides, Becomes, Ambiguous};
 ghost use Rattle.life_table.specs.Valid.{neighbour_count};
 ghost use Rattle.life_table.specs.Around.{cells_of};
-ghost use Rattle.life_table.specs.Orders.{images, family};
-ghost use Rattle.life_table.specs.Site.{IsSite, IsLineAt, GoesRound, centre_of, others_of};
+ghost use Rattle.life_table.specs.Site.{IsSite, IsLineAt, GoesRound, TurnsAreImages, centre_of, others_of};
 
 use crate::choose::{by_counts, can_be};
 use crate::fit::by_images;
@@ -41,9 +40,7 @@ pub(crate) fn given_by(symmetry: Symmetry, site: &Site, line: &Transition) -> Fo
     requires site { IsSite site.now }
     requires line { IsLineAt site.now line.now }
     requires turns { GoesRound site.now }
-    requires images { symmetry ≢ Symmetry.Permute
-        → images symmetry (others_of site.now)
-        ≡ family site.now.ways.reflect site.now.ways.step (others_of site.now) }
+    requires images { TurnsAreImages symmetry site.now }
     ensures { Tells
         (Gives symmetry site.now.vars.now line.now (centre_of site.now) (others_of site.now))
         result }

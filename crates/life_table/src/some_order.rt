@@ -3,7 +3,7 @@
 ghost use Rattle.std.specs.Prelude.{◌≡◌, ℕ, ◌+◌, ◌*◌, ◌<◌, ◌≤◌, ◌∷◌, List, Contains, count_by, drop, length, slice_index};
 ghost use Rattle.std.specs.Int.{bit_at};
 ghost use Rattle.life_table.specs.Orders.{orders};
-ghost use Rattle.life_table.specs.Index.{Stay, is_among, AreCounts, MayBeBehind, MayFit, MayFitInSomeOrder};
+ghost use Rattle.life_table.specs.Index.{Stay, is_among, AreCounts, KeepsOrders, MayBeBehind, MayFit, MayFitInSomeOrder};
 
 use crate::block::Block;
 use life_base::State;
@@ -130,8 +130,7 @@ impl Block {
     fn with_each_input(&self, others: &[State], counts: &Counts, lines: u64) -> u64
         requires room { length others.now ≤ 8 }
         requires counts { AreCounts others.now counts.now }
-        ensures { (k : ℕ) (v : List ℕ) → k < 64 → Contains (orders others.now) v
-            → MayBeBehind self.now v k → bit_at lines k ≡ 1 → bit_at result k ≡ 1 }
+        ensures { KeepsOrders self.now others.now lines result }
     {
         let mut rest = lines;
         for p in 0..others.len() {
@@ -147,8 +146,7 @@ impl Block {
     fn with_each_state(&self, others: &[State], counts: &Counts, lines: u64) -> u64
         requires room { length others.now ≤ 8 }
         requires counts { AreCounts others.now counts.now }
-        ensures { (k : ℕ) (v : List ℕ) → k < 64 → Contains (orders others.now) v
-            → MayBeBehind self.now v k → bit_at lines k ≡ 1 → bit_at result k ≡ 1 }
+        ensures { KeepsOrders self.now others.now lines result }
     {
         let mut rest = lines;
         for i in 0..counts.count {
@@ -215,8 +213,7 @@ impl Block {
     fn with_all_but_one(&self, others: &[State], states: &[State], lines: u64) -> u64
         requires room { length others.now ≤ 8 }
         requires few { length states.now ≤ 8 }
-        ensures { (k : ℕ) (v : List ℕ) → k < 64 → Contains (orders others.now) v
-            → MayBeBehind self.now v k → bit_at lines k ≡ 1 → bit_at result k ≡ 1 }
+        ensures { KeepsOrders self.now others.now lines result }
     {
         let mut rest = lines;
         for i in 0..states.len() {
@@ -233,8 +230,7 @@ impl Block {
     fn with_every_choice(&self, others: &[State], states: &[State], lines: u64) -> u64
         requires room { length others.now ≤ 8 }
         requires few { length states.now ≤ 8 }
-        ensures { (k : ℕ) (v : List ℕ) → k < 64 → Contains (orders others.now) v
-            → MayBeBehind self.now v k → bit_at lines k ≡ 1 → bit_at result k ≡ 1 }
+        ensures { KeepsOrders self.now others.now lines result }
     {
         let mut rest = lines;
         for bits in 1..1 << states.len() {

@@ -6,7 +6,9 @@ use Rattle.std.specs.Option.{unwrap_or}
 use Rattle.std.proofs.lemmas.Bool.Decides.{eqb_tells}
 use Rattle.std.proofs.lemmas.List.Elements.{All-contains}
 use Rattle.std.proofs.lemmas.Bool.{or_left, or_right}
+use Rattle.std.proofs.lemmas.Option.{same_Some}
 use Rattle.life_table.proofs.LawProofs.{permute_law}
+use Rattle.life_table.proofs.Members.{in_head, in_tail, in_cases, in_none}
 use Rattle.life_table.specs.Grammar.{symmetry_word}
 use Rattle.life_table.specs.Meaning.{Gives, count_of}
 use Rattle.life_table.specs.Meaning.{GivesByCounts as LayerByCounts, state_of as layer_state_of}
@@ -21,8 +23,8 @@ use Rattle.life_table.specs.declared.table.Table.{Table as LayerTable}
 use Rattle.claims.specs.Table.{variable, Transition, Table, states_of, gives}
 use Rattle.table_laws.specs.ByCounts.{state_of, GivesByCounts, PermuteByCounts}
 use Rattle.table_laws.specs.Tables.{entry_in, transition_in, IsTable}
-use Rattle.table_laws.proofs.Decided.{in_head, in_tail, in_either, in_none, gave, gets}
-use Rattle.table_laws.proofs.Given.{turned_about, some_of, has_state_of, is_state_of}
+use Rattle.table_laws.proofs.Decided.{gave, gets}
+use Rattle.table_laws.proofs.Given.{turned_about, has_state_of, is_state_of}
 use Rattle.table_laws.proofs.Read.{tables_read}
 use Rattle.table_laws.proofs.Text.{word_listed}
 use Rattle.table_laws.proofs.Words.{length_is}
@@ -31,7 +33,7 @@ use Rattle.table_laws.proofs.Words.{length_is}
 
 any_in : (s : ℕ) (xs : List ℕ) → Contains xs s → list_any (λ t. t == s) xs ≡ true
 any_in s [] c = absurd (in_none s c)
-any_in s (x ∷ xs) c = elim (in_either x s xs c) [
+any_in s (x ∷ xs) c = elim (in_cases x xs s c) [
   | inl e ↦ or_left (x == s) _ (eq-eqb x s e)
   | inr d ↦ or_right (x == s) _ (any_in s xs d)
 ]
@@ -40,17 +42,17 @@ in_any : (s : ℕ) (xs : List ℕ) → list_any (λ t. t == s) xs ≡ true → C
 in_any s [] h = cc
 in_any s (x ∷ xs) h = elim (eqb_tells x s) [
   | inl e ↦ subst (Contains (x ∷ xs)) e.1 (in_head x xs)
-  | inr n ↦ in_tail x s xs (in_any s xs (ap (λ v. v || list_any (λ t. t == s) xs) (sym n.0) ∙ h))
+  | inr n ↦ in_tail x xs s (in_any s xs (ap (λ v. v || list_any (λ t. t == s) xs) (sym n.0) ∙ h))
 ]
 
 module _ {X Y : Type 0} (f : X → Y) where
   from_map : (xs : List X) (y : Y) → Contains (map f xs) y → (x : X) × Contains xs x × (f x ≡ y)
   from_map [] y c = absurd (in_none y c)
-  from_map (x ∷ xs) y c = by (in_either (f x) y (map f xs) c) (from_map xs y)
+  from_map (x ∷ xs) y c = by (in_cases (f x) (map f xs) y c) (from_map xs y)
     where
       by : (f x ≡ y) ⊎ Contains (map f xs) y → (Contains (map f xs) y → (z : X) × Contains xs z × (f z ≡ y)) → (z : X) × Contains (x ∷ xs) z × (f z ≡ y)
       by (inl e) below = (x, in_head x xs, e)
-      by (inr d) below = let r = below d in (r.0, in_tail x r.0 xs r.1, r.2)
+      by (inr d) below = let r = below d in (r.0, in_tail x xs r.0 r.1, r.2)
 
 -- ---- choices, entries and counts
 
@@ -77,7 +79,7 @@ count_is : (t : ℕ) (xs : List ℕ) → count_by (λ s. s == t) xs ≡ count_of
 count_is t xs = λ i. count_by (λ s. turned_about s t i) xs
 
 permutes : (y : Symmetry) → symmetry_word y ≡ codes "permute" → y ≡ Permute
-permutes y e = some_of y Permute (sym (word_listed y).1 ∙ ap symmetry_named e)
+permutes y e = same_Some y Permute (sym (word_listed y).1 ∙ ap symmetry_named e)
 
 module _ (layer : LayerTable) (table : Table) (is : IsTable layer table) (y : layer.symmetry ≡ Permute) (centre : ℕ) (around : List ℕ)
     (long : length around ≡ neighbour_count layer.neighborhood) (line : LayerTransition) (there : Contains layer.lines line) (state : ℕ) where
@@ -127,7 +129,7 @@ permute_by_counts bytes table e permute line there centre around long state =
     let r = (tables_read bytes).1 table e in
     let layer = r.0 in
     let is = r.2 in
-    let y : layer.symmetry ≡ Permute = permutes layer.symmetry (some_of _ _ (sym is.symmetry ∙ permute)) in
+    let y : layer.symmetry ≡ Permute = permutes layer.symmetry (same_Some _ _ (sym is.symmetry ∙ permute)) in
     let l = from_map transition_in layer.lines line (subst (λ (ts : List Transition). Contains ts line) is.transitions there) in
     let count : length around ≡ neighbour_count layer.neighborhood = long ∙ ap (λ (o : Option ℕ). unwrap_or o 0) is.neighbours in
     let P : Transition → Type 0 = λ (t : Transition). Contains (gives table centre around t) state ↔ GivesByCounts table.variables t centre around state in

@@ -1,13 +1,14 @@
 -- What a table decides is what the layer says that it decides.
-use Rattle.std.proofs.Common.{◌≡◌, ◌≢◌, ℕ, zero, suc, ◌+◌, ◌<◌, List, [], ◌∷◌, length, map, true, false, cond, refl, ap, ◌∙◌, sym, subst, arith, ◌⊎◌, inl, inr, ◌↔◌, ◌&&◌, eq-eqb}
-use Rattle.std.specs.Prelude.{Option, Some, None, IfSome, All, Contains, filter_map, slice_get, slice_index_or, ◌==◌}
+use Rattle.std.proofs.Common.{◌≡◌, ◌≢◌, ℕ, zero, suc, ◌+◌, List, [], ◌∷◌, length, map, true, false, cond, refl, ap, ◌∙◌, sym, subst, arith, inl, inr, ◌↔◌, ◌&&◌, eq-eqb, eqb-true}
+use Rattle.std.specs.Prelude.{Option, Some, None, IfSome, All, Contains, filter_map, slice_get, ◌==◌}
 use Rattle.std.specs.List.{list_all, list_any, cons_option}
 use Rattle.std.specs.Option.{option_map_or, unwrap_or}
 use Rattle.std.proofs.lemmas.Bool.Decides.{eqb_tells}
 use Rattle.std.proofs.lemmas.List.Elements.{All-nil, All-cons, All-head, All-tail, All-contains}
-use Rattle.std.proofs.lemmas.Bool.{or_left}
+use Rattle.std.proofs.lemmas.Bool.{or_left, cases_Bool}
 use Rattle.life_base.proofs.Numbers.{first, second}
 use Rattle.life_table.proofs.LawProofs.{one_law}
+use Rattle.life_table.proofs.Members.{in_head, in_tail, in_cases, in_none}
 use Rattle.life_table.specs.Meaning.{has_state, HasState, IsChoice, Gives, GivesNothing, LineAnswers, Decides}
 use Rattle.life_table.specs.Meaning.{Answer as LayerAnswer, Becomes, Ambiguous}
 use Rattle.life_table.specs.Orders.{images as layer_images}
@@ -18,65 +19,49 @@ use Rattle.life_table.specs.declared.table.Table.{Table as LayerTable}
 use Rattle.claims.specs.Table.{Variable, variable, Transition, Table, states_of, images, given, gives, decided, Answer, becomes, ambiguous}
 use Rattle.table_laws.specs.Laws.{TablesDecide}
 use Rattle.table_laws.specs.Tables.{transition_in, answer_in, AreVariables, IsTable}
-use Rattle.table_laws.proofs.Given.{known, same_number, given_is_choice, choice_is_given}
+use Rattle.table_laws.proofs.Given.{given_is_choice, choice_is_given}
 use Rattle.table_laws.proofs.Imaged.{images_agree, image_length, Agrees}
 
 -- ---- lists
 
-pub in_head : {X : Type 0} (x : X) (xs : List X) → Contains (x ∷ xs) x
-in_head x xs = (0, omega arith, refl)
-
-pub in_tail : {X : Type 0} (y x : X) (xs : List X) → Contains xs x → Contains (y ∷ xs) x
-in_tail y x xs c = (suc c.0, (let l : c.0 < length xs = c.1 in omega (arith, l)), c.2)
-
-pub in_either : {X : Type 0} (y x : X) (xs : List X) → Contains (y ∷ xs) x → (y ≡ x) ⊎ Contains xs x
-in_either y x xs c = by c.0 c.1 c.2
-  where
-    by : (k : ℕ) → k < length (y ∷ xs) → slice_index_or (y ∷ xs) k x ≡ x → (y ≡ x) ⊎ Contains xs x
-    by zero l e = inl e
-    by (suc k) l e = inr (k, omega (arith, l), e)
-
-pub in_none : {X : Type 0} (x : X) → Contains [] x → ⊥
-in_none {X} x c = let l : c.0 < length {A = X} [] = c.1 in absurd (omega (arith, l))
-
 module _ {X : Type 0} (f : X → Option ℕ) where
   mapped : (xs : List X) (x : X) (s : ℕ) → Contains xs x → f x ≡ Some s → Contains (filter_map f xs) s
   mapped [] x s c e = absurd (in_none x c)
-  mapped (y ∷ xs) x s c e = elim (in_either y x xs c) [
+  mapped (y ∷ xs) x s c e = elim (in_cases y xs x c) [
     | inl h ↦ subst (λ (o : Option ℕ). Contains (cons_option o (filter_map f xs)) s) (sym (ap f h ∙ e)) (in_head s (filter_map f xs))
     | inr h ↦ further (f y) (mapped xs x s h e)
   ]
     where
       further : (o : Option ℕ) → Contains (filter_map f xs) s → Contains (cons_option o (filter_map f xs)) s
       further None h = h
-      further (Some t) h = in_tail t s (filter_map f xs) h
+      further (Some t) h = in_tail t (filter_map f xs) s h
 
   unmapped : (xs : List X) (s : ℕ) → Contains (filter_map f xs) s → (x : X) × Contains xs x × (f x ≡ Some s)
   unmapped [] s c = absurd (in_none s c)
   unmapped (y ∷ xs) s c = by (f y) refl c (unmapped xs s)
     where
       further : (x : X) × Contains xs x × (f x ≡ Some s) → (x : X) × Contains (y ∷ xs) x × (f x ≡ Some s)
-      further h = (h.0, in_tail y h.0 xs h.1, h.2)
+      further h = (h.0, in_tail y xs h.0 h.1, h.2)
 
       by : (o : Option ℕ) → f y ≡ o → Contains (cons_option o (filter_map f xs)) s → (Contains (filter_map f xs) s → (x : X) × Contains xs x × (f x ≡ Some s))
           → (x : X) × Contains (y ∷ xs) x × (f x ≡ Some s)
       by None e c below = further (below c)
-      by (Some t) e c below = elim (in_either t s (filter_map f xs) c) [
+      by (Some t) e c below = elim (in_cases t (filter_map f xs) s c) [
         | inl h ↦ (y, in_head y xs, e ∙ ap Some h)
         | inr h ↦ further (below h)
       ]
 
 all_same : (s : ℕ) (xs : List ℕ) → list_all (λ t. t == s) xs ≡ true → (t : ℕ) → Contains xs t → t ≡ s
 all_same s [] h t c = absurd (in_none t c)
-all_same s (x ∷ xs) h t c = elim (in_either x t xs c) [
-  | inl e ↦ sym e ∙ same_number x s (first (x == s) _ h)
+all_same s (x ∷ xs) h t c = elim (in_cases x xs t c) [
+  | inl e ↦ sym e ∙ eqb-true x s (first (x == s) _ h)
   | inr d ↦ all_same s xs (second (x == s) _ h) t d
 ]
 
 another : (s : ℕ) (xs : List ℕ) → list_all (λ t. t == s) xs ≡ false → (t : ℕ) × Contains xs t × (s ≢ t)
 another s [] h = cc
 another s (x ∷ xs) h = elim (eqb_tells x s) [
-  | inl e ↦ let r = another s xs (ap (λ v. v && list_all (λ t. t == s) xs) (sym e.0) ∙ h) in (r.0, in_tail x r.0 xs r.1, r.2)
+  | inl e ↦ let r = another s xs (ap (λ v. v && list_all (λ t. t == s) xs) (sym e.0) ∙ h) in (r.0, in_tail x xs r.0 r.1, r.2)
   | inr n ↦ (x, in_head x xs, λ e. n.1 (sym e))
 ]
 
@@ -102,7 +87,7 @@ module _ (vars : List Var) (variables : List Variable) (same : AreVariables vars
       there : (xs : List Var) (i : ℕ) (var : Var) → slice_get xs i ≡ Some var → Contains xs var
       there [] i var e = cc
       there (x ∷ xs) zero var e = subst (Contains (x ∷ xs)) (let k : x ≡ var = cc in k) (in_head x xs)
-      there (x ∷ xs) (suc i) var e = in_tail x var xs (there xs i var e)
+      there (x ∷ xs) (suc i) var e = in_tail x xs var (there xs i var e)
 
       by : (o : Option Var) → slice_get vars i ≡ o → IfSome o (λ var. HasState var (head_of (states_of variables (variable i))))
       by None e = tt
@@ -199,18 +184,18 @@ module _ (layer : LayerTable) (table : Table) (is : IsTable layer table) (centre
       by [] e below = behind line lines _ (λ s g. in_none s (subst (λ (xs : List ℕ). Contains xs s) e (gets line t s g))) below
       by (s ∷ states) e below =
           let first_given : GivesOne line s = gave line t s (subst (λ (xs : List ℕ). Contains xs s) (sym e) (in_head s states)) in
-          elim (known (list_all (λ r. r == s) states)) [
+          elim (cases_Bool (list_all (λ r. r == s) states)) [
             | inl h ↦ subst (λ v. Decide (line ∷ lines) (answer_out (cond v (becomes s) (ambiguous line.line)))) (sym h)
                 (at_first line lines (Becomes s) (
                   first_given,
-                  λ r g. elim (in_either s r states
+                  λ r g. elim (in_cases s states r
                       (subst (λ (xs : List ℕ). Contains xs r) e (gets line t r g))) [ inl k ↦ sym k | inr k ↦ all_same s states h r k ],
                 ))
             | inr h ↦
                 let r = another s states h in
                 subst (λ v. Decide (line ∷ lines) (answer_out (cond v (becomes s) (ambiguous line.line)))) (sym h)
                 (at_first line lines (Ambiguous line.line)
-                (refl, s, r.0, r.2, first_given, gave line t r.0 (subst (λ (xs : List ℕ). Contains xs r.0) (sym e) (in_tail s r.0 states r.1))))
+                (refl, s, r.0, r.2, first_given, gave line t r.0 (subst (λ (xs : List ℕ). Contains xs r.0) (sym e) (in_tail s states r.0 r.1))))
           ]
 
   decides_all : Decide layer.lines (answer_out (decided table centre others table.transitions))

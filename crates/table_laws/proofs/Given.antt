@@ -1,11 +1,12 @@
 -- A line gives a state in the words of the format exactly if some choice of states for the variables gives it.
-use Rattle.std.proofs.Common.{◌≡◌, ℕ, zero, suc, ◌<◌, List, [], ◌∷◌, length, map, Bool, true, false, cond, ◌&&◌, ◌||◌, refl, ap, ◌∙◌, sym, subst, arith, ◌⊎◌, inl, inr, eq-eqb, eqb}
+use Rattle.std.proofs.Common.{◌≡◌, ℕ, zero, suc, ◌<◌, List, [], ◌∷◌, length, map, Bool, true, false, cond, ◌&&◌, ◌||◌, refl, ap, ◌∙◌, sym, subst, arith, inl, inr, eq-eqb, eqb, eqb-true}
 use Rattle.std.specs.Prelude.{Option, Some, None, IfSome, IsTrue, All, slice_get, ◌==◌, zip}
 use Rattle.std.specs.List.{list_all, list_any}
 use Rattle.std.specs.Option.{option_map_or}
 use Rattle.std.proofs.lemmas.Bool.Decides.{eqb_tells, nat_tests}
 use Rattle.std.proofs.lemmas.List.Elements.{All-head, All-tail}
-use Rattle.std.proofs.lemmas.Bool.{or_left, or_right, and_from}
+use Rattle.std.proofs.lemmas.Bool.{or_left, or_right, and_from, cases_Bool}
+use Rattle.std.proofs.lemmas.Option.{same_Some}
 use Rattle.life_base.proofs.Numbers.{first, second}
 use Rattle.life_table.specs.Meaning.{has_state, HasState, IsChoice, state_of, GivesAs}
 use Rattle.life_table.specs.Valid.{is_variable, IsEntry}
@@ -18,22 +19,12 @@ use Rattle.table_laws.specs.Tables.{entry_in, transition_in, AreVariables}
 
 -- ---- tests
 
-pub known : (v : Bool) → (v ≡ true) ⊎ (v ≡ false)
-known true = inl refl
-known false = inr refl
-
-pub same_number : (a b : ℕ) → (a == b) ≡ true → a ≡ b
-same_number a b h = elim (eqb_tells a b) [ inl e ↦ e.1 | inr n ↦ absurd (let k : true ≡ false = sym h ∙ n.0 in cc) ]
-
 pub turned_about : (a b : ℕ) → (a == b) ≡ (b == a)
 turned_about a b = grind (arith, nat_tests)
 
 pub or_rest : (a b : Bool) → a ≡ false → (a || b) ≡ true → b ≡ true
 or_rest true b e h = cc
 or_rest false b e h = h
-
-pub some_of : {X : Type 0} (a b : X) → Some a ≡ Some b → a ≡ b
-some_of a b e = cc
 
 -- ---- variables that there are
 
@@ -65,11 +56,11 @@ module _ (vars : List Var) (variables : List Variable) (same : AreVariables vars
   all_values value choice [] (s ∷ ss) l a h = absurd (omega (arith, l))
   all_values value choice (e ∷ es) [] l a h = absurd (omega (arith, l))
   all_values value choice (entries.Fixed f ∷ es) (s ∷ ss) l a h =
-      let head : f ≡ s = same_number f s (first _ _ a) in
+      let head : f ≡ s = eqb-true f s (first _ _ a) in
       let tail : map (state_of choice) es ≡ ss = all_values value choice es ss (omega (arith, l)) (second _ _ a) h in
       ap (λ (n : ℕ). n ∷ map (state_of choice) es) head ∙ ap (λ (t : List ℕ). s ∷ t) tail
   all_values value choice (entries.Var j ∷ es) (s ∷ ss) l a h =
-      let head : choice j ≡ s = h j (or_left (eqb j j) _ (eq-eqb j j refl)) ∙ same_number (value j) s (first _ _ (first _ _ a)) in
+      let head : choice j ≡ s = h j (or_left (eqb j j) _ (eq-eqb j j refl)) ∙ eqb-true (value j) s (first _ _ (first _ _ a)) in
       let tail : map (state_of choice) es ≡ ss = all_values value choice es ss (omega (arith, l)) (second _ _ a) (λ i m. h i (or_right (eqb i j) _ m)) in
       ap (λ (n : ℕ). n ∷ map (state_of choice) es) head ∙ ap (λ (t : List ℕ). s ∷ t) tail
 
@@ -82,7 +73,7 @@ module _ (vars : List Var) (variables : List Variable) (same : AreVariables vars
   has_taken value i (entries.Fixed f ∷ es) (s ∷ ss) l a m = has_taken value i es ss (omega (arith, l)) (second _ _ a) m
   has_taken value i (entries.Var j ∷ es) (s ∷ ss) l a m = elim (eqb_tells i j) [
     | inl e ↦
-        let at : value j ≡ s = same_number (value j) s (first _ _ (first _ _ a)) in
+        let at : value j ≡ s = eqb-true (value j) s (first _ _ (first _ _ a)) in
         subst (λ n. list_any (λ t. t == value n) (states_of variables (variable n)) ≡ true) (sym e.1)
         (subst (λ n. list_any (λ t. t == n) (states_of variables (variable j)) ≡ true) (sym at) (second _ _ (first _ _ a)))
     | inr n ↦ has_taken value i es ss (omega (arith, l)) (second _ _ a) (or_rest (eqb i j) _ n.0 m)
@@ -102,7 +93,7 @@ module _ (vars : List Var) (variables : List Variable) (same : AreVariables vars
     choice_off i m = ap (λ v. cond v (taken (map entry_in es) ss i) (base i)) m
 
     choice_is : IsChoice vars choice
-    choice_is i below = elim (known (list_any (is_variable i) es)) [
+    choice_is i below = elim (cases_Bool (list_any (is_variable i) es)) [
       | inl m ↦ subst (λ s. IfSome (slice_get vars i) (λ var. HasState var s)) (sym (choice_at i m))
           (has_state_of i (taken (map entry_in es) ss i) (has_taken (taken (map entry_in es) ss) i es ss l a m))
       | inr m ↦ subst (λ s. IfSome (slice_get vars i) (λ var. HasState var s)) (sym (choice_off i m)) (is_base i below)
@@ -141,11 +132,11 @@ module _ (vars : List Var) (variables : List Variable) (same : AreVariables vars
   given_is_choice base is_base line ss s l bound g =
       let all = list_all (allows variables (taken (map entry_in line.inputs) ss)) (zip (map entry_in line.inputs) ss) in
       let h : cond all (Some (state_of (taken (map entry_in line.inputs) ss) line.output)) None ≡ Some s = sym (shown line ss) ∙ g in
-      elim (known all) [
+      elim (cases_Bool all) [
         | inl a ↦
             let k : Some (state_of (taken (map entry_in line.inputs) ss) line.output)
             ≡ Some s = sym (ap (λ v. cond v (Some (state_of (taken (map entry_in line.inputs) ss) line.output)) None) a) ∙ h in
-            gives_these base is_base line.inputs ss l a line.line line.output bound s (some_of _ s k)
+            gives_these base is_base line.inputs ss l a line.line line.output bound s (same_Some _ s k)
         | inr a ↦ absurd (let k : None ≡ Some s = sym (ap (λ v. cond v (Some (state_of (taken (map entry_in line.inputs) ss) line.output)) None) a) ∙ h in cc)
       ]
 

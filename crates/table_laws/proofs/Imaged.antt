@@ -1,5 +1,5 @@
 -- The orders that a symmetry lists are those of the layer, where its word is listed for so many neighbours, and each is as long.
-use Rattle.std.proofs.Common.{◌≡◌, ℕ, zero, suc, List, [], ◌∷◌, ◌++◌, length, map, Bool, true, refl, ap, ◌∙◌, sym, subst, arith}
+use Rattle.std.proofs.Common.{◌≡◌, ℕ, zero, suc, List, [], ◌∷◌, ◌++◌, length, map, Bool, true, refl, ap, ◌∙◌, sym, subst, arith, eqb-true, eq-eqb}
 use Rattle.std.specs.Prelude.{IsTrue, Contains, flat_map, slice_index, slice_index_or, ◌<◌, ◌==◌}
 use Rattle.std.specs.List.{list_all}
 use Rattle.std.proofs.lemmas.Bool.Decides.{nat_tests}
@@ -13,7 +13,6 @@ use Rattle.life_table.specs.declared.table.Neighborhood.TheVariants.{VonNeumann,
 use Rattle.life_table.specs.declared.table.Symmetry.{Symmetry}
 use Rattle.life_table.specs.declared.table.Symmetry.TheVariants.{Identity, Rotate4, Rotate4Reflect, ReflectHorizontal, Permute, Rotate8, Rotate8Reflect}
 use Rattle.claims.specs.Table.{images, orders, insertions}
-use Rattle.table_laws.proofs.Given.{same_number}
 
 -- ---- lists by their elements
 
@@ -62,17 +61,14 @@ have_both n (v ∷ vs) ws h k = and_from (length v == n) _ (first (length v == n
 insertions_have : (x : ℕ) (ys : List ℕ) → have_length (suc (length ys)) (insertions x ys) ≡ true
 insertions_have x [] = refl
 insertions_have x (y ∷ ys) =
-    and_from (suc (suc (length ys)) == suc (suc (length ys))) _ (itself (suc (suc (length ys))))
+    and_from (suc (suc (length ys)) == suc (suc (length ys))) _ (eq-eqb (suc (suc (length ys))) (suc (suc (length ys))) refl)
     (in_front (suc (length ys)) y (insertions x ys) (insertions_have x ys))
-  where
-    itself : (n : ℕ) → (n == n) ≡ true
-    itself n = grind arith
 
 inserted_have : (n x : ℕ) (vs : List (List ℕ)) → have_length n vs ≡ true → have_length (suc n) (flat_map (insertions x) vs) ≡ true
 inserted_have n x [] h = refl
 inserted_have n x (v ∷ vs) h =
     have_both (suc n) (insertions x v) (flat_map (insertions x) vs)
-    (subst (λ m. have_length (suc m) (insertions x v) ≡ true) (same_number (length v) n (first (length v == n) _ h)) (insertions_have x v))
+    (subst (λ m. have_length (suc m) (insertions x v) ≡ true) (eqb-true (length v) n (first (length v == n) _ h)) (insertions_have x v))
     (inserted_have n x vs (second (length v == n) _ h))
 
 orders_have : (v : List ℕ) → have_length (length v) (orders v) ≡ true
@@ -84,7 +80,7 @@ has_length n [] h v c = absurd (omega (arith, c.1))
 has_length n (w ∷ vs) h v c = by c.0 c.1 c.2 (has_length n vs (second (length w == n) _ h) v)
   where
     by : (k : ℕ) → k < length (w ∷ vs) → slice_index_or (w ∷ vs) k v ≡ v → (Contains vs v → length v ≡ n) → length v ≡ n
-    by zero l e below = ap length (sym e) ∙ same_number (length w) n (first (length w == n) _ h)
+    by zero l e below = ap length (sym e) ∙ eqb-true (length w) n (first (length w == n) _ h)
     by (suc k) l e below = below (k, omega (arith, l), e)
 
 -- ---- the images

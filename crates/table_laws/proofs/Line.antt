@@ -3,6 +3,7 @@ use Rattle.std.proofs.Common.{◌≡◌, ℕ, suc, ◌-◌, ◌^◌, min, List, 
 use Rattle.std.specs.Prelude.{Option, Some, None, Result, Ok, Err, codes, is_some, nat_lt, option_map}
 use Rattle.std.specs.List.{list_any}
 use Rattle.std.proofs.lemmas.Bool.Decides.{nat_tests}
+use Rattle.std.proofs.lemmas.Bool.{cases_Bool}
 use Rattle.life_base.specs.Numbers.{result_map}
 use Rattle.life_base.specs.Text.{is_empty, is_blank, is_whitespace, is_too_long, begins_with}
 use Rattle.life_base.specs.Rules.{rule_of as layer_rule_of}
@@ -24,7 +25,6 @@ use Rattle.claims.specs.Rules.{rule_of}
 use Rattle.claims.specs.Table.{Variable, Table, Section, ahead, named_rule, in_table, behind, is_complete, with_descriptor, with_variable, with_transition, with_text, rule_line, new_table, with_line}
 use Rattle.claims.proofs.RuleLaw.{rule_in, rule_of_is}
 use Rattle.table_laws.specs.Tables.{transition_in, AreVariables}
-use Rattle.table_laws.proofs.Given.{known}
 use Rattle.table_laws.proofs.Named.{Parsed, Place, Directive, before_table, in_the_table, behind_table}
 use Rattle.table_laws.proofs.Text.{table_in, Fits, goes, stops, FitsAfter, moved, descriptor_fits}
 use Rattle.table_laws.proofs.Written.{variable_fits}
@@ -77,7 +77,7 @@ module _ (parsed : Parsed) (new : IsNew parsed) (at : parsed.section ≡ before_
       → StepsAfter parsed (if_named (cond (begins_rule_line line) (name_in found) None)) (rule_line line (result_map rule_in found))
   rule_fits line (Ok (Named name)) e =
       let same : is_command (codes "@RULE") line ≡ begins_rule_line line = command_rule (begins_with line (codes "@RULE")) (drop 5 line) name e in
-      elim (known (begins_rule_line line)) [
+      elim (cases_Bool (begins_rule_line line)) [
         | inl b ↦ (let c : is_command (codes "@RULE") line ≡ true = same ∙ b in rw (c, b)
             (steps _ _ (is_named name
             (record { n_states = new.n_states; neighborhood = new.neighborhood; symmetry = new.symmetry; vars = new.vars; lines = new.lines }) refl at)))
@@ -96,7 +96,7 @@ module _ (parsed : Parsed) (new : IsNew parsed) (at : parsed.section ≡ before_
 
   ahead_fits : parsed.name ≡ None → (line : List ℕ)
       → StepsAfter parsed (parse_ahead None line) (cond (is_passed_over line) (Ok ahead) (rule_line line (rule_of (drop 5 line))))
-  ahead_fits e line = elim (known (is_passed_over line)) [
+  ahead_fits e line = elim (cases_Bool (is_passed_over line)) [
     | inl p ↦ rw p (steps _ _ (is_ahead new e at))
     | inr p ↦ put parsed _ (if_named (name_on line)) _ (rule_line line (result_map rule_in (layer_rule_of (drop 5 line))))
         (let k : parse_ahead None line ≡ if_named (name_on line) = rw p refl in k)
@@ -124,7 +124,7 @@ module _ (parsed : Parsed) (new : IsNew parsed) (at : parsed.section ≡ before_
 
   named_fits : (name : List ℕ) → parsed.name ≡ Some name → (line : List ℕ)
       → StepsAfter parsed (parse_ahead (Some name) line) (cond (is_command (codes "@TABLE") line) (Ok (in_table (new_table name))) (Ok (named_rule name)))
-  named_fits name e line = elim (known (is_command (codes "@TABLE") line)) [
+  named_fits name e line = elim (cases_Bool (is_command (codes "@TABLE") line)) [
     | inl p ↦ rw p (steps _ _ (opened name e))
     | inr p ↦ rw p (steps _ _ (is_named name new e at))
   ]
@@ -207,7 +207,7 @@ module _ (parsed : Parsed) (name : List ℕ) (variables : List Variable) (same :
       (cond (is_command (codes "var") text && nat_lt 3 (length text)) (with_variable table (drop 3 text)) (with_transition table number text))
   settled number text n en h eh =
       let same_line : (is_command (codes "var") text && nat_lt 3 (length text)) ≡ is_variable_line text = variable_line text in
-      elim (known (is_variable_line text)) [
+      elim (cases_Bool (is_variable_line text)) [
         | inl v ↦ moved parsed name _ (if_variable (variable_of n parsed.vars text)) _ (with_variable table (drop 3 text))
             (ap (λ b. cond b (if_variable (variable_of n parsed.vars text))
             (if_transition parsed.vars parsed.lines (transition_of n (neighbour_count h) parsed.vars (told number) text))) v)
@@ -227,7 +227,7 @@ module _ (parsed : Parsed) (name : List ℕ) (variables : List Variable) (same :
       (cond (is_command (codes "var") text && nat_lt 3 (length text)) (with_variable table (drop 3 text)) (with_transition table number text))
 
   rest_fits : (number : ℕ) (text : List ℕ) → FitsAfter parsed name (rest number text) (undescribed number text)
-  rest_fits number text = elim (known (is_described parsed)) [
+  rest_fits number text = elim (cases_Bool (is_described parsed)) [
     | inl d ↦
         let g = given_all parsed.n_states parsed.neighborhood parsed.symmetry d in
         moved parsed name _ (parse_settled g.n g.h parsed.vars parsed.lines (told number) text) _
@@ -262,12 +262,12 @@ module _ (parsed : Parsed) (name : List ℕ) (variables : List Variable) (same :
       → StepsAfter parsed (parse_in_table parsed (told number) line)
       (cond (begins_with line (codes "@")) (cond (is_complete table) (Ok (behind table)) (Err kinds.BadDescriptor))
       (with_text table number (content line) >>= λ next. Ok (in_table next)))
-  open_fits number line = elim (known (begins_with line (codes "@"))) [
-    | inl s ↦ elim (known (is_described parsed)) [
+  open_fits number line = elim (cases_Bool (begins_with line (codes "@"))) [
+    | inl s ↦ elim (cases_Bool (is_described parsed)) [
       | inl d ↦ (let c : is_complete table ≡ true = complete_is name variables parsed ∙ d in rw (s, c, d) (steps _ _ (is_behind name variables is refl d same)))
       | inr d ↦ (let c : is_complete table ≡ false = complete_is name variables parsed ∙ d in rw (s, c, d) (halts kinds.BadDescriptor))
     ]
-    | inr s ↦ elim (known (is_empty (content line))) [
+    | inr s ↦ elim (cases_Bool (is_empty (content line))) [
       | inl e ↦ rw (s, e) (steps _ _ (is_open name variables is at same))
       | inr e ↦
           let text = content line in
@@ -288,7 +288,7 @@ module _ (parsed : Parsed) (name : List ℕ) (variables : List Variable) (same :
 pub section_fits : (parsed : Parsed) (section : Section) → Stands parsed section → IsGood parsed → (number : ℕ) (line : List ℕ)
     → StepsAfter parsed (parse_line parsed (min number (2 ^ 64 - 1)) line) (with_line section number line)
 unfolding parse_line with_line
-section_fits parsed section (is_ahead new e at) good number line = elim (known (is_too_long line)) [
+section_fits parsed section (is_ahead new e at) good number line = elim (cases_Bool (is_too_long line)) [
   | inl l ↦ rw l (halts kinds.LineTooLong)
   | inr l ↦ put parsed _ _ _ _
       (ap (λ v. cond v (Err kinds.LineTooLong) (parse_in_section parsed.section parsed (min number (2 ^ 64 - 1)) line)) l
@@ -296,7 +296,7 @@ section_fits parsed section (is_ahead new e at) good number line = elim (known (
       (ap (λ v. cond v (Err kinds.LineTooLong) (cond (is_passed_over line) (Ok ahead) (rule_line line (rule_of (drop 5 line))))) l)
       (ahead_fits parsed new at e line)
 ]
-section_fits parsed section (is_named name new e at) good number line = elim (known (is_too_long line)) [
+section_fits parsed section (is_named name new e at) good number line = elim (cases_Bool (is_too_long line)) [
   | inl l ↦ rw l (halts kinds.LineTooLong)
   | inr l ↦ put parsed _ _ _ _
       (ap (λ v. cond v (Err kinds.LineTooLong) (parse_in_section parsed.section parsed (min number (2 ^ 64 - 1)) line)) l
@@ -304,7 +304,7 @@ section_fits parsed section (is_named name new e at) good number line = elim (kn
       (ap (λ v. cond v (Err kinds.LineTooLong) (cond (is_command (codes "@TABLE") line) (Ok (in_table (new_table name))) (Ok (named_rule name)))) l)
       (named_fits parsed new at name e line)
 ]
-section_fits parsed section (is_open name variables e at same) good number line = elim (known (is_too_long line)) [
+section_fits parsed section (is_open name variables e at same) good number line = elim (cases_Bool (is_too_long line)) [
   | inl l ↦ rw l (halts kinds.LineTooLong)
   | inr l ↦ put parsed _ (parse_in_table parsed (min number (2 ^ 64 - 1)) line) _
       (cond (begins_with line (codes "@"))
@@ -318,7 +318,7 @@ section_fits parsed section (is_open name variables e at same) good number line 
       (with_text (table_in parsed name variables) number (content line) >>= λ next. Ok (in_table next)))) l)
       (open_fits parsed name variables same good e at number line)
 ]
-section_fits parsed section (is_behind name variables e at d same) good number line = elim (known (is_too_long line)) [
+section_fits parsed section (is_behind name variables e at d same) good number line = elim (cases_Bool (is_too_long line)) [
   | inl l ↦ rw l (halts kinds.LineTooLong)
   | inr l ↦ put parsed _ (parse_in_section behind_table parsed (min number (2 ^ 64 - 1)) line) _ (Ok (behind (table_in parsed name variables)))
       (ap (λ v. cond v (Err kinds.LineTooLong) (parse_in_section parsed.section parsed (min number (2 ^ 64 - 1)) line)) l

@@ -2,6 +2,8 @@
 use Rattle.std.proofs.Common.{◌≡◌, ℕ, ◌+◌, ◌<◌, List, [], ◌∷◌, ◌++◌, map, length, take, Bool, true, false, cond, refl, ap, ◌∙◌, sym, subst, arith, ◌⊎◌, inl, inr, append_assoc, length-append, get_or}
 use Rattle.std.specs.Prelude.{Option, Some, None, Result, Ok, Err, is_none, option_map}
 use Rattle.std.proofs.lemmas.List.{append-nil, take-append-le}
+use Rattle.std.proofs.lemmas.Bool.{cases_Bool}
+use Rattle.std.proofs.lemmas.Option.{same_Some}
 use Rattle.std.proofs.Math.Seq.{take-append_seam, get_or-append_seam}
 use Rattle.std.proofs.Math.ListN.{get_or-append}
 use Rattle.life_base.specs.Numbers.{result_map}
@@ -24,7 +26,6 @@ use Rattle.claims.specs.Files.{fault_at, on_line}
 use Rattle.claims.specs.Table.{Variable, Table, Section, ahead, with_line, end_of_table, read_table_lines, table_of}
 use Rattle.table_laws.specs.Laws.{TablesRead, TablesRefuse}
 use Rattle.table_laws.specs.Tables.{transition_in, AreVariables, IsTable}
-use Rattle.table_laws.proofs.Given.{known, some_of}
 use Rattle.table_laws.proofs.Named.{Parsed, Place, Directive}
 use Rattle.table_laws.proofs.Text.{table_in}
 use Rattle.table_laws.proofs.Line.{Stands, is_ahead as stands_ahead, is_named, is_open, is_behind, Steps, steps, halts, section_fits, complete_is}
@@ -173,7 +174,7 @@ ended parsed section (is_named name new e at) = inr (record {
   lacks_it = lacking_is parsed (Some name) _ _ e at refl;
   is = refl;
 })
-ended parsed section (is_open name variables e at same) = elim (known (is_described parsed)) [
+ended parsed section (is_open name variables e at same) = elim (cases_Bool (is_described parsed)) [
   | inl d ↦ inl (record {
     name = name;
     variables = variables;
@@ -201,7 +202,7 @@ described_is : (parsed : Parsed) (layer : LayerTable) → Describes parsed layer
     → AreVariables parsed.vars variables
     → IsTable layer (table_in parsed name variables)
 described_is parsed layer d name e variables same = record {
-  name = some_of name layer.name (sym e ∙ d.name);
+  name = same_Some name layer.name (sym e ∙ d.name);
   n_states = d.n_states;
   neighbours = ap (option_map neighbour_count) d.neighborhood;
   symmetry = ap (option_map symmetry_word) d.symmetry;

@@ -11,6 +11,7 @@ use Rattle.std.proofs.lemmas.Nat.Bits.{bit_at_or, bit_at-pow_same, bit_at-pow_ot
 use Rattle.std.proofs.Math.Bool.{or_assoc, or-false}
 use Rattle.std.proofs.lemmas.List.Folds.{list_any-append}
 use Rattle.std.proofs.lemmas.List.{get_or_past}
+use Rattle.std.proofs.lemmas.Bool.{cases_Bool}
 use Rattle.life_table.specs.Meaning.{has_state}
 use Rattle.life_table.specs.Reading.{single, union, union_of, states_of_entry}
 use Rattle.life_table.specs.Valid.{IsEntry, IsVariable}
@@ -19,7 +20,6 @@ use Rattle.life_table.specs.declared.table.Entry.{Entry as LayerEntry}
 use Rattle.life_table.specs.declared.table.Entry.TheVariants as entries
 use Rattle.claims.specs.Table.{Variable, states_of}
 use Rattle.table_laws.specs.Tables.{entry_in, AreVariables}
-use Rattle.table_laws.proofs.Given.{known}
 
 -- ---- tests
 
@@ -138,7 +138,7 @@ module _ (n : ℕ) (vars : List Var) (variables : List Variable) (same : AreVari
 
   small_variable : (o : Option Var) → ((v : Var) → o ≡ Some v → IsVariable n v) → IsSmall (unwrap_or (option_map (λ (v : Var). v.states) o) [])
   small_variable None h s l = no_word [] s refl
-  small_variable (Some v) h s l = elim (known (has_state v s)) [
+  small_variable (Some v) h s l = elim (cases_Bool (has_state v s)) [
     | inl e ↦ absurd (let b : s < n = (h v refl).below s e in omega (arith, b, l, most))
     | inr e ↦ e
   ]

@@ -4,6 +4,7 @@ use Rattle.std.specs.Prelude.{Option, Some, None, Result, Ok, Err, is_some, byte
 use Rattle.std.specs.List.{list_any}
 use Rattle.std.proofs.lemmas.Bool.Decides.{nat_tests}
 use Rattle.std.proofs.lemmas.Slice.Eq.{bytes_eq-Decides}
+use Rattle.std.proofs.lemmas.Bool.{cases_Bool}
 use Rattle.life_base.specs.Numbers.{result_map}
 use Rattle.life_base.specs.Text.{is_digit_text, value_of}
 use Rattle.life_base.specs.declared.kind.Kind.{Kind}
@@ -20,7 +21,6 @@ use Rattle.life_table.specs.declared.table.Symmetry.TheVariants.{Identity, Rotat
 use Rattle.claims.specs.Table.{Variable, Table, agree, symmetries_of, neighbours_named, with_neighbours, with_descriptor}
 use Rattle.table_laws.specs.Tables.{transition_in, AreVariables}
 use Rattle.table_laws.proofs.Named.{Parsed, Directive}
-use Rattle.table_laws.proofs.Given.{known}
 
 -- ---- what lines of the table say, in both
 
@@ -87,30 +87,15 @@ word_listed Rotate8Reflect = (refl, refl)
 abbrev IsNamed : List ℕ → Type 0
 IsNamed word = ((y : Symmetry) × (word ≡ symmetry_word y)) ⊎ ((symmetry_named word ≡ None) × (list_any (bytes_eq word) (symmetries_of 8) ≡ false))
 
+-- a word is this one, or what it is where it is another
+word_or : (y : Symmetry) (word : List ℕ) → (bytes_eq word (symmetry_word y) ≡ false → IsNamed word) → IsNamed word
+word_or y word other = elim (cases_Bool (bytes_eq word (symmetry_word y))) [ inl e ↦ inl (y, equal_texts word (symmetry_word y) e) | inr n ↦ other n ]
+
 named : (word : List ℕ) → IsNamed word
-named word = elim (known (bytes_eq word (codes "none"))) [
-  | inl e ↦ inl (Identity, equal_texts word (codes "none") e)
-  | inr a ↦ elim (known (bytes_eq word (codes "rotate4"))) [
-    | inl e ↦ inl (Rotate4, equal_texts word (codes "rotate4") e)
-    | inr b ↦ elim (known (bytes_eq word (codes "rotate4reflect"))) [
-      | inl e ↦ inl (Rotate4Reflect, equal_texts word (codes "rotate4reflect") e)
-      | inr c ↦ elim (known (bytes_eq word (codes "reflect_horizontal"))) [
-        | inl e ↦ inl (ReflectHorizontal, equal_texts word (codes "reflect_horizontal") e)
-        | inr d ↦ elim (known (bytes_eq word (codes "permute"))) [
-          | inl e ↦ inl (Permute, equal_texts word (codes "permute") e)
-          | inr f ↦ elim (known (bytes_eq word (codes "rotate8"))) [
-            | inl e ↦ inl (Rotate8, equal_texts word (codes "rotate8") e)
-            | inr g ↦ elim (known (bytes_eq word (codes "rotate8reflect"))) [
-              | inl e ↦ inl (Rotate8Reflect, equal_texts word (codes "rotate8reflect") e)
-              | inr h ↦
-                  inr (none_of _ _ _ _ _ _ _ a b c d f g h, any_of _ _ _ _ _ _ _ a b c d f g h)
-            ]
-          ]
-        ]
-      ]
-    ]
-  ]
-]
+named word =
+    word_or Identity word (λ a. word_or Rotate4 word (λ b. word_or Rotate4Reflect word (λ c. word_or ReflectHorizontal word (λ d.
+    word_or Permute word (λ f. word_or Rotate8 word (λ g. word_or Rotate8Reflect word (λ h.
+    inr (none_of _ _ _ _ _ _ _ a b c d f g h, any_of _ _ _ _ _ _ _ a b c d f g h))))))))
   where
     none_of : (a b c d f g h : Bool) → a ≡ false → b ≡ false → c ≡ false → d ≡ false → f ≡ false → g ≡ false → h ≡ false
         → cond a (Some Identity) (cond b (Some Rotate4) (cond c (Some Rotate4Reflect) (cond d (Some ReflectHorizontal)
@@ -154,7 +139,7 @@ module _ (parsed : Parsed) (name : List ℕ) (variables : List Variable) (same :
   neighbours_fit value = by (bytes_eq value (codes "vonNeumann")) (bytes_eq value (codes "Moore"))
     where
       agreed : (h : Neighborhood) → F (if_neighborhood parsed.symmetry (Some h)) (with_neighbours table (Some (neighbour_count h)))
-      agreed h = elim (known (layer_agree (Some h) parsed.symmetry)) [
+      agreed h = elim (cases_Bool (layer_agree (Some h) parsed.symmetry)) [
         | inl e ↦ let k : agree (Some (neighbour_count h)) table.symmetry ≡ true = agree_is (Some h) parsed.symmetry ∙ e in
             rw (k, e) (goes _ _ variables refl refl same refl)
         | inr e ↦ let k : agree (Some (neighbour_count h)) table.symmetry ≡ false = agree_is (Some h) parsed.symmetry ∙ e in
@@ -180,7 +165,7 @@ module _ (parsed : Parsed) (name : List ℕ) (variables : List Variable) (same :
           (ap (if_symmetry parsed.neighborhood) (word_listed y).1)
           (ap (λ v. cond (v && agree table.neighbours (Some (symmetry_word y))) (Ok (record table { symmetry = Some (symmetry_word y) }))
           (Err kinds.UnsupportedSymmetry)) (word_listed y).0)
-          (elim (known (layer_agree parsed.neighborhood (Some y))) [
+          (elim (cases_Bool (layer_agree parsed.neighborhood (Some y))) [
             | inl e ↦ let k : agree table.neighbours (Some (symmetry_word y)) ≡ true = agree_is parsed.neighborhood (Some y) ∙ e in
                 rw (k, e) (goes _ _ variables refl refl same refl)
             | inr e ↦ let k : agree table.neighbours (Some (symmetry_word y)) ≡ false = agree_is parsed.neighborhood (Some y) ∙ e in
@@ -221,7 +206,7 @@ module _ (parsed : Parsed) (name : List ℕ) (variables : List Variable) (same :
   states_key_alone key h = let e : key ≡ codes "n_states" = equal_texts key (codes "n_states") h in (ap is_neighborhood_key e, ap is_symmetry_key e)
 
   neighborhood_key_alone : (key : List ℕ) → is_neighborhood_key key ≡ true → is_symmetry_key key ≡ false
-  neighborhood_key_alone key h = elim (known (bytes_eq key (codes "neighborhood"))) [
+  neighborhood_key_alone key h = elim (cases_Bool (bytes_eq key (codes "neighborhood"))) [
     | inl e ↦ ap is_symmetry_key (equal_texts key (codes "neighborhood") e)
     | inr n ↦ ap is_symmetry_key (equal_texts key (codes "neighbourhood") (ap (λ v. v || bytes_eq key (codes "neighbourhood")) (sym n) ∙ h))
   ]

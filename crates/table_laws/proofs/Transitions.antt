@@ -1,11 +1,12 @@
 -- A transition is that of the layer.
-use Rattle.std.proofs.Common.{◌≡◌, ℕ, zero, suc, ◌+◌, ◌-◌, ◌^◌, min, List, [], ◌∷◌, ◌++◌, map, length, take, Bool, true, false, cond, not, ◌&&◌, ◌||◌, refl, ap, ◌∙◌, sym, arith, inl, inr, length-append, length-take}
+use Rattle.std.proofs.Common.{◌≡◌, ℕ, zero, suc, ◌+◌, ◌-◌, ◌^◌, min, List, [], ◌∷◌, ◌++◌, map, length, take, Bool, true, false, cond, not, ◌&&◌, ◌||◌, refl, ap, ◌∙◌, sym, arith, inl, inr, length-append, length-take, eqb-true, eq-eqb}
 use Rattle.std.specs.Prelude.{Option, Some, None, Result, Err, slice_get, slice_index_or, option_map, option_and_then, ◌==◌}
 use Rattle.std.specs.List.{list_any, list_all}
 use Rattle.std.specs.Option.{option_map_or, unwrap_or}
-use Rattle.std.proofs.lemmas.Bool.Decides.{nat_tests}
 use Rattle.std.proofs.lemmas.List.{map-append}
+use Rattle.std.proofs.lemmas.Bool.{cases_Bool}
 use Rattle.std.proofs.Math.Bool.{or-false}
+use Rattle.std.proofs.Math.Seq.{take-append_seam}
 use Rattle.life_base.specs.declared.kind.Kind.{Kind}
 use Rattle.life_base.specs.declared.kind.Kind.TheVariants as kinds
 use Rattle.life_table.specs.Meaning.{has_state}
@@ -22,7 +23,7 @@ use Rattle.life_table.specs.declared.table.Transition.{Transition as LayerTransi
 use Rattle.claims.specs.Table.{Entry, variable, Variable, Transition, Table, entry_of, entries_of, states_of, transition_texts, is_bound, fits_zero, leaves_zero, with_entries, with_transition}
 use Rattle.table_laws.specs.Tables.{entry_in, transition_in, AreVariables}
 use Rattle.table_laws.proofs.Named.{Parsed}
-use Rattle.table_laws.proofs.Given.{known, same_number, turned_about}
+use Rattle.table_laws.proofs.Given.{turned_about}
 use Rattle.table_laws.proofs.Text.{table_in, goes, stops, FitsAfter, moved}
 use Rattle.table_laws.proofs.Words.{all_more, all_of, entry_is, entries_are}
 
@@ -123,10 +124,6 @@ module _ {X : Type 0} (f : List ℕ → Option X) where
 
 -- ---- the transition of some parts
 
-front_of : {X : Type 0} (xs : List X) (x : X) → take (length xs) (xs ++ x ∷ []) ≡ xs
-front_of [] x = refl
-front_of (y ∷ xs) x = ap (λ ys. y ∷ ys) (front_of xs x)
-
 last_of : {X : Type 0} (xs : List X) (x : X) → slice_get (xs ++ x ∷ []) (length xs) ≡ Some x
 last_of [] x = refl
 last_of (y ∷ xs) x = last_of xs x
@@ -140,17 +137,14 @@ all_parts : (k number : ℕ) (front : List LayerEntry) (last : LayerEntry) → l
     → transition_from k number (front ++ last ∷ []) ≡ Some (record { line = number; inputs = front; output = last })
 all_parts k number front last l =
     let long : (length (front ++ last ∷ []) == k + 2)
-    ≡ true = equal (length (front ++ last ∷ [])) (k + 2) (omega (arith, l, length-append front (last ∷ []))) in
+    ≡ true = eq-eqb (length (front ++ last ∷ [])) (k + 2) (omega (arith, l, length-append front (last ∷ []))) in
     ap (λ v. cond v (option_map (λ (output : LayerEntry). record { line = number; inputs = take (k + 1) (front ++ last ∷ []); output = output })
     (slice_get (front ++ last ∷ []) (k + 1))) None) long
     ∙ ap (λ m. option_map (λ (output : LayerEntry). record { line = number; inputs = take m (front ++ last ∷ []); output = output })
     (slice_get (front ++ last ∷ []) m)) (sym l)
     ∙ ap (option_map (λ (output : LayerEntry). record { line = number; inputs = take (length front) (front ++ last ∷ []); output = output }))
     (last_of front last)
-    ∙ ap (λ (es : List LayerEntry). Some (record { line = number; inputs = es; output = last })) (front_of front last)
-  where
-    equal : (a b : ℕ) → a ≡ b → (a == b) ≡ true
-    equal a b e = grind (arith, nat_tests)
+    ∙ ap (λ (es : List LayerEntry). Some (record { line = number; inputs = es; output = last })) (take-append_seam front (last ∷ []))
 
 module _ (parsed : Parsed) (name : List ℕ) (variables : List Variable) (same : AreVariables parsed.vars variables) (good : IsGood parsed)
     (n : ℕ) (en : parsed.n_states ≡ Some n) (h : Neighborhood) (eh : parsed.neighborhood ≡ Some h) where
@@ -174,10 +168,10 @@ module _ (parsed : Parsed) (name : List ℕ) (variables : List Variable) (same :
       ∙ ap (λ v. layer_fits_zero parsed.vars line && not (is_quiet_output last) && not v) (any_fits parsed.vars variables same parsed.lines)
       ∙ quiet_test (layer_fits_zero parsed.vars line) (is_quiet_output last) (list_any (layer_fits_zero parsed.vars) parsed.lines)
       ∙ ap not (sym (quiet_more parsed.vars parsed.lines line good.quiet)) in
-      elim (known (layer_is_bound front last)) [
+      elim (cases_Bool (layer_is_bound front last)) [
         | inl b ↦
             let c : is_bound (map entry_in front) (entry_in last) ≡ true = bound_is front last ∙ b in
-            elim (known (is_quiet parsed.vars (parsed.lines ++ line ∷ []))) [
+            elim (cases_Bool (is_quiet parsed.vars (parsed.lines ++ line ∷ []))) [
               | inl q ↦
                   let p : (fits_zero variables (transition_in line) && leaves_zero (entry_in last) && not
                   (list_any (fits_zero variables) (map transition_in parsed.lines))) ≡ false = quiet_is ∙ ap not q in
@@ -228,9 +222,9 @@ module _ (parsed : Parsed) (name : List ℕ) (variables : List Variable) (same :
   texts_fit number texts =
       let k = neighbour_count h in
       let f = layer_entry_of n parsed.vars in
-      elim (known (length texts == k + 1 + 1)) [
+      elim (cases_Bool (length texts == k + 1 + 1)) [
         | inl e ↦
-            let count : length texts ≡ suc (k + 1) = (let s : length texts ≡ k + 1 + 1 = same_number (length texts) (k + 1 + 1) e in omega (arith, s)) in
+            let count : length texts ≡ suc (k + 1) = (let s : length texts ≡ k + 1 + 1 = eqb-true (length texts) (k + 1 + 1) e in omega (arith, s)) in
             moved parsed name _ _ _ _
             (ap (λ (o : Option (List LayerEntry)). if_transition parsed.vars parsed.lines (option_and_then (transition_from k (told number)) o))
             (front_and_last f texts (k + 1) count))

@@ -75,9 +75,6 @@ more_variables vars variables same var v e h = record {
 -- ---- the sets of a list
 
 module _ (n : ℕ) (vars : List Var) (variables : List Variable) (same : AreVariables vars variables) (most : n ≤ 256) (all : All (IsVariable n) vars) where
-  abbrev entry : List ℕ → Option LayerEntry
-  entry word = layer_entry_of n vars word
-
   sets_are : (words : List (List ℕ)) → all_some (map (λ word. option_and_then (states_of_entry vars) (layer_entry_of n vars word)) words)
       ≡ option_map (map (set_of vars)) (all_some (map (layer_entry_of n vars) words))
   sets_are [] = refl

@@ -1,6 +1,7 @@
 -- Which patterns files say: those that fit, as in the layer below.
 use Rattle.std.proofs.Common.{◌≡◌, ℕ, ◌<◌, ◌≤◌, ◌^◌, List, refl, ap, ◌∙◌, sym, subst, inl, inr}
 use Rattle.std.specs.Prelude.{Result, Ok, Err}
+use Rattle.std.proofs.lemmas.Bool.{cases_Bool}
 use Rattle.life_base.proofs.ReadBack.{rules_read_back}
 use Rattle.life_base.proofs.RuleValues.{rule_values}
 use Rattle.life_base.specs.Numbers.{result_map}
@@ -18,7 +19,6 @@ use Rattle.claims.specs.Pattern.{Pattern}
 use Rattle.claims.specs.Files.{pattern_of}
 use Rattle.claims.specs.Shown.{rule_text}
 use Rattle.claims.proofs.Back.{macrocell_back, rle_back}
-use Rattle.claims.proofs.McLaw.{decided}
 use Rattle.claims.proofs.NodeLaw.{largest_is}
 use Rattle.claims.proofs.RuleLaw.{rule_in, rule_of_is}
 use Rattle.theorems.specs.Patterns.{Fits, PatternsHaveFiles, PatternsOfFilesFit}
@@ -58,7 +58,7 @@ have_files files pattern h =
 
 -- the pattern of a file is read in the layer
 pub is_read : (bytes : List ℕ) (pattern : Pattern) → pattern_of bytes ≡ Ok pattern → (u : Universe) × Reads 62 bytes u
-is_read bytes pattern e = elim (decided (is_macrocell (lines_of bytes))) [
+is_read bytes pattern e = elim (cases_Bool (is_macrocell (lines_of bytes))) [
   | inl m ↦
       let back = macrocell_back (lines_of bytes) pattern (sym (as_mc bytes m) ∙ e) in (macrocell_universe back.0, as_macrocell back.0 back.1)
   | inr m ↦ let back = rle_back (lines_of bytes) pattern (sym (as_rle_lines bytes m) ∙ e) in (rle_universe back.0, as_rle back.0 back.1)

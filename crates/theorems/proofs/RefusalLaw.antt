@@ -1,6 +1,7 @@
 -- A refused file has the fault that it has in the layer below.
-use Rattle.std.proofs.Common.{◌≡◌, ℕ, zero, suc, ◌+◌, ◌-◌, ◌^◌, ◌<◌, ◌≤◌, min, List, [], ◌∷◌, ◌++◌, length, take, drop, Bool, true, false, cond, refl, ap, ◌∙◌, sym, subst, arith, ◌⊎◌, inl, inr, append_assoc}
+use Rattle.std.proofs.Common.{◌≡◌, ℕ, zero, suc, ◌+◌, ◌-◌, ◌^◌, ◌<◌, ◌≤◌, min, List, [], ◌∷◌, ◌++◌, length, take, drop, Bool, true, false, cond, refl, ap, ◌∙◌, sym, subst, arith, ◌⊎◌, inl, inr, append_assoc, length-take-le}
 use Rattle.std.specs.Prelude.{Some, None, Result, Ok, Err, slice_index_or, MatchBool, IfErr, IsOk, OnOk}
+use Rattle.std.proofs.lemmas.Bool.{cases_Bool}
 use Rattle.life_base.specs.Refusal.{Prefix, kept, continuations}
 use Rattle.life_base.specs.Text.{lines_of}
 use Rattle.life_base.specs.declared.fault.Fault.{Fault}
@@ -19,10 +20,9 @@ use Rattle.claims.specs.Pattern.{Pattern}
 use Rattle.claims.specs.Files.{IsWant as IsUnmet}
 use Rattle.claims.specs.Files.{pattern_of, fault_at, read_lines, end_of_rle}
 use Rattle.claims.specs.Rle.{with_line as with_rle_line}
-use Rattle.claims.proofs.McLaw.{decided}
 use Rattle.claims.proofs.McFile.{macrocell_refuses}
 use Rattle.claims.proofs.RleFile.{rle_refuses, rle_lacks, begun}
-use Rattle.claims.proofs.Running.{cut_at, length_front}
+use Rattle.claims.proofs.Running.{cut_at}
 use Rattle.theorems.proofs.FileLaw.{files_agree, as_mc, as_rle_lines, mc_first, rle_first}
 
 contra : (v : Bool) → v ≡ true → v ≡ false → ⊥
@@ -117,7 +117,7 @@ module _ (bytes : List ℕ) (fault : Fault) (r : Refuses 62 bytes fault) where
       (r.at_line (omega (arith, e, h))) in
       let format = front_format (lines_of bytes) k h in
       let told : fault_at (suc k) fault.kind ≡ fault = fault_is fault (suc k) (r.line ∙ ap (λ n. min n (2 ^ 64 - 1)) e) in
-      elim (decided (is_macrocell (lines_of bytes))) [
+      elim (cases_Bool (is_macrocell (lines_of bytes))) [
         | inl m ↦
             let b : broken 62 front line ≡ Some fault.kind = when_true (is_macrocell (front ++ line ∷ [])) _ _ (format ∙ m) breaks in
             let plus : k + 1 ≡ suc k = omega arith in
@@ -125,7 +125,7 @@ module _ (bytes : List ℕ) (fault : Fault) (r : Refuses 62 bytes fault) where
             ∙ ap (λ n. Err (fault_at n fault.kind)) plus ∙ ap Err told
         | inr m ↦
             let b : BreaksRle 62 front line fault.kind = when_false (is_macrocell (front ++ line ∷ [])) _ _ (format ∙ m) breaks in
-            let short : 1 + length front ≡ suc k = omega (arith, length_front (lines_of bytes) k (omega arith)) in
+            let short : 1 + length front ≡ suc k = omega (arith, length-take-le k (lines_of bytes) (omega arith)) in
             as_rle_lines bytes m ∙ ap (read_lines with_rle_line end_of_rle 1 begun) (cut_at (lines_of bytes) k h)
             ∙ rle_refuses front (drop (suc k) (lines_of bytes)) line fault.kind b
             ∙ ap (λ n. Err (fault_at n fault.kind)) short ∙ ap Err told

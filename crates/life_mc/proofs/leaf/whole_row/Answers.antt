@@ -1,10 +1,10 @@
-use Rattle.std.proofs.Common.{◌≡◌, ◌∙◌, ◌-◌, ◌%◌, ℕ, List, ap, sym, arith, get_or, length, take}
+use Rattle.std.proofs.Common.{◌≡◌, ◌∙◌, ◌-◌, ◌%◌, ℕ, List, ap, sym, arith, get_or, length, take, length-take-le}
 use Rattle.std.specs.Prelude.{◌^◌}
 use Rattle.life_mc.specs.Reading.{row_byte}
 use Rattle.life_mc.specs.Grammar.{is_row}
 use Rattle.life_mc.specs.Standing.{first_row, front_cells}
 use Rattle.life_mc.proofs.Leaves.{row_fits_all}
-use Rattle.life_mc.proofs.WholeRows.{as_long, columns_in_front, front_is_row, front_within, no_row_in_front, row_in_front}
+use Rattle.life_mc.proofs.WholeRows.{columns_in_front, front_is_row, front_within, no_row_in_front, row_in_front}
 use Rattle.life_mc.proofs.leaf.whole_row.Goals as goal
 
 pub returns-then-text-end-ne36 : goal.returns-then-text-end-ne36
@@ -25,5 +25,5 @@ returns c =
     (omega (arith, c.requires)) in (
       ap is_row row ∙ front_is_row text,
       byte ∙ ap row_byte (sym row),
-      front ∙ sym (ap (λ (t : List ℕ). length t) row ∙ as_long (front_cells 8 text) text (omega (arith, c.requires, front_within 8 text))),
+      front ∙ sym (ap (λ (t : List ℕ). length t) row ∙ length-take-le (front_cells 8 text) text (omega (arith, c.requires, front_within 8 text))),
     )

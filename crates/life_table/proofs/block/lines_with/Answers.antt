@@ -2,7 +2,8 @@ use Rattle.std.proofs.Common.{◌≡◌, ℕ, ◌<◌, length, get_or, ap, sym, 
 use Rattle.std.specs.Int.{bit_at}
 use Rattle.std.proofs.lemmas.List.{get_or_read}
 use Rattle.life_table.specs.Index.{entry_at}
-use Rattle.life_table.proofs.Indexing.{one_more_found, one_more_kept, one_more_left}
+use Rattle.life_table.proofs.Indexing.{one_more_found, one_more_kept}
+use Rattle.life_table.proofs.Seeing.{pass_place}
 use Rattle.life_table.specs.declared.table.Transition.{Transition}
 use Rattle.life_table.proofs.block.lines_with.Goals as goal
 use Rattle.life_table.proofs.block.lines_with.Goals.{then-is_same, else-is_same}
@@ -27,7 +28,7 @@ loop-k-preserved c =
       | else-is_same w ↦ record {
         only = λ k d h. c.loop-k.invariant.only k d (subst (λ n. bit_at n k ≡ 1) w.found-is h);
         all = λ k d below same. subst (λ n. bit_at n k ≡ 1) (sym w.found-is)
-            (one_more_left c.loop-k.found i (Has d)
+            (pass_place c.loop-k.found i (Has d)
             (λ has. absurd (let yes = c.is_same.ensures.1 (read d ∙ has) in let e : true ≡ false = sym yes ∙ w.if-is_same.false in cc))
             (λ j before. c.loop-k.invariant.all j d before) k below same);
       }

@@ -23,23 +23,17 @@ returns-then-may-k-eq0 c =
 
 pub returns-in-One : goal.returns-in-One
 returns-in-One c =
-    let vars = c.args.site.now.vars.now in
-    let cells = c.args.site.now.cells.now in
-    let lines = c.args.lines.now in
-    let inside : c.args.from + c.loop-k.k < length lines = omega (arith, c.loop-k-test.true, c.min-k-end.ensures) in
-    answer_here c.args.symmetry vars vars cells cells refl refl lines lines refl (c.args.from + c.loop-k.k) c.index-lines-from.result inside
-    c.index-lines-from.is c.loop-k.invariant (Becomes c.in-One.state) c.in-One.ensures
+    answer_here c.args.symmetry c.args.site.now.vars.now _ c.args.site.now.cells.now _ refl refl c.args.lines.now _ refl (c.args.from + c.loop-k.k)
+    c.index-lines-from.result (omega (arith, c.loop-k-test.true, c.min-k-end.ensures)) c.index-lines-from.is c.loop-k.invariant
+    (Becomes c.in-One.state) c.in-One.ensures
 
 pub returns-in-Two : goal.returns-in-Two
 returns-in-Two c =
-    let vars = c.args.site.now.vars.now in
-    let cells = c.args.site.now.cells.now in
-    let lines = c.args.lines.now in
-    let inside : c.args.from + c.loop-k.k < length lines = omega (arith, c.loop-k-test.true, c.min-k-end.ensures) in
     let h = c.in-Two.ensures in (
       refl,
-      answer_here c.args.symmetry vars vars cells cells refl refl lines lines refl (c.args.from + c.loop-k.k) c.index-lines-from.result inside
-          c.index-lines-from.is c.loop-k.invariant (Ambiguous c.index-lines-from.result.line) (refl, h.0, h.1, h.2, h.3, h.4),
+      answer_here c.args.symmetry c.args.site.now.vars.now _ c.args.site.now.cells.now _ refl refl c.args.lines.now _ refl (c.args.from + c.loop-k.k)
+          c.index-lines-from.result (omega (arith, c.loop-k-test.true, c.min-k-end.ensures)) c.index-lines-from.is c.loop-k.invariant
+          (Ambiguous c.index-lines-from.result.line) (refl, h.0, h.1, h.2, h.3, h.4),
     )
 
 pub loop-k-preserved : goal.loop-k-preserved

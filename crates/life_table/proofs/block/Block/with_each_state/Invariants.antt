@@ -1,10 +1,6 @@
-use Rattle.std.proofs.Common.{◌≡◌, ℕ, ◌<◌, List}
-use Rattle.std.specs.Prelude.{Contains}
-use Rattle.std.specs.Int.{bit_at}
-use Rattle.life_table.specs.Index.{MayBeBehind}
-use Rattle.life_table.specs.Orders.{orders}
+use Rattle.life_table.specs.Index.{KeepsOrders}
 use Rattle.life_table.proofs.block.Block.with_each_state.Given as goal
 
 -- the lines that may fit an order stay
 abbrev pub invariant-loop-i : goal.invariant-loop-i
-invariant-loop-i l = (k : ℕ) (v : List ℕ) → k < 64 → Contains (orders l.others) v → MayBeBehind l.self v k → bit_at l.lines k ≡ 1 → bit_at l.rest k ≡ 1
+invariant-loop-i l = KeepsOrders l.self l.others l.lines l.rest
