@@ -601,7 +601,7 @@ has-places top u f high h v same rival = elim (reach 1 (length f.lines)) [
         apart = λ s t y z e. absurd (never s y);
       }
 ]
-
+  where
     root-line : (f : Macrocell) (t : Tree) → 1 ≤ length f.lines → IsNumbered f.lines (length f.lines) t → line_number f.lines (length f.lines) t
         ≡ length f.lines → root_tree f.lines ≡ t
     root-line f t l r e =

@@ -2,15 +2,15 @@
 use Rattle.std.proofs.Common.{◌≡◌, ℕ, ◌+◌, ◌*◌, ◌^◌, ◌<◌, ◌≤◌, false, cond, List, [], ◌∷◌, ◌++◌, refl, ap, sym, ◌∙◌, subst, arith, inl, inr, append_assoc, ℤ, pos, negsuc, neg_ℤ, ◌+ℤ◌, ◌≤ℤ◌, ◌<ℤ◌}
 use Rattle.std.specs.Prelude.{◌-ℤ◌, nat_abs}
 use Rattle.std.specs.List.{AllByRecursion}
-use Rattle.std.proofs.Math.Nat.{add-mul}
 use Rattle.std.proofs.lemmas.Int.{ints}
 use Rattle.life_base.specs.declared.cell.TheConstants.{MAX_LEVEL}
 use Rattle.life_base.specs.declared.cell.Run.{Run}
 use Rattle.life_base.specs.declared.rule.Rule.{Rule}
-use Rattle.life_base.specs.Tree.{Tree, depth}
+use Rattle.life_base.specs.Tree.{Tree}
 use Rattle.life_rle.specs.RunsLaw.{IsGoodRun, AreGoodRuns, StandsBefore, StandsBeforeAll, AreInOrder, has_cell, state_by as rle_state_by}
 use Rattle.life_strip.specs.Given.{half_plane, state_by, by_columns}
 use Rattle.life_strip.specs.Needed.{SomeSquare}
+use Rattle.life_strip.proofs.NeededLemmas.{SomeSquare-within}
 use Rattle.life_canon.specs.Needs.{SomeOfRuns}
 
 -- runs in later rows
@@ -52,24 +52,6 @@ above-row e z n j f l = omega (arith, ints, f, l)
 within-rows : (z : ℤ) (n h : ℕ) → z +ℤ pos h ≡ pos n → z <ℤ pos h → n ≤ 2 * h
 within-rows z n h f l = omega (arith, ints, f, l)
 
--- a square of rows of the plane is one of all rows, of any states that are the same above
-all-rows : {P : Tree → Type 0} {f g : ℕ → ℕ → ℕ} {rows more : ℕ} → rows ≤ more → ((i j : ℕ) → j < rows → f i j ≡ g i j) → SomeSquare P rows f
-    → SomeSquare P more g
-all-rows le e s =
-    record {
-      square = s.square;
-      full = s.full;
-      deep = s.deep;
-      column = s.column;
-      row = s.row;
-      east = s.east;
-      south = omega (arith, s.south, le);
-      cells = λ i j li lj. s.cells i j li lj
-          ∙ e (s.column * 2 ^ depth s.square + i) (s.row * 2 ^ depth s.square + j)
-          (let h = s.south in let one = add-mul s.row 1 (2 ^ depth s.square) in omega (arith, h, one, lj));
-      property = s.property;
-    }
-
 pub squares-of-runs : (P : Tree → Type 0) (rule : Rule) (runs more all : List Run) → all ≡ runs ++ more → AreGoodRuns MAX_LEVEL rule all → AreInOrder all
     → SomeOfRuns P runs → SomeSquare P (2 ^ MAX_LEVEL) (by_columns (rle_state_by all))
 squares-of-runs P rule runs more all e good order s =
@@ -80,8 +62,8 @@ squares-of-runs P rule runs more all e good order s =
     let few : rows.0 ≤ 2 * half_plane = within-rows s.run.y rows.0 half_plane rows.1 one.bottom in
     let at : nat_abs (s.run.y +ℤ pos half_plane) ≡ rows.0 = ap nat_abs rows.1 in
     let fits : nat_abs (s.run.y +ℤ pos half_plane) ≤ 2 ^ MAX_LEVEL = omega (arith, at, few) in
-    all-rows fits
-    (λ i j lj.
+    SomeSquare-within fits
+    (λ i j li lj.
     above-run s.before s.run (s.behind ++ more) (pos i -ℤ pos half_plane) (pos j -ℤ pos half_plane) ordered
     (above-row (pos half_plane) s.run.y rows.0 j rows.1 (omega (arith, lj, at)))
     ∙ ap (λ (l : List Run). rle_state_by l (pos i -ℤ pos half_plane) (pos j -ℤ pos half_plane)) (sym whole))
