@@ -139,32 +139,34 @@ one-more p low n c o = record { from = omega (arith, ints); to = omega (arith, i
 none-more : (p : ℤ → Bool) (low : ℤ) (n : ℕ) → p low ≡ false → NoneFrom p (low +ℤ pos 1) n → NoneFrom p low (suc n)
 none-more p low n e none x h k = elim (at-or-above low x h) [ inl here ↦ ap p here ∙ e | inr above ↦ none x above (omega (arith, ints)) ]
 
-first-of : (p : ℤ → Bool) (low : ℤ) (n : ℕ) → NoneFrom p low n ⊎ ((c : ℤ) × IsFirst p low n c)
-first-of p low zero = inl (λ x h k. absurd (omega (arith, ints)))
-first-of p low (suc n) = step (cases_Bool (p low)) (first-of p (low +ℤ pos 1) n)
-  where
-    step : (p low ≡ true) ⊎ (p low ≡ false) → NoneFrom p (low +ℤ pos 1) n ⊎ ((c : ℤ) × IsFirst p (low +ℤ pos 1) n c)
-        → NoneFrom p low (suc n) ⊎ ((c : ℤ) × IsFirst p low (suc n) c)
-    step (inl e) rest = inr (low, record { one = one-here p low n e; before = λ x h k. absurd (omega (arith, ints)) })
-    step (inr e) (inl none) = inl (none-more p low n e none)
-    step (inr e) (inr (c, f)) =
-        inr (
-          c,
-          record {
-            one = one-more p low n c f.one;
-            before = λ x h k. elim (at-or-above low x h) [ inl here ↦ ap p here ∙ e | inr above ↦ f.before x above k ];
-          },
-        )
+-- none of n numbers from low on passes the test, or one is such; and so it is with one number more in front
+abbrev Found : (ℤ → Bool) → (ℤ → ℕ → ℤ → Type 0) → ℤ → ℕ → Type 0
+Found p Is low n = NoneFrom p low n ⊎ ((c : ℤ) × Is low n c)
 
-last-of : (p : ℤ → Bool) (low : ℤ) (n : ℕ) → NoneFrom p low n ⊎ ((c : ℤ) × IsLast p low n c)
-last-of p low zero = inl (λ x h k. absurd (omega (arith, ints)))
-last-of p low (suc n) = step (cases_Bool (p low)) (last-of p (low +ℤ pos 1) n)
-  where
-    step : (p low ≡ true) ⊎ (p low ≡ false) → NoneFrom p (low +ℤ pos 1) n ⊎ ((c : ℤ) × IsLast p (low +ℤ pos 1) n c)
-        → NoneFrom p low (suc n) ⊎ ((c : ℤ) × IsLast p low (suc n) c)
-    step at (inr (c, f)) = inr (c, record { one = one-more p low n c f.one; behind = λ x h k. f.behind x h (omega (arith, ints)) })
-    step (inl e) (inl none) = inr (low, record { one = one-here p low n e; behind = λ x h k. none x (omega (arith, ints)) (omega (arith, ints)) })
-    step (inr e) (inl none) = inl (none-more p low n e none)
+abbrev Goes : (ℤ → Bool) → (ℤ → ℕ → ℤ → Type 0) → Type 0
+Goes p Is = (low : ℤ) (n : ℕ) → (p low ≡ true) ⊎ (p low ≡ false) → Found p Is (low +ℤ pos 1) n → Found p Is low (suc n)
+
+found-of : (p : ℤ → Bool) (Is : ℤ → ℕ → ℤ → Type 0) → Goes p Is → (low : ℤ) (n : ℕ) → Found p Is low n
+found-of p Is go low zero = inl (λ x h k. absurd (omega (arith, ints)))
+found-of p Is go low (suc n) = go low n (cases_Bool (p low)) (found-of p Is go (low +ℤ pos 1) n)
+
+first-goes : (p : ℤ → Bool) → Goes p (IsFirst p)
+first-goes p low n (inl e) rest = inr (low, record { one = one-here p low n e; before = λ x h k. absurd (omega (arith, ints)) })
+first-goes p low n (inr e) (inl none) = inl (none-more p low n e none)
+first-goes p low n (inr e) (inr (c, f)) =
+    inr (
+      c,
+      record {
+        one = one-more p low n c f.one;
+        before = λ x h k. elim (at-or-above low x h) [ inl here ↦ ap p here ∙ e | inr above ↦ f.before x above k ];
+      },
+    )
+
+last-goes : (p : ℤ → Bool) → Goes p (IsLast p)
+last-goes p low n at (inr (c, f)) = inr (c, record { one = one-more p low n c f.one; behind = λ x h k. f.behind x h (omega (arith, ints)) })
+last-goes p low n (inl e) (inl none) =
+    inr (low, record { one = one-here p low n e; behind = λ x h k. none x (omega (arith, ints)) (omega (arith, ints)) })
+last-goes p low n (inr e) (inl none) = inl (none-more p low n e none)
 
 -- where some number of them passes the test, there is one
 some-true : (q : ℤ → Bool) (low : ℤ) (n : ℕ) → some_from q low n ≡ true → (y : ℤ) × (q y ≡ true)
@@ -299,10 +301,10 @@ blank-by-columns top u outside none x y =
     ]
 
 box-or-blank : (top : ℕ) (u : Universe) → IsBlankOutside top u.cell
-    → NoneFrom (column_lives top u.cell) (corner top) (2 ^ top) ⊎ ((c : ℤ) × IsFirst (column_lives top u.cell) (corner top) (2 ^ top) c)
-    → NoneFrom (column_lives top u.cell) (corner top) (2 ^ top) ⊎ ((c : ℤ) × IsLast (column_lives top u.cell) (corner top) (2 ^ top) c)
-    → NoneFrom (row_lives top u.cell) (corner top) (2 ^ top) ⊎ ((c : ℤ) × IsFirst (row_lives top u.cell) (corner top) (2 ^ top) c)
-    → NoneFrom (row_lives top u.cell) (corner top) (2 ^ top) ⊎ ((c : ℤ) × IsLast (row_lives top u.cell) (corner top) (2 ^ top) c)
+    → Found (column_lives top u.cell) (IsFirst (column_lives top u.cell)) (corner top) (2 ^ top)
+    → Found (column_lives top u.cell) (IsLast (column_lives top u.cell)) (corner top) (2 ^ top)
+    → Found (row_lives top u.cell) (IsFirst (row_lives top u.cell)) (corner top) (2 ^ top)
+    → Found (row_lives top u.cell) (IsLast (row_lives top u.cell)) (corner top) (2 ^ top)
     → IsBlank u ⊎ HasBox u
 box-or-blank top u outside (inl none) second third fourth = inl (blank-by-columns top u outside none)
 box-or-blank top u outside (inr (l, first)) (inl none) third fourth = inl (blank-by-columns top u outside none)
@@ -319,8 +321,11 @@ box-or-blank top u outside (inr (l, first)) (inr (r, last)) (inr (t, upper)) (in
 -- a pattern of the plane is blank, or has a least box
 pub has-box : (top : ℕ) (u : Universe) → IsBlankOutside top u.cell → IsBlank u ⊎ HasBox u
 has-box top u outside =
-    box-or-blank top u outside (first-of _ (corner top) (2 ^ top)) (last-of _ (corner top) (2 ^ top)) (first-of _ (corner top) (2 ^ top))
-    (last-of _ (corner top) (2 ^ top))
+    let column = column_lives top u.cell in
+    let row = row_lives top u.cell in
+    box-or-blank top u outside (found-of column (IsFirst column) (first-goes column) (corner top) (2 ^ top))
+    (found-of column (IsLast column) (last-goes column) (corner top) (2 ^ top)) (found-of row (IsFirst row) (first-goes row) (corner top) (2 ^ top))
+    (found-of row (IsLast row) (last-goes row) (corner top) (2 ^ top))
 
 -- ---- places
 

@@ -85,21 +85,18 @@ counted-shifted true x d =
     let here = backwards-is x in
     omega (arith, ints)
 
+-- what takes the cells of the one image to those of the other is a shift
+shift-as : (t : Turn) (u v : Universe) → IsShift u v → (columns rows : ℤ)
+    → ((x y : ℤ) → (image t v).cell (x +ℤ columns) (y +ℤ rows) ≡ (image t u).cell x y) → IsShift (image t u) (image t v)
+shift-as t u v s columns rows cells = record { rule = s.rule; generation = s.generation; columns = columns; rows = rows; cells = cells }
+
 shifts-kept : (e c r : Bool) (u v : Universe) → IsShift u v → IsShift (image (turn_of e c r) u) (image (turn_of e c r) v)
-shifts-kept false c r u v s = record {
-  rule = s.rule;
-  generation = s.generation;
-  columns = signed c s.columns;
-  rows = signed r s.rows;
-  cells = λ x y. ap₂ v.cell (counted-shifted c x s.columns) (counted-shifted r y s.rows) ∙ s.cells (counted c x) (counted r y);
-}
-shifts-kept true c r u v s = record {
-  rule = s.rule;
-  generation = s.generation;
-  columns = signed r s.rows;
-  rows = signed c s.columns;
-  cells = λ x y. ap₂ v.cell (counted-shifted c y s.columns) (counted-shifted r x s.rows) ∙ s.cells (counted c y) (counted r x);
-}
+shifts-kept false c r u v s =
+    shift-as (turn_of false c r) u v s (signed c s.columns) (signed r s.rows)
+    (λ x y. ap₂ v.cell (counted-shifted c x s.columns) (counted-shifted r y s.rows) ∙ s.cells (counted c x) (counted r y))
+shifts-kept true c r u v s =
+    shift-as (turn_of true c r) u v s (signed r s.rows) (signed c s.columns)
+    (λ x y. ap₂ v.cell (counted-shifted c y s.columns) (counted-shifted r x s.rows) ∙ s.cells (counted c y) (counted r x))
 
 pub images-keep-shifts : ImagesKeepShifts
 images-keep-shifts t u v s = shifts-kept t.exchange t.columns t.rows u v s
