@@ -41,7 +41,7 @@ behind-new ks t = elim (bool_cases (is_in ks t)) [
   | inr e ↦ rw (with_new-fresh ks t e) (t ∷ [], refl)
 ]
 
-pub behind-all : (ks xs : List Tree) → Behind ks (with_all ks xs)
+behind-all : (ks xs : List Tree) → Behind ks (with_all ks xs)
 behind-all ks [] = behind-refl ks
 behind-all ks (x ∷ xs) = behind-trans ks (with_new ks x) _ (behind-new ks x) (behind-all (with_new ks x) xs)
 
@@ -99,7 +99,7 @@ module _ {A : Type 0} (took broke : A → A → List Line → Type 0) (rule : Ru
       v start all (q.0 ++ rest) more (u start all (p.0 ++ (q.0 ++ rest)) (front-more mid (with_all mid ws) (q.0 ++ rest) all p more) w)
 
   -- a line behind a call
-  pub takes-line : {c : A} (new : List Tree) (t : Tree) (line : Line) → new ≡ mid ++ t ∷ [] → TakesOn took rule a b old mid
+  takes-line : {c : A} (new : List Tree) (t : Tree) (line : Line) → new ≡ mid ++ t ∷ [] → TakesOn took rule a b old mid
       → TakesLine took b c line
       → ((all rest : List Tree) → all ≡ (mid ++ t ∷ []) ++ rest → line ≡ line_of rule all t) → TakesOn took rule a c old new
   takes-line {c = c} new t line n u v is = subst (TakesOn took rule a c old) (sym n) (λ start all rest e w.
@@ -107,7 +107,7 @@ module _ {A : Type 0} (took broke : A → A → List Line → Type 0) (rule : Ru
       (v start (map (line_of rule all) mid) (u start all (t ∷ rest) (e ∙ append_assoc mid (t ∷ []) rest) w)))
 
   -- a line that breaks behind a call
-  pub breaks-line : {c : A} (far : List Tree) → TakesOn took rule a b old mid → BreaksOff took broke b c → Behind mid far
+  breaks-line : {c : A} (far : List Tree) → TakesOn took rule a b old mid → BreaksOff took broke b c → Behind mid far
       → BreaksIn took broke rule a c old far
   breaks-line {c = c} far u v p = λ start all rest e w.
       let more = front-more mid far rest all p e in
@@ -216,15 +216,15 @@ quad-line rule t a b c d level na nb nc nd all all1 all2 all3 all4 whole rest e 
 
 -- ---- the two ways to end
 
-pub big : (rule : Rule) (t : Tree) (level : ℕ) → level ≡ depth t → (is_life rule ≡ true → 3 ≤ level) → (1 ≤ depth t) × (is_blank t ≡ false)
+big : (rule : Rule) (t : Tree) (level : ℕ) → level ≡ depth t → (is_life rule ≡ true → 3 ≤ level) → (1 ≤ depth t) × (is_blank t ≡ false)
     → is_small (least_level rule) t ≡ false
 big rule t level l high p = not_small (least_level rule) t (depth t) refl (large rule (depth t) (λ r. subst (λ n. 3 ≤ n) l (high r)) p.0) p.1
 
-pub leaf-level : (rule : Rule) (t : Tree) (level : ℕ) → level ≡ depth t → (is_life rule && level == 3) ≡ true → depth t ≡ least_level rule
+leaf-level : (rule : Rule) (t : Tree) (level : ℕ) → level ≡ depth t → (is_life rule && level == 3) ≡ true → depth t ≡ least_level rule
 leaf-level (Life sets) t level l h = grind (arith, nat_tests)
 leaf-level (Named name) t level l h = absurd (true_false false h refl)
 
-pub leaf-line : (rule : Rule) (t : Tree) (level : ℕ) (line : Line) (all : List Tree) → level ≡ depth t → (is_life rule && level == 3) ≡ true
+leaf-line : (rule : Rule) (t : Tree) (level : ℕ) (line : Line) (all : List Tree) → level ≡ depth t → (is_life rule && level == 3) ≡ true
     → line ≡ Leaf (rows_of t) → line ≡ line_of rule all t
 leaf-line rule t level line all l h e =
     let q : (is_life rule && depth t == 3) ≡ true = ap (λ n. is_life rule && n == 3) (sym l) ∙ h in
@@ -234,7 +234,7 @@ pub no-leaf : (rule : Rule) (t : Tree) (level : ℕ) → level ≡ depth t → (
 no-leaf rule t level l h = ap (λ n. is_life rule && n == 3) (sym l) ∙ h
 
 -- a square of the least level is added alone
-pub leaf-walk : (rule : Rule) (t : Tree) (all new : List Tree) → is_small (least_level rule) t ≡ false → IsFull t → depth t ≡ least_level rule
+leaf-walk : (rule : Rule) (t : Tree) (all new : List Tree) → is_small (least_level rule) t ≡ false → IsFull t → depth t ≡ least_level rule
     → is_in all t ≡ false
     → new ≡ all ++ t ∷ [] → new ≡ with_all all (walk t (least_level rule))
 leaf-walk rule t all new small full l absent e = least-step t (least_level rule) all new (least-one rule) small full l (e ∙ sym (with_new-fresh all t absent))
@@ -259,10 +259,10 @@ quad-walk rule t a b c d all all1 all2 all3 all4 new small e p1 p2 p3 p4 absent 
     step t a b c d (least_level rule) all all1 all2 all3 all4 new small e p1 p2 p3 p4 (n ∙ sym (with_new-fresh all4 t absent))
 
 module _ {K : Type 0} (content : K → Tree) (ids new : List K) (id : K) (added : new ≡ ids ++ id ∷ []) where
-  pub trees-more : map content new ≡ map content ids ++ content id ∷ []
+  trees-more : map content new ≡ map content ids ++ content id ∷ []
   trees-more = ap (map content) added ∙ map-append content ids (id ∷ [])
 
-  pub number-pushed : (n : ℕ) → n ≡ length new → (1 ≤ depth (content id)) × (is_blank (content id) ≡ false) → is_in (map content ids) (content id) ≡ false
+  number-pushed : (n : ℕ) → n ≡ length new → (1 ≤ depth (content id)) × (is_blank (content id) ≡ false) → is_in (map content ids) (content id) ≡ false
       → n ≡ number_of (map content new) (content id)
   number-pushed n e p absent =
       let long : length new ≡ length (map content ids) + 1 = sym (length-map new content) ∙ ap length trees-more
