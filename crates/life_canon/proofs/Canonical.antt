@@ -1,6 +1,6 @@
 -- The canonical file has the cells of its pattern, and depends on them alone.
-use Rattle.std.proofs.Common.{◌≡◌, ℕ, zero, suc, ◌+◌, ◌-◌, ◌^◌, ◌<◌, ◌≤◌, Bool, true, false, ◌&&◌, ◌||◌, List, [], ◌∷◌, ◌++◌, length, get_or, refl, ap, sym, ◌∙◌, subst, arith, inl, inr, ℤ, length-append, add-one}
-use Rattle.std.proofs.lemmas.Bool.Decides.{nat_tests}
+use Rattle.std.proofs.Common.{◌≡◌, ℕ, zero, suc, ◌+◌, ◌-◌, ◌^◌, ◌<◌, ◌≤◌, true, false, ◌&&◌, List, [], ◌∷◌, ◌++◌, length, get_or, refl, ap, sym, ◌∙◌, subst, arith, inl, inr, ℤ, length-append, add-one}
+use Rattle.std.proofs.lemmas.Bool.{or_left}
 use Rattle.std.proofs.lemmas.List.{get_or-map}
 use Rattle.std.proofs.Math.Seq.{get_or-append_seam}
 use Rattle.life_base.specs.Rules.{IsRule}
@@ -15,20 +15,17 @@ use Rattle.life_mc.specs.declared.line.Line.TheVariants.{Leaf, Quad}
 use Rattle.life_mc.proofs.Squares.{lines_stand_for_squares}
 use Rattle.life_quad.specs.Moves.{trimmed}
 use Rattle.life_canon.specs.Universe.{Universe, IsSame, macrocell_universe, least_level, square, corner, centred, whole, IsWithin, IsBlankOutside, IsOnPlane}
-use Rattle.life_canon.specs.Listing.{same_tree, is_small, walk, is_in, with_all, listed, place, number_of, line_of, lines_for, square_file, canonical_file}
+use Rattle.life_canon.specs.Listing.{is_small, walk, is_in, with_all, listed, place, number_of, line_of, lines_for, square_file, canonical_file}
 use Rattle.life_canon.proofs.TreeWords.{HasDepth, point_depth, quad_depth, StatesBelow, is_within, trimmed_to}
 use Rattle.life_canon.proofs.LineWords.{state_bound, line_at, IsValidLine}
-use Rattle.life_canon.proofs.LineFacts.{squares-valid, valid-squares, root_level-last}
-use Rattle.life_canon.proofs.Trees.{bool_cases, true_false, and_left, and_right, and_both, depth_is, same_tree-refl, is_within-true, is_within-is, centred-depth, trimmed-centred, square-same, square-blank, centred_same-cells, is_blank-blank, centred-trimmed}
-use Rattle.life_canon.proofs.ListFacts.{with_new-fresh, with_all-from}
+use Rattle.life_canon.proofs.LineFacts.{less_one, squares-valid, valid-squares, root_level-last}
+use Rattle.life_canon.proofs.Trees.{bool_cases, true_false, and_left, and_right, and_both, depth_is, is_within-true, is_within-is, centred-depth, trimmed-centred, square-same, square-blank, centred_same-cells, is_blank-blank, centred-trimmed}
+use Rattle.life_canon.proofs.ListFacts.{place-last, with_new-fresh, with_all-from}
 use Rattle.life_canon.proofs.Walk.{listed-itself, listed-quarters, walk-level, walk-small, with_walk}
-use Rattle.life_canon.proofs.Content.{tree_of-number, lines_for-valid, least-one, length-lines_for, level-line_of, number-place, not_small}
+use Rattle.life_canon.proofs.Content.{tree_of-number, lines_for-valid, least-one, length-lines_for, level-line_of, number-place, not_small, point-big}
 use Rattle.life_canon.proofs.Planes.{full-depth, states-below, trimmed-is, centred-tree_cell, tree_cell-outside, below-upto}
 
 -- ---- a square stands last in its list
-
-point-not_big : (m s : ℕ) → 1 ≤ m → is_small m (point s) ≡ false → ⊥
-point-not_big m s le h = grind (arith, nat_tests)
 
 -- a part of a smaller square is another square
 deeper : (m : ℕ) {k : ℕ} {t : Tree} (s : Tree) → HasDepth k t → HasDepth (suc k) s → is_in (walk t m) s ≡ true → ⊥
@@ -44,7 +41,7 @@ pub record IsLast (all : List Tree) (t : Tree) : Type 0 where
 
 pub listed-last : (m : ℕ) {k : ℕ} {t : Tree} → 1 ≤ m → HasDepth k t → is_small m t ≡ false → IsLast (listed t m) t
 unfolding listed
-listed-last m le (point_depth {state = s}) h = absurd (point-not_big m s le h)
+listed-last m le (point_depth {state = s}) h = absurd (point-big m s le h)
 listed-last m le (quad_depth {k = k} {nw = a} {ne = b} {sw = c} {se = d} p q r s) h =
     let la : List Tree = with_all [] (walk a m) in
     let lb : List Tree = with_all la (walk b m) in
@@ -70,17 +67,6 @@ listed-last m le (quad_depth {k = k} {nw = a} {ne = b} {sw = c} {se = d} p q r s
     ] in
     record { front = ld; is = with_walk [] a b c d m h ∙ with_new-fresh ld t fresh; fresh = fresh }
 
-or_parts : (a b : Bool) → (a || b) ≡ false → (a ≡ false) × (b ≡ false)
-or_parts true b h = absurd (true_false true refl h)
-or_parts false b h = (refl, h)
-
-same_itself : (t : Tree) → same_tree t t ≡ true
-same_itself t = same_tree-refl t
-
-place-last : (front : List Tree) (t : Tree) → is_in front t ≡ false → place (front ++ t ∷ []) t ≡ length front
-place-last [] t h = rw (same_itself t) refl
-place-last (x ∷ xs) t h = let p = or_parts (same_tree x t) (is_in xs t) h in rw p.0 (ap suc (place-last xs t p.1))
-
 -- ---- the cells of a valid macrocell file
 
 -- what holds of the root of a file with node lines
@@ -100,9 +86,6 @@ pub level-most : (top : ℕ) (rule : Rule) (lines : List Line) (i : ℕ) (line :
 level-most top rule lines i (Leaf rows) h v = h
 level-most top rule lines i (Quad level a b c d) h v = v.1
 
-one_less : (n : ℕ) → 1 ≤ n → n ≡ suc (n - 1)
-one_less n h = omega arith
-
 last-valid : (top : ℕ) (file : Macrocell) → IsValid top file → 0 < length file.lines → IsValidLine top file.rule file.lines (length file.lines - 1)
     (line_at file.lines (length file.lines - 1))
 last-valid top file v h = squares-valid top file.rule file.lines v.squares (length file.lines - 1) (omega arith)
@@ -117,7 +100,7 @@ pub rooted : (top : ℕ) (file : Macrocell) → IsValid top file → 0 < length 
 unfolding centred
 rooted top file v h =
     let s = lines_stand_for_squares top file v in
-    let e : root_level file.lines ≡ suc (root_level file.lines - 1) = one_less _ (root-positive top file v h) in
+    let e : root_level file.lines ≡ suc (root_level file.lines - 1) = omega (arith, root-positive top file v h) in
     let k : ℕ = root_level file.lines - 1 in
     let t : Tree = root_tree file.lines in
     let d : HasDepth (suc k) t = subst (λ n. HasDepth n t) (s.root.depth_is ∙ e) (full-depth t s.root.full) in
@@ -219,21 +202,15 @@ pub nowhere-zero : (x y : ℤ) → nowhere x y ≡ 0
 unfolding nowhere
 nowhere-zero x y = refl
 
-or_first : (a b : Bool) → a ≡ true → (a || b) ≡ true
-or_first a b h = grind arith
-
 pub listed-blank : (t : Tree) (m : ℕ) → is_blank t ≡ true → listed t m ≡ []
 unfolding listed
-listed-blank t m h = ap (with_all []) (walk-small t m (or_first _ _ h))
+listed-blank t m h = ap (with_all []) (walk-small t m (or_left _ _ h))
 
 -- the last line of a list of squares, and what its number stands for
 number-last : (all : List Tree) {k : ℕ} {t : Tree} → HasDepth (suc k) t → is_blank t ≡ false → IsLast all t → number_of all t ≡ length all
 number-last all (quad_depth {nw = a} {ne = b} {sw = c} {se = d} p q r s) h l =
     number-place all a b c d h ∙ ap suc (ap (λ v. place v (quad a b c d)) l.is ∙ place-last l.front (quad a b c d) l.fresh)
     ∙ sym (ap length l.is ∙ length-append l.front (quad a b c d ∷ []) ∙ add-one (length l.front))
-
-less_one : (n : ℕ) → suc n - 1 ≡ n
-less_one n = omega arith
 
 root_level-of : (rule : Rule) (all : List Tree) (t : Tree) → IsLast all t → root_level (lines_for rule all) ≡ depth t
 root_level-of rule all t l =
@@ -289,15 +266,12 @@ canonical-cells top u le h x y =
           let r = square_file-root u.rule u.generation w.least w.depth_of w.states b in
           let v : IsValid (suc top) file = square_file-valid (suc top) u.rule u.generation t h.rule h.generation w.most w.depth_of w.states in
           let s = rooted (suc top) file v r.some in
-          let l : s.level ≡ w.level = suc_same s.level w.level (sym s.is ∙ r.level) in
+          let l : s.level ≡ w.level = let e : suc s.level ≡ suc w.level = sym s.is ∙ r.level in omega arith in
           let c : centred (macrocell_cell file) (suc w.level) ≡ t = subst (λ z. centred (macrocell_cell file) (suc z) ≡ root_tree file.lines) l s.cells
           ∙ r.root in
           let o : IsBlankOutside (suc w.level) (macrocell_cell file) = subst (λ z. IsBlankOutside (suc z) (macrocell_cell file)) l s.outside in
           same-cells u.cell (macrocell_cell file) (suc w.level) (sym w.is ∙ sym c) w.outside o x y
     ]
-  where
-    suc_same : (m n : ℕ) → suc m ≡ suc n → m ≡ n
-    suc_same m n e = omega arith
 
 -- a pattern and its canonical file are the same
 pub canonical-same : (top : ℕ) (u : Universe) → least_level u.rule ≤ suc top → IsOnPlane (suc top) u

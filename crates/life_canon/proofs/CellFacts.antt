@@ -17,7 +17,7 @@ use Rattle.life_rle.specs.States.{is_state_of}
 use Rattle.life_canon.specs.Texts.{AreCellsOf}
 use Rattle.life_canon.specs.Universe.{Universe, corner, IsWithin, IsBlankOutside, IsOnPlane}
 use Rattle.life_canon.proofs.TreeWords.{is_within}
-use Rattle.life_canon.proofs.Trees.{and_both, and_left, and_right, bool_cases, true_false, is_within-true, is_within-is}
+use Rattle.life_canon.proofs.Trees.{and_both, and_left, and_right, bool_cases, true_false, is_within-true, is_within-is, pow_suc}
 
 -- the list of a square's cells is that of a function with the same cells
 pub cells-of : (f : ℤ → ℤ → ℕ) (t : Tree) (cells : List Cell) → ((x y : ℤ) → f x y ≡ tree_cell t x y) → IsCellList t cells → AreCellsOf f cells
@@ -56,17 +56,11 @@ inside f k x y out some = by (bool_cases (is_within k x)) (bool_cases (is_within
 coordinate-of : (n : ℕ) (x : ℤ) → neg_ℤ (pos n) ≤ℤ x → x <ℤ (neg_ℤ (pos n) +ℤ pos (n + n)) → (int_le (neg_ℤ (pos n)) x && int_lt x (pos n)) ≡ true
 coordinate-of n x low high = grind (arith, ints)
 
-less_one : (k : ℕ) → suc k - 1 ≡ k
-less_one k = omega arith
-
-twice : (k : ℕ) → 2 ^ suc k ≡ 2 ^ k + 2 ^ k
-twice k = omega arith
-
 coordinate : (top : ℕ) (x : ℤ) → IsWithin (suc top) x → is_coordinate (suc top) x ≡ true
 unfolding corner
 coordinate top x h =
-    rw (less_one top)
-    (coordinate-of (2 ^ top) x h.0 (subst (λ n. x <ℤ (neg_ℤ (pos (2 ^ top)) +ℤ pos n)) (twice top) h.1))
+    let one : suc top - 1 ≡ top = omega arith in
+    rw one (coordinate-of (2 ^ top) x h.0 (subst (λ n. x <ℤ (neg_ℤ (pos (2 ^ top)) +ℤ pos n)) (pow_suc top) h.1))
 
 state-of : (rule : Rule) (state : ℕ) → state ≢ 0 → state ≤ largest_state rule → (nat_lt 0 state && is_state_of rule state) ≡ true
 state-of (Life sets) state some h = grind (arith, nat_tests)

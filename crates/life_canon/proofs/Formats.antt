@@ -30,12 +30,11 @@ use Rattle.life_canon.specs.Universe.{Universe, macrocell_universe, rle_universe
 use Rattle.life_canon.specs.Files.{Says, as_macrocell, as_rle, Reads, is_macrocell}
 use Rattle.life_canon.specs.Laws.{FormatsDiffer, FilesAreUnique}
 use Rattle.life_canon.proofs.LineWords.{state_bound}
-use Rattle.life_canon.proofs.Trees.{true_false}
 use Rattle.life_canon.proofs.Canonical.{rooted, root-most, no-lines}
 use Rattle.life_canon.proofs.Least.{reach, sum_back}
 use Rattle.life_canon.proofs.Planes.{tree_cell-below, states-below, upto-below}
 use Rattle.life_mc.proofs.Squares.{lines_stand_for_squares}
-use Rattle.life_canon.proofs.Trees.{outside-by}
+use Rattle.life_canon.proofs.Trees.{true_false, outside-by, pow_suc}
 
 -- ---- the two formats differ by their first line
 
@@ -135,12 +134,6 @@ outside-of : (n : ℕ) (x y : ℤ)
     → (x <ℤ neg_ℤ (pos n)) ⊎ (pos n ≤ℤ x) ⊎ (y <ℤ neg_ℤ (pos n)) ⊎ (pos n ≤ℤ y)
 outside-of n x y h = grind (arith, ints)
 
-pow_suc : (k : ℕ) → 2 ^ suc k ≡ 2 ^ k + 2 ^ k
-pow_suc k = omega arith
-
-one_less : (k : ℕ) → suc k - 1 ≡ k
-one_less k = omega arith
-
 rle-outside : (top : ℕ) (lines : List (List ℕ)) (file : Rle) → IsRle (suc top) lines file → IsBlankOutside (suc top) (rle_cell file)
 unfolding corner
 rle-outside top lines file r x y n =
@@ -149,8 +142,9 @@ rle-outside top lines file r x y n =
     subst (λ v. ¬ (((neg_ℤ (pos (2 ^ top)) ≤ℤ x) × (x <ℤ (neg_ℤ (pos (2 ^ top)) +ℤ pos v)))
     × ((neg_ℤ (pos (2 ^ top)) ≤ℤ y) × (y <ℤ (neg_ℤ (pos (2 ^ top)) +ℤ pos v))))) (pow_suc top) n in
     let o = outside-of (2 ^ top) x y h in
+    let one : top ≡ suc top - 1 = omega arith in
     blank_outside (suc top) lines file x y r
-    (subst (λ k. (x <ℤ neg_ℤ (pos (2 ^ k))) ⊎ (pos (2 ^ k) ≤ℤ x) ⊎ (y <ℤ neg_ℤ (pos (2 ^ k))) ⊎ (pos (2 ^ k) ≤ℤ y)) (sym (one_less top)) o)
+    (subst (λ k. (x <ℤ neg_ℤ (pos (2 ^ k))) ⊎ (pos (2 ^ k) ≤ℤ x) ⊎ (y <ℤ neg_ℤ (pos (2 ^ k))) ⊎ (pos (2 ^ k) ≤ℤ y)) one o)
 
 rle-on_plane : (top : ℕ) (lines : List (List ℕ)) (file : Rle) → IsRle (suc top) lines file → IsOnPlane (suc top) (rle_universe file)
 rle-on_plane top lines file r =

@@ -42,15 +42,18 @@ module _ (rule : Rule) (generation : ℕ) (lines : List Line) (square : Line)
         (good.squares k line (get-first lines (square ∷ []) k line e));
   }
 
-  -- the line itself is a square behind them
-  pub last-square : IsSquare MAX_LEVEL rule (map level_of lines) square
-  last-square =
-      subst (λ (ls : List Line). IsSquare MAX_LEVEL rule (map level_of ls) square) (take-append_seam lines (square ∷ []))
-      (good.squares (length lines) square (at lines))
+  last-here : slice_get (lines ++ square ∷ []) (length lines) ≡ Some square
+  last-here = at lines
     where
       at : (ls : List Line) → slice_get (ls ++ square ∷ []) (length ls) ≡ Some square
       at [] = refl
       at (l ∷ ls) = at ls
+
+  -- the line itself is a square behind them
+  pub last-square : IsSquare MAX_LEVEL rule (map level_of lines) square
+  last-square =
+      subst (λ (ls : List Line). IsSquare MAX_LEVEL rule (map level_of ls) square) (take-append_seam lines (square ∷ []))
+      (good.squares (length lines) square last-here)
 
   -- the squares of the first lines stay
   tree-stays : (i level : ℕ) (line : Line) → slice_get lines i ≡ Some line → level_of line ≡ level → tree_of (lines ++ square ∷ []) level (suc i)
@@ -90,13 +93,6 @@ module _ (rule : Rule) (generation : ℕ) (lines : List Line) (square : Line)
   line-valid =
       square-valid MAX_LEVEL rule lines (length lines) square (omega arith)
       (subst (λ (ls : List Line). IsSquare MAX_LEVEL rule (map level_of ls) square) (sym (take-length lines)) last-square)
-
-  last-here : slice_get (lines ++ square ∷ []) (length lines) ≡ Some square
-  last-here = at lines
-    where
-      at : (ls : List Line) → slice_get (ls ++ square ∷ []) (length ls) ≡ Some square
-      at [] = refl
-      at (l ∷ ls) = at ls
 
   last-stands : StandsForSquare rule (lines ++ square ∷ []) (level_of square) (suc (length lines))
   last-stands = (lines_stand_for_squares MAX_LEVEL _ good).each (suc (length lines)) square last-here

@@ -1,6 +1,7 @@
 -- The canonical file has no more node lines than any macrocell file of its pattern: each of its squares has a line of that file.
-use Rattle.std.proofs.Common.{◌≡◌, ℕ, zero, suc, ◌+◌, ◌-◌, ◌<◌, ◌≤◌, Bool, true, false, ◌&&◌, ◌||◌, List, [], ◌∷◌, ◌++◌, length, refl, ap, sym, ◌∙◌, subst, arith, ◌⊎◌, inl, inr, length-append}
+use Rattle.std.proofs.Common.{◌≡◌, ℕ, zero, suc, ◌+◌, ◌-◌, ◌<◌, ◌≤◌, Bool, true, false, ◌&&◌, List, [], ◌∷◌, ◌++◌, length, refl, ap, sym, ◌∙◌, subst, arith, ◌⊎◌, inl, inr, length-append}
 use Rattle.std.specs.Prelude.{nat_lt, if◌then◌else◌, Some}
+use Rattle.std.proofs.lemmas.Bool.{or_cases, or_left, or_right}
 use Rattle.std.proofs.lemmas.Bool.Decides.{nat_tests}
 use Rattle.life_base.specs.Tree.{Tree, quad, depth, blank, is_blank_tree as is_blank}
 use Rattle.life_base.specs.declared.rule.Rule.{Rule}
@@ -16,9 +17,9 @@ use Rattle.life_canon.specs.Listing.{same_tree, is_small, walk, is_in, with_all,
 use Rattle.life_canon.specs.Least.{IsRival, IsLineOf, HasPlaces}
 use Rattle.life_canon.proofs.TreeWords.{HasDepth, point_depth, quad_depth, has_blank_border, middle, trim_times, trimmed_to as trimmed}
 use Rattle.life_canon.proofs.LineWords.{line_at, IsQuarter, IsValidLine}
-use Rattle.life_canon.proofs.LineFacts.{tree_of-line, get-line_at, squares-valid, root_level-last}
+use Rattle.life_canon.proofs.LineFacts.{tree_of-line, get-line_at, less_one, squares-valid, root_level-last}
 use Rattle.life_canon.proofs.Trees.{centred-trimmed, centred-depth, outside-by, square-same, trim_times-once, trim_times-stop, blank-blank, blank-depth, bool_cases, true_false, depth_is, same_tree-refl, same_tree-true}
-use Rattle.life_canon.proofs.ListFacts.{is_in-left, is_in-right, is_in-append_cases, is_in-one, NoRepeats, no_longer, or_cases}
+use Rattle.life_canon.proofs.ListFacts.{is_in-left, is_in-right, is_in-append_cases, is_in-one, NoRepeats, no_longer}
 use Rattle.life_canon.proofs.Walk.{listed-walk, listed-once, walk-small, walk-big, walk-level, walk-cases, WalkCase, root_case, nw_case, ne_case, sw_case, se_case}
 use Rattle.life_canon.proofs.Content.{not_small, least-one, length-lines_for}
 use Rattle.life_canon.proofs.Planes.{full-depth}
@@ -38,12 +39,6 @@ unfolding line_squares
 line_squares-length lines zero = refl
 line_squares-length lines (suc n) = ap suc (line_squares-length lines n)
 
-first_or : (a b : Bool) → a ≡ true → (a || b) ≡ true
-first_or a b h = grind arith
-
-second_or : (a b : Bool) → b ≡ true → (a || b) ≡ true
-second_or a b h = grind arith
-
 below_cases : (i n : ℕ) → i < suc n → (i < n) ⊎ (i ≡ n)
 below_cases i n h = grind (arith, nat_tests)
 
@@ -51,20 +46,20 @@ line_squares-has : (lines : List Line) (n i : ℕ) → i < n → is_in (line_squ
 unfolding line_squares
 line_squares-has lines zero i h = absurd (omega arith)
 line_squares-has lines (suc n) i h = elim (below_cases i n h) [
-  | inl l ↦ second_or (same_tree (line_square lines n) (line_square lines i)) _ (line_squares-has lines n i l)
-  | inr e ↦ first_or _ _ (subst (λ v. same_tree (line_square lines n) (line_square lines v) ≡ true) (sym e) (same_tree-refl (line_square lines n)))
+  | inl l ↦ or_right (same_tree (line_square lines n) (line_square lines i)) _ (line_squares-has lines n i l)
+  | inr e ↦ or_left _ _ (subst (λ v. same_tree (line_square lines n) (line_square lines v) ≡ true) (sym e) (same_tree-refl (line_square lines n)))
 ]
 
 line_squares-more : (lines : List Line) (n j : ℕ) (t : Tree) → j ≤ n → is_in (line_squares lines j) t ≡ true → is_in (line_squares lines n) t ≡ true
 unfolding line_squares
 line_squares-more lines zero j t h i = let e : j ≡ 0 = omega arith in subst (λ v. is_in (line_squares lines v) t ≡ true) e i
 line_squares-more lines (suc n) j t h i = elim (below_cases j (suc n) (omega arith)) [
-  | inl l ↦ second_or (same_tree (line_square lines n) t) _ (line_squares-more lines n j t (omega arith) i)
+  | inl l ↦ or_right (same_tree (line_square lines n) t) _ (line_squares-more lines n j t (omega arith) i)
   | inr e ↦ subst (λ v. is_in (line_squares lines v) t ≡ true) e i
 ]
 
 shallow-small : (m k : ℕ) (t : Tree) → HasDepth k t → k < m → is_small m t ≡ true
-shallow-small m k t h l = let e : depth t ≡ k = depth_is h in let c : nat_lt (depth t) m ≡ true = grind (arith, nat_tests) in second_or (is_blank t) _ c
+shallow-small m k t h l = let e : depth t ≡ k = depth_is h in let c : nat_lt (depth t) m ≡ true = grind (arith, nat_tests) in or_right (is_blank t) _ c
 
 shallow-none : (m k : ℕ) (t s : Tree) → HasDepth k t → k < m → is_in (walk t m) s ≡ true → ⊥
 shallow-none m k t s h l i = true_false false (rw (walk-small t m (shallow-small m k t h l)) at i) refl
@@ -83,9 +78,6 @@ least-walk m s (quad_depth {k = k} {nw = a} {ne = b} {sw = c} {se = d} p q r u) 
 -- no line is a leaf
 abbrev pub NoLeaves : List Line → Type 0
 NoLeaves lines = (i : ℕ) → i < length lines → (rows : List ℕ) → ¬ (line_at lines i ≡ Leaf rows)
-
-less_one : (n : ℕ) → suc n - 1 ≡ n
-less_one n = omega arith
 
 -- the walk over a line's square meets squares of lines alone
 walk-line : (m : ℕ) (f : Macrocell) (k j : ℕ) (line : Line) → ((rows : List ℕ) → line ≡ Leaf rows → 3 ≤ m)
@@ -134,7 +126,7 @@ walk-lines : (top m : ℕ) (f : Macrocell) → IsValid top f → (3 ≤ m) ⊎ N
     → (t : Tree) → is_in (walk (tree_of f.lines k number) m) t ≡ true → is_in (line_squares f.lines i) t ≡ true
 walk-lines top m f v leaves zero i number l q t h = absurd (true_false false h refl)
 walk-lines top m f v leaves (suc k) i zero l q t h = absurd
-    (true_false false (rw (walk-small (blank (suc k)) m (first_or _ _ (blank-blank (suc k)))) at h) refl)
+    (true_false false (rw (walk-small (blank (suc k)) m (or_left _ _ (blank-blank (suc k)))) at h) refl)
 walk-lines top m f v leaves (suc k) i (suc j) l q t h = elim q [
   | inl e ↦ absurd (omega arith)
   | inr c ↦
@@ -523,7 +515,7 @@ apart-low f w m some le h = record {
   others = λ t z n. absurd (never t z n);
   no_root = λ t z n e. absurd (never t z n);
   few = at_most (no_longer (listed w m) (w ∷ []) (listed-once w m)
-      (λ t z. subst (λ y. is_in (w ∷ []) y ≡ true) (sym (low-list m le h t z)) (first_or _ _ (same_tree-refl w))));
+      (λ t z. subst (λ y. is_in (w ∷ []) y ≡ true) (sym (low-list m le h t z)) (or_left _ _ (same_tree-refl w))));
 }
   where
     never : (t : Tree) → is_in (listed w m) t ≡ true → same_tree t w ≡ false → ⊥
@@ -591,7 +583,8 @@ has-places top u f high h v same rival = elim (reach 1 (length f.lines)) [
             | inr q ↦
                 let a = numbered f.lines n s (ap_.others s y p) in
                 let b = numbered f.lines n t (ap_.others t z q) in
-                let i : a.index ≡ b.index = suc_same _ _ (sym a.is ∙ sym (place_for-own f w s p) ∙ e ∙ place_for-own f w t q ∙ b.is) in
+                let next : suc a.index ≡ suc b.index = sym a.is ∙ sym (place_for-own f w s p) ∙ e ∙ place_for-own f w t q ∙ b.is in
+                let i : a.index ≡ b.index = omega arith in
                 sym a.square ∙ ap (line_square f.lines) i ∙ b.square
           ]
         ];
@@ -609,9 +602,6 @@ has-places top u f high h v same rival = elim (reach 1 (length f.lines)) [
       }
 ]
   where
-    suc_same : (m n : ℕ) → suc m ≡ suc n → m ≡ n
-    suc_same m n e = omega arith
-
     root-line : (f : Macrocell) (t : Tree) → 1 ≤ length f.lines → IsNumbered f.lines (length f.lines) t → line_number f.lines (length f.lines) t
         ≡ length f.lines → root_tree f.lines ≡ t
     root-line f t l r e =

@@ -46,4 +46,5 @@ mod RoomNodes
 mod RoomLaw
 mod RoomCount
 mod Adding
+pub mod Spots
 mod Rows

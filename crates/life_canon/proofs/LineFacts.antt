@@ -45,7 +45,7 @@ take-level [] (suc i) j level h l e = absurd (omega arith)
 take-level (line ∷ lines) (suc i) zero level h l e = grind (arith, nat_tests)
 take-level (line ∷ lines) (suc i) (suc j) level h l e = take-level lines i j level (omega arith) (omega arith) e
 
-less_one : (j : ℕ) → suc j - 1 ≡ j
+pub less_one : (j : ℕ) → suc j - 1 ≡ j
 less_one j = omega arith
 
 no_zero : (j : ℕ) → (suc j == 0) ≡ false

@@ -65,16 +65,13 @@ grown-centred f (suc n) k t e o =
 
 -- ---- the root of a pattern
 
-one-more : (n : ℕ) → 1 ≤ n → n ≡ suc (n - 1)
-one-more n h = omega arith
-
 -- it is grown
 pub root-grown : (P : Tree → Type 0) (u : Universe) (t : Tree) → IsFull t → 1 ≤ depth t → ((x y : ℤ) → tree_cell t x y ≡ u.cell x y)
     → SomeGrown P t (least_level u.rule)
     → SomeRoot MAX_LEVEL P u (depth t)
 root-grown P u t full h cells s =
     let k : ℕ = depth t - 1 in
-    let d : depth t ≡ suc k = one-more (depth t) h in
+    let d : depth t ≡ suc k = omega arith in
     let c = is-centred u.cell t k full d cells in
     let e : grown_times (suc s.more) t ≡ centred u.cell (suc (suc s.more + k)) = grown-centred u.cell (suc s.more) k t c.0 c.1 in
     grown_root (suc (suc s.more + k)) (omega (arith, d)) (omega (arith, d, s.low)) (subst (SomePart P) e s.part)

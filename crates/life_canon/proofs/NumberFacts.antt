@@ -46,16 +46,13 @@ whole-of top rule generation {k = k} {root = root} h low le fixed =
     ∙ ap (λ t. trimmed_to t m) (centred-tree_cell h)
     ∙ sym (trimmed-is m h (least-one rule)) ∙ fixed
 
-one-more : (n : ℕ) → 1 ≤ n → n ≡ suc (n - 1)
-one-more n h = omega arith
-
 -- the canonical file of what the root says
 pub file-of : (top : ℕ) (rule : Rule) (generation : ℕ) (root : Tree) → IsFull root → depth root ≤ suc top → least_level rule ≤ depth root
     → trimmed root (least_level rule) ≡ root
     → canonical_file (suc top) (square_universe rule generation root) ≡ square_file rule generation root
 unfolding canonical_file
 file-of top rule generation root full low le fixed =
-    let d : depth root ≡ suc (depth root - 1) = one-more (depth root) (omega (arith, least-one rule)) in
+    let d : depth root ≡ suc (depth root - 1) = omega (arith, least-one rule) in
     let h : HasDepth (suc (depth root - 1)) root = subst (λ n. HasDepth n root) d (full-depth root full) in
     ap (square_file rule generation) (whole-of top rule generation h (subst (λ n. n ≤ suc top) d low) (subst (λ n. least_level rule ≤ n) d le) fixed)
 
@@ -68,7 +65,7 @@ pub root-least : (top : ℕ) (rule : Rule) (generation : ℕ) (root : Tree) → 
     → trimmed root (least_level rule) ≡ root → IsLeast (suc top) (square_universe rule generation root) (node_lines (square_file rule generation root))
 unfolding canonical_file
 root-least top rule generation root high full states low le fixed = λ bytes file says same rival.
-    let d : depth root ≡ suc (depth root - 1) = one-more (depth root) (omega (arith, least-one rule)) in
+    let d : depth root ≡ suc (depth root - 1) = omega (arith, least-one rule) in
     let h : HasDepth (suc (depth root - 1)) root = subst (λ n. HasDepth n root) d (full-depth root full) in
     let v = files_are_valid (suc top) bytes file says in
     let R : Rule → Type 0 = λ r. IsRule r in

@@ -41,9 +41,6 @@ use Rattle.life_canon.proofs.Trees.{centred-trimmed}
 
 -- ---- the root of a pattern
 
-one-more : (n : ℕ) → 1 ≤ n → n ≡ suc (n - 1)
-one-more n h = omega arith
-
 -- a square with the cells of a pattern, trimmed, is the whole of the pattern
 pub trimmed-whole : (top : ℕ) (u : Universe) (t : Tree) → IsFull t → depth t ≤ suc top → least_level u.rule ≤ depth t
     → ((x y : ℤ) → tree_cell t x y ≡ u.cell x y)
@@ -51,7 +48,7 @@ pub trimmed-whole : (top : ℕ) (u : Universe) (t : Tree) → IsFull t → depth
 trimmed-whole top u t full low le cells =
     let m = least_level u.rule in
     let k : ℕ = depth t - 1 in
-    let d : depth t ≡ suc k = one-more (depth t) (omega (arith, least-one u.rule)) in
+    let d : depth t ≡ suc k = omega (arith, least-one u.rule) in
     let h : HasDepth (suc k) t = subst (λ (n : ℕ). HasDepth n t) d (full-depth t full) in
     let high : m ≤ suc k = subst (λ (n : ℕ). m ≤ n) d le in
     let n : suc top ≡ suc ((top - k) + k) = omega (arith, d, low) in

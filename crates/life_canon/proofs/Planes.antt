@@ -10,7 +10,7 @@ use Rattle.life_mc.specs.Squares.{HasStatesUpTo}
 use Rattle.life_quad.specs.Moves.{trim_up_to, can_trim, outer, inner, trimmed}
 use Rattle.life_canon.specs.Universe.{corner, centred, IsBlankOutside}
 use Rattle.life_canon.proofs.TreeWords.{HasDepth, point_depth, quad_depth, StatesBelow, middle, has_blank_border, trim_times, trimmed_to}
-use Rattle.life_canon.proofs.Trees.{depth_is, trees_equal, centred-depth, state_at-centred, bool_cases, and_left, and_right}
+use Rattle.life_canon.proofs.Trees.{depth_is, trees_equal, centred-depth, state_at-centred, trim_times-once, trim_times-stop, pow_suc, bool_cases, and_left, and_right}
 
 -- ---- full squares
 
@@ -80,13 +80,6 @@ stop (suc n) t m h = rw h refl
 pub go : (n : ℕ) (t : Tree) (m : ℕ) → can_trim t m ≡ true → trim_up_to (suc n) t m ≡ trim_up_to n (inner t) m
 go n t m h = rw h refl
 
-times-stop : (n : ℕ) (t : Tree) → has_blank_border t ≡ false → trim_times n t ≡ t
-times-stop zero t h = refl
-times-stop (suc n) t h = rw h refl
-
-times-go : (n : ℕ) (t : Tree) → has_blank_border t ≡ true → trim_times (suc n) t ≡ trim_times n (middle t)
-times-go n t h = rw h refl
-
 -- enough steps with the test of the level are as many as the levels above the least one
 steps-same : (m : ℕ) → 1 ≤ m → (k n : ℕ) (t : Tree) → HasDepth k t → k ≤ n → trim_up_to n t m ≡ trim_times (k - m) t
 steps-same m le zero n t h l = stop n t m (can-not t m (subst (λ d. d ≤ m) (sym (depth_is h)) (omega arith)))
@@ -109,8 +102,8 @@ steps-same m le (suc (suc k)) (suc n) t h l = elim (reach m (suc (suc k))) [
       elim (bool_cases (has_blank_border t)) [
         | inl b ↦
             go n t m (test ∙ b) ∙ ap (λ u. trim_up_to n u m) two.inner_is ∙ steps-same m le (suc k) n (middle t) two.inner_depth (omega arith)
-            ∙ sym (times-go (suc k - m) t b) ∙ sym (ap (λ d. trim_times d t) count)
-        | inr b ↦ stop (suc n) t m (test ∙ b) ∙ sym (times-stop (suc (suc k) - m) t b)
+            ∙ sym (trim_times-once (suc k - m) t b) ∙ sym (ap (λ d. trim_times d t) count)
+        | inr b ↦ stop (suc n) t m (test ∙ b) ∙ sym (trim_times-stop (suc (suc k) - m) t b)
       ]
 ]
   where
@@ -145,14 +138,8 @@ cond_true b m n h = rw h refl
 cond_false : (b : Bool) (m n : ℕ) → b ≡ false → cond b m n ≡ n
 cond_false b m n h = rw h refl
 
-pow_suc : (k : ℕ) → 2 ^ suc k ≡ 2 ^ k + 2 ^ k
-pow_suc k = omega arith
-
 half-of : (t : Tree) (k : ℕ) → depth t ≡ suc k → half_side t ≡ 2 ^ k
-half-of t k e = ap (λ n. 2 ^ (n - 1)) e ∙ ap (λ n. 2 ^ n) (less k)
-  where
-    less : (k : ℕ) → suc k - 1 ≡ k
-    less k = omega arith
+half-of t k e = let one : suc k - 1 ≡ k = omega arith in ap (λ n. 2 ^ (n - 1)) e ∙ ap (λ n. 2 ^ n) one
 
 -- the cell of a place counted from the corner
 tree_cell-at : (t : Tree) (n i j : ℕ) → half_side t ≡ n → i < n + n → j < n + n → tree_cell t (neg_ℤ (pos n) +ℤ pos i) (neg_ℤ (pos n) +ℤ pos j) ≡ state_at t i j

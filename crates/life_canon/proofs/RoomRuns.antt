@@ -13,10 +13,6 @@ use Rattle.life_strip.specs.Needed.{SomeSquare}
 use Rattle.life_strip.proofs.NeededLemmas.{SomeSquare-within}
 use Rattle.life_canon.specs.Needs.{SomeOfRuns}
 
-same-cells : (runs : List Run) (x y : ℤ) → state_by runs x y ≡ rle_state_by runs x y
-same-cells [] x y = refl
-same-cells (run ∷ runs) x y = ap (λ (n : ℕ). cond (has_cell run x y) run.state n) (same-cells runs x y)
-
 -- runs in later rows
 all-later : (runs : List Run) (x y : ℤ) → AllByRecursion (λ (r : Run). y <ℤ r.y) runs → rle_state_by runs x y ≡ 0
 all-later [] x y h = refl

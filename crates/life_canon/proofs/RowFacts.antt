@@ -1,29 +1,22 @@
 -- Rows of a square by the rows of its quarters.
-use Rattle.std.proofs.Common.{List, [], ◌∷◌, get_or, ◌≡◌, ℕ, ◌+◌, ◌-◌, ◌*◌, ◌^◌, ◌<◌, ◌≤◌, true, false, refl, ap, arith}
-use Rattle.std.specs.Prelude.{nat_lt}
-use Rattle.std.proofs.lemmas.Bool.Decides.{nat_tests}
+use Rattle.std.proofs.Common.{List, [], ◌∷◌, get_or, ◌≡◌, ℕ, ◌+◌, ◌-◌, ◌*◌, ◌^◌, ◌<◌, ◌≤◌, refl, ap, arith}
+use Rattle.std.proofs.lemmas.Bool.{lt-ltb, le-ltb}
 use Rattle.life_base.specs.Tree.{Tree, quad, depth, state_at}
 use Rattle.life_canon.specs.Listing.{row_byte, rows_of}
 use Rattle.life_canon.specs.Rows.{row_of_four}
 
-below : (a b : ℕ) → a < b → nat_lt a b ≡ true
-below a b h = grind (arith, nat_tests)
-
-above : (a b : ℕ) → b ≤ a → nat_lt a b ≡ false
-above a b h = grind (arith, nat_tests)
-
 module _ (a b c d : Tree) (half : ℕ) (e : 2 ^ depth a ≡ half) (x y : ℕ) where
   at_nw : x < half → y < half → state_at (quad a b c d) x y ≡ state_at a x y
-  at_nw p q = rw (e, below y half q, below x half p) refl
+  at_nw p q = rw (e, lt-ltb y half q, lt-ltb x half p) refl
 
   at_ne : half ≤ x → y < half → state_at (quad a b c d) x y ≡ state_at b (x - half) y
-  at_ne p q = rw (e, below y half q, above x half p) refl
+  at_ne p q = rw (e, lt-ltb y half q, le-ltb x half p) refl
 
   at_sw : x < half → half ≤ y → state_at (quad a b c d) x y ≡ state_at c x (y - half)
-  at_sw p q = rw (e, above y half q, below x half p) refl
+  at_sw p q = rw (e, le-ltb y half q, lt-ltb x half p) refl
 
   at_se : half ≤ x → half ≤ y → state_at (quad a b c d) x y ≡ state_at d (x - half) (y - half)
-  at_se p q = rw (e, above y half q, above x half p) refl
+  at_se p q = rw (e, le-ltb y half q, le-ltb x half p) refl
 
 -- a row of a square of level 3, by those of its western and its eastern quarter
 eight_cells : (t a b : Tree) (y v : ℕ) → ((x : ℕ) → x < 4 → state_at t x y ≡ state_at a x v) → ((x : ℕ) → 4 ≤ x → state_at t x y ≡ state_at b (x - 4) v)

@@ -17,7 +17,7 @@ use Rattle.life_canon.specs.Store.{content, IsRead, universe_in}
 use Rattle.life_canon.specs.Texts.{IsBoxOf, AreOrdered, IsShown, box_text, show_text}
 use Rattle.life_canon.specs.declared.pattern.Pattern.{Pattern}
 use Rattle.life_canon.proofs.TreeWords.{HasDepth}
-use Rattle.life_canon.proofs.Trees.{is_blank-blank, state_at-blank}
+use Rattle.life_canon.proofs.Trees.{is_blank-blank, state_at-blank, pow_suc}
 use Rattle.life_canon.proofs.Planes.{full-depth, tree_cell-outside}
 use Rattle.life_canon.proofs.Canonical.{same-canonical}
 use Rattle.life_canon.proofs.CellFacts.{inside}
@@ -28,11 +28,8 @@ use Rattle.life_canon.proofs.Fits.{read-same}
 
 within-bounds : (k : ℕ) (x : ℤ) → k ≤ 61 → IsWithin (suc k) x → (neg_ℤ (pos (2 ^ 61)) ≤ℤ x) × (x <ℤ pos (2 ^ 61))
 unfolding corner
-within-bounds k x le h = bounds (2 ^ k) (2 ^ 61) (2 ^ suc k) (pow_mono le) (twice k) h.0 h.1
+within-bounds k x le h = bounds (2 ^ k) (2 ^ 61) (2 ^ suc k) (pow_mono le) (pow_suc k) h.0 h.1
   where
-    twice : (k : ℕ) → 2 ^ suc k ≡ 2 ^ k + 2 ^ k
-    twice k = omega arith
-
     bounds : (m n w : ℕ) → m ≤ n → w ≡ m + m → neg_ℤ (pos m) ≤ℤ x → x <ℤ (neg_ℤ (pos m) +ℤ pos w) → (neg_ℤ (pos n) ≤ℤ x) × (x <ℤ pos n)
     bounds m n w le e low high = (omega (arith, ints), omega (arith, ints))
 
@@ -53,14 +50,12 @@ box-ordered k t h le box b =
       rows = record { least = top.1.0; order = (b.inside b.at_top.0 box.top b.at_top.1).3; most = bottom.1.1 };
     }
 
-one-more : (n : ℕ) → 1 ≤ n → n ≡ suc (n - 1)
-one-more n h = omega arith
-
 pub found-ordered : (t : Tree) → IsFull t → 1 ≤ depth t → depth t ≤ MAX_LEVEL → (found : Option Bounds) → MatchOption found (is_blank t ≡ true) (IsLeastBoxOf t)
     → IfSome found AreOrdered
 found-ordered t full high low None h = tt
 found-ordered t full high low (Some box) h =
-    box-ordered (depth t - 1) t (subst (λ n. HasDepth n t) (one-more (depth t) high) (full-depth t full)) (omega arith) box h
+    let d : depth t ≡ suc (depth t - 1) = omega arith in
+    box-ordered (depth t - 1) t (subst (λ n. HasDepth n t) d (full-depth t full)) (omega arith) box h
 
 -- ---- the box of a square is that of its cells
 

@@ -1,6 +1,6 @@
 -- What calls leave in a store, one behind the other, and refusals that are handed on.
 use Rattle.std.proofs.Common.{◌≡◌, ◌⊎◌, inl, inr, ℕ, List, sym, ◌∙◌, Result, Ok, Err, ap}
-use Rattle.std.specs.Prelude.{IfErr}
+use Rattle.std.specs.Prelude.{IfErr, IsErrAnd}
 use Rattle.life_base.specs.DeviceRuns.{SourceRun}
 use Rattle.life_base.specs.Refusal.{fault_at, fault_of}
 use Rattle.life_base.specs.Tree.{Tree}
@@ -16,11 +16,7 @@ use Rattle.life_canon.proofs.RunFacts.{front-kind, full-not}
 
 -- the same refusal of another call
 pub err_again : {T U E : Type 0} {x y : E} → ◌≡◌ {A = Result T E} (Err x) (Err y) → ◌≡◌ {A = Result U E} (Err x) (Err y)
-err_again {T} {E = E} {x} e = ap Err (ap only e)
-  where
-    only : Result T E → E
-    only (Ok t) = x
-    only (Err z) = z
+err_again {x = x} {y = y} e = let same : x ≡ y = cc in ap Err same
 
 -- want of memory is no want of room
 apart : {fault : Fault} → fault ≡ fault_of Memory → fault ≡ fault_of Full → ⊥
@@ -74,8 +70,11 @@ module _ {A B : Type 0} {old new : Nodes} where
   stores-err call = record { needed = λ h. call.needed (err_again h); adds = call.adds; keeps = call.keeps }
 
   -- a refusal that is handed on
-  pub reads-err : {bytes : List ℕ} {e : Fault} → ReadsInto {A = A} bytes old new (Err e) → ReadsInto {A = B} bytes old new (Err e)
-  reads-err call = record { needed = λ h. call.needed (err_again h); adds = call.adds; room = λ h. call.room (err_again h); keeps = call.keeps }
+  pub reads-err : {bytes : List ℕ} {e : Fault} {r : Result B Fault} → IsErrAnd r (λ f. f ≡ e) → ReadsInto {A = A} bytes old new (Err e)
+      → ReadsInto bytes old new r
+  reads-err {r = Ok x} h call = absurd h
+  reads-err {r = Err f} h call =
+      rw h (record { needed = λ e. call.needed (err_again e); adds = call.adds; room = λ e. call.room (err_again e); keeps = call.keeps })
 
   pub source-err : {most : ℕ} {source : SourceRun} {e : Fault} → ReadsSource {A = A} most old new source (Err e)
       → ReadsSource {A = B} most old new source (Err e)

@@ -14,9 +14,9 @@ use Rattle.life_mc.specs.declared.line.Line.TheVariants.{Leaf, Quad}
 use Rattle.life_canon.specs.Universe.{is_life, least_level}
 use Rattle.life_canon.specs.Listing.{is_small, is_in, with_new, with_all, walk, place, number_of, line_of, lines_for, quad_line, rows_of, listed}
 use Rattle.life_canon.specs.Closed.{IsClosed}
-use Rattle.life_canon.specs.Walking.{TakesLine, BreaksOff, TakesOn, TakesWalk, Walked, BreaksIn}
-use Rattle.life_canon.proofs.Trees.{bool_cases, true_false, same_tree-refl}
-use Rattle.life_canon.proofs.ListFacts.{with_all-from, with_all-append, with_new-known, with_new-fresh, place-append}
+use Rattle.life_canon.specs.Walking.{TakesLine, BreaksOff, TakesOn, TakesWalk, MayWalk, Walked, BreaksIn}
+use Rattle.life_canon.proofs.Trees.{bool_cases, true_false}
+use Rattle.life_canon.proofs.ListFacts.{with_all-from, with_all-append, with_new-known, with_new-fresh, place-append, place-last}
 use Rattle.life_canon.proofs.Walk.{walk-level, walk-big, walked, none-closed, IsKnown, IsWalked}
 use Rattle.life_canon.proofs.Keys.{place-keys, in-keys, number-place_of, skip, step, least-step, still-closed}
 use Rattle.std.proofs.lemmas.Option.{slice_get_within, get_or_from_slice_get}
@@ -41,7 +41,7 @@ behind-new ks t = elim (bool_cases (is_in ks t)) [
   | inr e ↦ rw (with_new-fresh ks t e) (t ∷ [], refl)
 ]
 
-pub behind-all : (ks xs : List Tree) → Behind ks (with_all ks xs)
+behind-all : (ks xs : List Tree) → Behind ks (with_all ks xs)
 behind-all ks [] = behind-refl ks
 behind-all ks (x ∷ xs) = behind-trans ks (with_new ks x) _ (behind-new ks x) (behind-all (with_new ks x) xs)
 
@@ -68,11 +68,8 @@ number-stays rule old new (quad a b c d) high known p = elim (bool_cases (is_bla
 -- a new square's number is that of its place, the last one
 pub number-last : (all : List Tree) (t : Tree) → 1 ≤ depth t → is_blank t ≡ false → is_in all t ≡ false → number_of (all ++ t ∷ []) t ≡ length all + 1
 number-last all (point s) some shown absent = absurd (omega arith)
-number-last all (quad a b c d) some shown absent = number-place (all ++ quad a b c d ∷ []) a b c d shown ∙ ap suc (last all (quad a b c d) absent) ∙ omega arith
-  where
-    last : (xs : List Tree) (t : Tree) → is_in xs t ≡ false → place (xs ++ t ∷ []) t ≡ length xs
-    last [] t h = rw (same_tree-refl t) refl
-    last (x ∷ xs) t h = grind (arith, last xs t)
+number-last all (quad a b c d) some shown absent =
+    number-place (all ++ quad a b c d ∷ []) a b c d shown ∙ ap suc (place-last all (quad a b c d) absent) ∙ omega arith
 
 -- ---- a square is not in the walks of its quarters
 
@@ -102,7 +99,7 @@ module _ {A : Type 0} (took broke : A → A → List Line → Type 0) (rule : Ru
       v start all (q.0 ++ rest) more (u start all (p.0 ++ (q.0 ++ rest)) (front-more mid (with_all mid ws) (q.0 ++ rest) all p more) w)
 
   -- a line behind a call
-  pub takes-line : {c : A} (new : List Tree) (t : Tree) (line : Line) → new ≡ mid ++ t ∷ [] → TakesOn took rule a b old mid
+  takes-line : {c : A} (new : List Tree) (t : Tree) (line : Line) → new ≡ mid ++ t ∷ [] → TakesOn took rule a b old mid
       → TakesLine took b c line
       → ((all rest : List Tree) → all ≡ (mid ++ t ∷ []) ++ rest → line ≡ line_of rule all t) → TakesOn took rule a c old new
   takes-line {c = c} new t line n u v is = subst (TakesOn took rule a c old) (sym n) (λ start all rest e w.
@@ -110,7 +107,7 @@ module _ {A : Type 0} (took broke : A → A → List Line → Type 0) (rule : Ru
       (v start (map (line_of rule all) mid) (u start all (t ∷ rest) (e ∙ append_assoc mid (t ∷ []) rest) w)))
 
   -- a line that breaks behind a call
-  pub breaks-line : {c : A} (far : List Tree) → TakesOn took rule a b old mid → BreaksOff took broke b c → Behind mid far
+  breaks-line : {c : A} (far : List Tree) → TakesOn took rule a b old mid → BreaksOff took broke b c → Behind mid far
       → BreaksIn took broke rule a c old far
   breaks-line {c = c} far u v p = λ start all rest e w.
       let more = front-more mid far rest all p e in
@@ -219,15 +216,15 @@ quad-line rule t a b c d level na nb nc nd all all1 all2 all3 all4 whole rest e 
 
 -- ---- the two ways to end
 
-pub big : (rule : Rule) (t : Tree) (level : ℕ) → level ≡ depth t → (is_life rule ≡ true → 3 ≤ level) → (1 ≤ depth t) × (is_blank t ≡ false)
+big : (rule : Rule) (t : Tree) (level : ℕ) → level ≡ depth t → (is_life rule ≡ true → 3 ≤ level) → (1 ≤ depth t) × (is_blank t ≡ false)
     → is_small (least_level rule) t ≡ false
 big rule t level l high p = not_small (least_level rule) t (depth t) refl (large rule (depth t) (λ r. subst (λ n. 3 ≤ n) l (high r)) p.0) p.1
 
-pub leaf-level : (rule : Rule) (t : Tree) (level : ℕ) → level ≡ depth t → (is_life rule && level == 3) ≡ true → depth t ≡ least_level rule
+leaf-level : (rule : Rule) (t : Tree) (level : ℕ) → level ≡ depth t → (is_life rule && level == 3) ≡ true → depth t ≡ least_level rule
 leaf-level (Life sets) t level l h = grind (arith, nat_tests)
 leaf-level (Named name) t level l h = absurd (true_false false h refl)
 
-pub leaf-line : (rule : Rule) (t : Tree) (level : ℕ) (line : Line) (all : List Tree) → level ≡ depth t → (is_life rule && level == 3) ≡ true
+leaf-line : (rule : Rule) (t : Tree) (level : ℕ) (line : Line) (all : List Tree) → level ≡ depth t → (is_life rule && level == 3) ≡ true
     → line ≡ Leaf (rows_of t) → line ≡ line_of rule all t
 leaf-line rule t level line all l h e =
     let q : (is_life rule && depth t == 3) ≡ true = ap (λ n. is_life rule && n == 3) (sym l) ∙ h in
@@ -237,7 +234,7 @@ pub no-leaf : (rule : Rule) (t : Tree) (level : ℕ) → level ≡ depth t → (
 no-leaf rule t level l h = ap (λ n. is_life rule && n == 3) (sym l) ∙ h
 
 -- a square of the least level is added alone
-pub leaf-walk : (rule : Rule) (t : Tree) (all new : List Tree) → is_small (least_level rule) t ≡ false → IsFull t → depth t ≡ least_level rule
+leaf-walk : (rule : Rule) (t : Tree) (all new : List Tree) → is_small (least_level rule) t ≡ false → IsFull t → depth t ≡ least_level rule
     → is_in all t ≡ false
     → new ≡ all ++ t ∷ [] → new ≡ with_all all (walk t (least_level rule))
 leaf-walk rule t all new small full l absent e = least-step t (least_level rule) all new (least-one rule) small full l (e ∙ sym (with_new-fresh all t absent))
@@ -262,121 +259,147 @@ quad-walk rule t a b c d all all1 all2 all3 all4 new small e p1 p2 p3 p4 absent 
     step t a b c d (least_level rule) all all1 all2 all3 all4 new small e p1 p2 p3 p4 (n ∙ sym (with_new-fresh all4 t absent))
 
 module _ {K : Type 0} (content : K → Tree) (ids new : List K) (id : K) (added : new ≡ ids ++ id ∷ []) where
-  pub trees-more : map content new ≡ map content ids ++ content id ∷ []
+  trees-more : map content new ≡ map content ids ++ content id ∷ []
   trees-more = ap (map content) added ∙ map-append content ids (id ∷ [])
 
-  pub number-pushed : (n : ℕ) → n ≡ length new → (1 ≤ depth (content id)) × (is_blank (content id) ≡ false) → is_in (map content ids) (content id) ≡ false
+  number-pushed : (n : ℕ) → n ≡ length new → (1 ≤ depth (content id)) × (is_blank (content id) ≡ false) → is_in (map content ids) (content id) ≡ false
       → n ≡ number_of (map content new) (content id)
   number-pushed n e p absent =
       let long : length new ≡ length (map content ids) + 1 = sym (length-map new content) ∙ ap length trees-more
       ∙ length-append (map content ids) (content id ∷ []) in
       e ∙ long ∙ sym (number-last (map content ids) (content id) p.0 p.1 absent) ∙ ap (λ l. number_of l (content id)) (sym trees-more)
 
--- ---- a square above the leaves: its quarters are walked one behind the other, and then it is added
+-- ---- what a walk leaves
 
 -- a call broke that walked over the square of an Id
 abbrev Broke : {A : Type 0} → (A → A → List Line → Type 0) → (A → A → List Line → Type 0) → (Id → Tree) → Rule → Id → A → A → List Id → Type 0
 Broke took broke content rule q a b old = BreaksIn took broke rule a b (map content old) (with_all (map content old) (walk (content q) (least_level rule)))
 
-module _ {A : Type 0} (took broke : A → A → List Line → Type 0) (content : Id → Tree) (rule : Rule) (id : Id) {nw ne sw se : Id}
+module _ {A : Type 0} {knows : Id → Type 0} {took broke : A → A → List Line → Type 0} {content : Id → Tree} {rule : Rule} {id : Id} {a c : A}
+    {old new : List Id} where
+  -- an error that is passed on, once a part of the lines was taken
+  refused-walk : (e : Kind) (r : Result ℕ Kind) → IsErrAnd r (λ k. k ≡ e) → Broke took broke content rule id a c old
+      → Walked knows content took broke rule id a c old new r
+  refused-walk e (Ok n) h p = absurd h
+  refused-walk e (Err k) h p = record { wrote = tt; number = tt; part = p; numbers = tt; closed = tt }
+
+  -- an error at the line of the square itself, before any other
+  pub refused-first : (e : Kind) (r : Result ℕ Kind) → IsErrAnd r (λ k. k ≡ e) → BreaksOff took broke a c
+      → Walked knows content took broke rule id a c old new r
+  refused-first e r h z =
+      let all = map content old in
+      let ws = walk (content id) (least_level rule) in
+      refused-walk e r h (breaks-line took broke rule all all (with_all all ws) (takes-none took rule all) z (behind-all all ws))
+
+  -- an error in the walk over a quarter
+  refused-behind : {b : A} {q : Id} {mid far : List Id} {e : Kind} {r : Result ℕ Kind} → TakesOn took rule a b (map content old) (map content mid)
+      → Walked knows content took broke rule q b c mid far (Err e)
+      → Behind (with_all (map content mid) (walk (content q) (least_level rule))) (with_all (map content old) (walk (content id) (least_level rule)))
+      → IsErrAnd r (λ k. k ≡ e) → Walked knows content took broke rule id a c old new r
+  refused-behind {q = q} {mid = mid} u p b h =
+      refused-walk _ _ h (breaks-then took broke rule (map content old) (map content mid) (walk (content q) (least_level rule)) _ u p.part b)
+
+  -- a square that got the next number
+  walked-on : {level n : ℕ} (mid : List Id) → MayWalk knows content rule level id old → (1 ≤ depth (content id)) × (is_blank (content id) ≡ false)
+      → All knows mid → is_in (map content mid) (content id) ≡ false → new ≡ mid ++ id ∷ [] → n ≡ length new → TakesWalk took content rule id a c old new
+      → Walked knows content took broke rule id a c old new (Ok n)
+  walked-on {n = n} mid may shown all absent added count wrote = record {
+    wrote = wrote;
+    number = number-pushed content mid new id added n count shown absent;
+    part = tt;
+    numbers = subst (All knows) (sym added) (All-push knows mid id all may.known);
+    closed = still-closed (content id) (least_level rule) (map content old) (map content new) (least-one rule) may.closed wrote.walked;
+  }
+
+  -- a leaf
+  pub walked-leaf : {level n : ℕ} → MayWalk knows content rule level id old → (1 ≤ depth (content id)) × (is_blank (content id) ≡ false)
+      → IsFull (content id) → is_in (map content old) (content id) ≡ false → (is_life rule && level == 3) ≡ true → new ≡ old ++ id ∷ [] → n ≡ length new
+      → TakesLine took a c (Leaf (rows_of (content id))) → Walked knows content took broke rule id a c old new (Ok n)
+  walked-leaf {level = level} may shown full absent is added count z =
+      let t = content id in
+      let all = map content old in
+      let more = trees-more content old new id added in
+      walked-on old may shown may.numbers absent added count (record {
+        walked = leaf-walk rule t all (map content new) (big rule t level may.level may.high shown) full (leaf-level rule t level may.level is) absent more;
+        lines =
+            takes-line took broke rule all all (map content new) t (Leaf (rows_of t)) more (takes-none took rule all) z
+            (λ whole rest e. leaf-line rule t level (Leaf (rows_of t)) whole may.level is refl);
+      })
+
+-- ---- a square above the leaves: its quarters are walked one behind the other, and then it is added
+
+-- a walk behind another
+both : {A : Type 0} {knows : Id → Type 0} {took broke : A → A → List Line → Type 0} {content : Id → Tree} {rule : Rule} {a b c : A} {q : Id}
+    {mid new : List Id} {n : ℕ} (old : List Id) → Walked knows content took broke rule q b c mid new (Ok n)
+    → TakesOn took rule a b (map content old) (map content mid) → TakesOn took rule a c (map content old) (map content new)
+both {content = content} {rule = rule} {q = q} {mid = mid} {new = new} old v u = λ start all rest e w.
+    let b = subst (Behind (map content mid)) (sym v.wrote.walked) (behind-all (map content mid) (walk (content q) (least_level rule))) in
+    v.wrote.lines start all rest e (u start all (b.0 ++ rest) (front-more (map content mid) (map content new) rest all b e) w)
+
+begun : {knows : Id → Type 0} {content : Id → Tree} {rule : Rule} {level : ℕ} {id nw ne sw se : Id} {old : List Id} (all1 all2 all3 : List Tree)
+    → MayWalk knows content rule level id old → (1 ≤ depth (content id)) × (is_blank (content id) ≡ false)
+    → content id ≡ quad (content nw) (content ne) (content sw) (content se) → all1 ≡ with_all (map content old) (walk (content nw) (least_level rule))
+    → all2 ≡ with_all all1 (walk (content ne) (least_level rule)) → all3 ≡ with_all all2 (walk (content sw) (least_level rule))
+    → Fronts (least_level rule) (content ne) (content sw) (content se) all1 all2 all3 (with_all (map content old) (walk (content id) (least_level rule)))
+begun {content = content} {rule = rule} {level = level} {id = id} {old = old} all1 all2 all3 may shown square =
+    fronts (least_level rule) (content id) _ _ _ _ (map content old) all1 all2 all3 (big rule (content id) level may.level may.high shown) square
+
+module _ {A : Type 0} {knows : Id → Type 0} {took broke : A → A → List Line → Type 0} {content : Id → Tree} {rule : Rule} {level : ℕ} {id nw ne sw se : Id}
+    {old : List Id} (may : MayWalk knows content rule level id old) (shown : (1 ≤ depth (content id)) × (is_blank (content id) ≡ false))
     (square : content id ≡ quad (content nw) (content ne) (content sw) (content se)) where
-  -- a walk behind another
-  both : {a b c : A} {q : Id} {mid new : List Id} (old : List Id) → TakesWalk took content rule q b c mid new
-      → TakesOn took rule a b (map content old) (map content mid) → TakesOn took rule a c (map content old) (map content new)
-  both {q = q} {mid = mid} {new = new} old v u = λ start all rest e w.
-      let b = subst (Behind (map content mid)) (sym v.walked) (behind-all (map content mid) (walk (content q) (least_level rule))) in
-      v.lines start all rest e (u start all (b.0 ++ rest) (front-more (map content mid) (map content new) rest all b e) w)
+  module _ {a b : A} {one new : List Id} {f : Kind} {r : Result ℕ Kind} where
+    pub refused-nw : Walked knows content took broke rule nw a b old one (Err f) → IsErrAnd r (λ k. k ≡ f)
+        → Walked knows content took broke rule id a b old new r
+    refused-nw p h = refused-behind (takes-none took rule (map content old)) p (begun _ _ _ may shown square refl refl refl).one h
 
-  module _ {level : ℕ} (is : level ≡ depth (content id)) (high : is_life rule ≡ true → 3 ≤ level)
-      (shown : (1 ≤ depth (content id)) × (is_blank (content id) ≡ false)) (old : List Id) where
-    begun : (all1 all2 all3 : List Tree) → all1 ≡ with_all (map content old) (walk (content nw) (least_level rule))
-        → all2 ≡ with_all all1 (walk (content ne) (least_level rule))
-        → all3 ≡ with_all all2 (walk (content sw) (least_level rule))
-        → Fronts (least_level rule) (content ne) (content sw) (content se) all1 all2 all3 (with_all (map content old) (walk (content id) (least_level rule)))
-    begun all1 all2 all3 =
-        fronts (least_level rule) (content id) (content nw) (content ne) (content sw) (content se) (map content old) all1 all2 all3
-        (big rule (content id) level is high shown) square
+    pub refused-ne : {c : A} {two : List Id} {na : ℕ} → Walked knows content took broke rule nw a b old one (Ok na)
+        → Walked knows content took broke rule ne b c one two (Err f) → IsErrAnd r (λ k. k ≡ f) → Walked knows content took broke rule id a c old new r
+    refused-ne u p h = refused-behind u.wrote.lines p (begun _ _ _ may shown square u.wrote.walked refl refl).two h
 
-    breaks : {a b c : A} (q : Id) (mid : List Id) → TakesOn took rule a b (map content old) (map content mid)
-        → Broke took broke content rule q b c mid
-        → Behind (with_all (map content mid) (walk (content q) (least_level rule))) (with_all (map content old) (walk (content id) (least_level rule)))
-        → Broke took broke content rule id a c old
-    breaks q mid u v b =
-        breaks-then took broke rule (map content old) (map content mid) (walk (content q) (least_level rule))
-        (with_all (map content old) (walk (content id) (least_level rule))) u v b
+    pub refused-sw : {c d : A} {two three : List Id} {na nb : ℕ} → Walked knows content took broke rule nw a b old one (Ok na)
+        → Walked knows content took broke rule ne b c one two (Ok nb) → Walked knows content took broke rule sw c d two three (Err f)
+        → IsErrAnd r (λ k. k ≡ f) → Walked knows content took broke rule id a d old new r
+    refused-sw u v p h = refused-behind (both old v u.wrote.lines) p (begun _ _ _ may shown square u.wrote.walked v.wrote.walked refl).three h
 
-    pub breaks-nw : {a b : A} → Broke took broke content rule nw a b old → Broke took broke content rule id a b old
-    breaks-nw v = breaks nw old (takes-none took rule (map content old)) v (begun _ _ _ refl refl refl).one
+    pub refused-se : {c d e : A} {two three four : List Id} {na nb nc : ℕ} → Walked knows content took broke rule nw a b old one (Ok na)
+        → Walked knows content took broke rule ne b c one two (Ok nb) → Walked knows content took broke rule sw c d two three (Ok nc)
+        → Walked knows content took broke rule se d e three four (Err f) → IsErrAnd r (λ k. k ≡ f) → Walked knows content took broke rule id a e old new r
+    refused-se u v w p h =
+        refused-behind (both old w (both old v u.wrote.lines)) p (begun _ _ _ may shown square u.wrote.walked v.wrote.walked w.wrote.walked).four h
 
-    pub breaks-ne : {a b c : A} {one : List Id} → TakesWalk took content rule nw a b old one
-        → Broke took broke content rule ne b c one → Broke took broke content rule id a c old
-    breaks-ne {one = one} u v = breaks ne one u.lines v (begun _ _ _ u.walked refl refl).two
-
-    pub breaks-sw : {a b c d : A} {one two : List Id} → TakesWalk took content rule nw a b old one
-        → TakesWalk took content rule ne b c one two → Broke took broke content rule sw c d two → Broke took broke content rule id a d old
-    breaks-sw {two = two} u v w = breaks sw two (both old v u.lines) w (begun _ _ _ u.walked v.walked refl).three
-
-    pub breaks-se : {a b c d e : A} {one two three : List Id} → TakesWalk took content rule nw a b old one
-        → TakesWalk took content rule ne b c one two → TakesWalk took content rule sw c d two three → Broke took broke content rule se d e three
-        → Broke took broke content rule id a e old
-    breaks-se {three = three} u v w x = breaks se three (both old w (both old v u.lines)) x (begun _ _ _ u.walked v.walked w.walked).four
-
-  module _ {a b c d e : A} {old one two three four : List Id} (u : TakesWalk took content rule nw a b old one)
-      (v : TakesWalk took content rule ne b c one two) (w : TakesWalk took content rule sw c d two three)
-      (x : TakesWalk took content rule se d e three four) where
+  module _ {a b c d e : A} {one two three four : List Id} {na nb nc nd : ℕ} (u : Walked knows content took broke rule nw a b old one (Ok na))
+      (v : Walked knows content took broke rule ne b c one two (Ok nb)) (w : Walked knows content took broke rule sw c d two three (Ok nc))
+      (x : Walked knows content took broke rule se d e three four (Ok nd)) where
     took-four : TakesOn took rule a e (map content old) (map content four)
-    took-four = both old x (both old w (both old v u.lines))
+    took-four = both old x (both old w (both old v u.wrote.lines))
 
     pub absent-own : IsFull (content id) → is_in (map content old) (content id) ≡ false → is_in (map content four) (content id) ≡ false
     absent-own full absent =
-        absent-still (least_level rule) (content id) (content nw) (content ne) (content sw) (content se) _ _ _ _ _ full square u.walked v.walked w.walked
-        x.walked absent
+        absent-still (least_level rule) (content id) _ _ _ _ _ _ _ _ _ full square u.wrote.walked v.wrote.walked w.wrote.walked x.wrote.walked absent
 
-    module _ {level : ℕ} (is : level ≡ depth (content id)) (high : is_life rule ≡ true → 3 ≤ level)
-        (shown : (1 ≤ depth (content id)) × (is_blank (content id) ≡ false)) where
-      pub breaks-own : {f : A} → BreaksOff took broke e f → Broke took broke content rule id a f old
-      breaks-own z =
-          let whole = with_all (map content old) (walk (content id) (least_level rule)) in
-          breaks-line took broke rule (map content old) (map content four) whole took-four z
-          (subst (λ l. Behind l whole) (sym x.walked) (begun is high shown old _ _ _ u.walked v.walked w.walked).four)
+    pub refused-own : {f : A} {new : List Id} (k : Kind) (r : Result ℕ Kind) → IsErrAnd r (λ m. m ≡ k)
+        → BreaksOff took broke e f → Walked knows content took broke rule id a f old new r
+    refused-own k r h z =
+        let whole = with_all (map content old) (walk (content id) (least_level rule)) in
+        refused-walk k r h (breaks-line took broke rule (map content old) (map content four) whole took-four z
+        (subst (λ l. Behind l whole) (sym x.wrote.walked) (begun _ _ _ may shown square u.wrote.walked v.wrote.walked w.wrote.walked).four))
 
-      pub took-own : {f : A} {na nb nc nd : ℕ} (new : List Id) → new ≡ four ++ id ∷ [] → IsFull (content id)
-          → is_in (map content old) (content id) ≡ false → IsClosed (least_level rule) (map content old) → (is_life rule && level == 3) ≡ false
-          → na ≡ number_of (map content one) (content nw) → nb ≡ number_of (map content two) (content ne) → nc ≡ number_of (map content three) (content sw)
-          → nd ≡ number_of (map content four) (content se)
-          → TakesLine took e f (Quad level na nb nc nd) → TakesWalk took content rule id a f old new
-      took-own {na = na} {nb = nb} {nc = nc} {nd = nd} new added full absent closed other ea eb ec ed z = record {
-        walked =
-            quad-walk rule (content id) (content nw) (content ne) (content sw) (content se) _ _ _ _ _ _ (big rule (content id) level is high shown) square
-            u.walked v.walked w.walked x.walked (absent-own full absent) (trees-more content four new id added);
-        lines =
-            takes-line took broke rule (map content old) (map content four) (map content new) (content id) (Quad level na nb nc nd)
-            (trees-more content four new id added) took-four z
-            (λ all rest q. quad-line rule (content id) (content nw) (content ne) (content sw) (content se) level na nb nc nd _ _ _ _ _ all rest square full
-            (λ r. subst (λ n. 3 ≤ n) is (high r)) (no-leaf rule (content id) level is other) is closed u.walked v.walked w.walked x.walked ea eb ec ed q);
-      }
-
--- ---- what a walk leaves
-
-module _ {A : Type 0} {knows : Id → Type 0} (took broke : A → A → List Line → Type 0) (content : Id → Tree) (rule : Rule) (q : Id) {a b : A}
-    {old new : List Id} where
-  -- an error that is passed on, once a part of the lines was taken
-  pub refused-walk : (Q : Kind → Type 0) (r : Result ℕ Kind) → IsErrAnd r Q → Broke took broke content rule q a b old
-      → Walked knows content took broke rule q a b old new r
-  refused-walk Q (Ok x) h p = absurd h
-  refused-walk Q (Err e) h p = record { wrote = tt; number = tt; part = p; numbers = tt; closed = tt }
-
-  -- a square that got the next number
-  pub walked-on : {n : ℕ} (mid : List Id) → All knows mid → knows q → IsClosed (least_level rule) (map content old)
-      → new ≡ mid ++ q ∷ [] → TakesWalk took content rule q a b old new
-      → n ≡ number_of (map content new) (content q) → Walked knows content took broke rule q a b old new (Ok n)
-  walked-on mid all known closed added wrote number = record {
-    wrote = wrote;
-    number = number;
-    part = tt;
-    numbers = subst (All knows) (sym added) (All-push knows mid q all known);
-    closed = still-closed (content q) (least_level rule) (map content old) (map content new) (least-one rule) closed wrote.walked;
-  }
+    pub walked-own : {f : A} {n : ℕ} {new : List Id} → IsFull (content id) → is_in (map content old) (content id) ≡ false
+        → (is_life rule && level == 3) ≡ false → new ≡ four ++ id ∷ [] → n ≡ length new → TakesLine took e f (Quad level na nb nc nd)
+        → Walked knows content took broke rule id a f old new (Ok n)
+    walked-own {new = new} full absent other added count z =
+        let own = absent-own full absent in
+        let more = trees-more content four new id added in
+        walked-on four may shown x.numbers own added count (record {
+          walked =
+              quad-walk rule (content id) _ _ _ _ _ _ _ _ _ _ (big rule (content id) level may.level may.high shown) square
+              u.wrote.walked v.wrote.walked w.wrote.walked x.wrote.walked own more;
+          lines =
+              takes-line took broke rule (map content old) (map content four) (map content new) (content id) (Quad level na nb nc nd) more took-four z
+              (λ all rest q. quad-line rule (content id) _ _ _ _ level na nb nc nd _ _ _ _ _ all rest square full
+              (λ r. subst (λ n. 3 ≤ n) may.level (may.high r)) (no-leaf rule (content id) level may.level other) may.level may.closed
+              u.wrote.walked v.wrote.walked w.wrote.walked x.wrote.walked u.number v.number w.number x.number q);
+        })
 
 -- ---- a whole pattern, from no squares on
 

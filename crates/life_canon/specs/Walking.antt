@@ -1,8 +1,9 @@
 -- What a walk that gives node lines leaves of the sink that takes them. Of a sink and its device in two states, `took` says that it took just these
 -- lines between them, and `broke` that it took some of them.
-use Rattle.std.specs.Prelude.{◌≡◌, ℕ, ◌≤◌, true, false, List, [], ◌∷◌, ◌++◌, Result, OnOk, OnErr, IfOk, All, map}
+use Rattle.std.specs.Prelude.{◌≡◌, ◌⊎◌, ℕ, ◌≤◌, true, false, List, [], ◌∷◌, ◌++◌, Result, OnOk, OnErr, IfOk, All, map}
 use Rattle.life_base.specs.Tree.{Tree, depth, is_blank_tree}
 use Rattle.life_base.specs.declared.kind.Kind.{Kind}
+use Rattle.life_base.specs.declared.kind.Kind.TheVariants.{Memory}
 use Rattle.life_base.specs.declared.rule.Rule.{Rule}
 use Rattle.life_mc.specs.Macrocell.{largest_state}
 use Rattle.life_mc.specs.Squares.{HasStatesUpTo}
@@ -12,6 +13,7 @@ use Rattle.life_quad.specs.IdNumbers.{NumberRoom, HasNumberRoom}
 use Rattle.life_canon.specs.Closed.{IsClosed}
 use Rattle.life_canon.specs.Listing.{line_of, number_of, with_all, walk}
 use Rattle.life_canon.specs.Universe.{is_life, least_level}
+use Rattle.life_canon.specs.declared.pattern.Pattern.{Pattern}
 
 -- it took this line too, whatever it took before
 abbrev pub TakesLine : {A : Type 0} → (A → A → List Line → Type 0) → A → A → Line → Type 0
@@ -46,6 +48,12 @@ pub record MayWalk (knows : Id → Type 0) (content : Id → Tree) (rule : Rule)
   pub numbers : All knows ids
   pub closed : IsClosed (least_level rule) (map content ids)
 
+-- what a walk over a whole pattern asks of it
+pub record MayWalkPattern (knows : Id → Type 0) (content : Id → Tree) (pattern : Pattern) : Type 0 where
+  pub known : knows pattern.root
+  pub level : least_level pattern.rule ≤ depth (content pattern.root)
+  pub states : HasStatesUpTo (largest_state pattern.rule) (content pattern.root)
+
 -- What it leaves: at Ok the sink took the lines as above, and it answers the number that stands for the square. At Err the sink took some of them.
 pub record Walked {A : Type 0} (knows : Id → Type 0) (content : Id → Tree) (took broke : A → A → List Line → Type 0) (rule : Rule) (q : Id)
     (before after : A) (old new : List Id) (result : Result ℕ Kind) : Type 0 where
@@ -62,3 +70,7 @@ HasRoomFrom knows content least room = (id : Id) → knows id → least ≤ dept
 -- not each of them has
 abbrev pub LacksRoom : (Id → Type 0) → (Id → Tree) → ℕ → NumberRoom → Type 0
 LacksRoom knows content least room = ¬ HasRoomFrom knows content least room
+
+-- why it is refused: the sink refuses, or memory is refused where a square has no room for its number
+abbrev pub RefusesWalk : (Kind → Type 0) → (Id → Type 0) → (Id → Tree) → Rule → NumberRoom → Kind → Type 0
+RefusesWalk refuses knows content rule room kind = refuses kind ⊎ ((kind ≡ Memory) × LacksRoom knows content (least_level rule) room)

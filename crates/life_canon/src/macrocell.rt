@@ -2,17 +2,14 @@
 
 ghost use Rattle.std.proofs.Common.{sym};
 ghost use Rattle.std.proofs.lemmas.List.{append-nil};
-ghost use Rattle.std.specs.Prelude.{◌≡◌, ◌++◌, ◌≤◌, [], IfOk, IfErr};
+ghost use Rattle.std.specs.Prelude.{◌≡◌, ◌++◌, [], IfOk, IfErr};
 ghost use Rattle.life_base.specs.declared.kind.Kind.TheVariants.{Memory};
 ghost use Rattle.life_base.specs.Refusal.{fault_of};
-ghost use Rattle.life_base.specs.Tree.{depth};
-ghost use Rattle.life_mc.specs.Squares.{HasStatesUpTo};
-ghost use Rattle.life_mc.specs.Macrocell.{largest_state};
 ghost use Rattle.life_mc.specs.Cells.{node_lines};
-ghost use Rattle.life_canon.specs.Universe.{least_level};
 ghost use Rattle.life_canon.specs.Listing.{square_file, canonical_file};
 ghost use Rattle.life_canon.specs.Least.{IsLeast};
 ghost use Rattle.life_canon.specs.Store.{IsTrimmed, universe_in};
+ghost use Rattle.life_canon.specs.Walking.{MayWalkPattern};
 
 use crate::line_sink::LineSink;
 use crate::node_walk::walk_pattern;
@@ -55,10 +52,7 @@ fn numbered<S: SharedSquares>(
     pattern: &Pattern,
     numbers: IdNumbers,
 ) -> Result<McFile, Kind>
-    requires known { S.knows squares.now pattern.now.root }
-    requires states { HasStatesUpTo (largest_state pattern.now.rule)
-        (S.content squares.now pattern.now.root) }
-    requires level { least_level pattern.now.rule ≤ depth (S.content squares.now pattern.now.root) }
+    requires root { MayWalkPattern (S.knows squares.now) (S.content squares.now) pattern.now }
     requires none { numbers.ids ≡ [] }
     ensures file { IfOk result (λ file. file ≡ square_file pattern.now.rule
         pattern.now.generation (S.content squares.now pattern.now.root)) }

@@ -1,13 +1,10 @@
 //! The walk that numbers the squares of a pattern and gives their lines.
 
 ghost use Rattle.std.specs.Prelude.{◌≡◌, ◌==◌, ◌&&◌, ◌⊎◌, ◌≤◌, [], true, false, map, All, OnOk, OnErr, IfErr, MatchOption};
-ghost use Rattle.life_base.specs.declared.kind.Kind.TheVariants.{Memory};
 ghost use Rattle.life_base.specs.Tree.{depth, is_blank_tree};
-ghost use Rattle.life_mc.specs.Macrocell.{largest_state};
-ghost use Rattle.life_mc.specs.Squares.{HasStatesUpTo};
 ghost use Rattle.life_canon.specs.Universe.{is_life, least_level};
 ghost use Rattle.life_canon.specs.Listing.{is_small, is_in, number_of, listed, lines_for};
-ghost use Rattle.life_canon.specs.Walking.{MayWalk, Walked, LacksRoom};
+ghost use Rattle.life_canon.specs.Walking.{MayWalk, MayWalkPattern, Walked, RefusesWalk};
 
 use crate::line_sink::LineSink;
 use crate::pattern::Pattern;
@@ -75,9 +72,8 @@ fn walk_square<S: SharedSquares, D, L: LineSink<D>>(
         id (lines.old, device.old) (lines.new, device.new) numbers.old.ids numbers.new.ids result }
     ensures places { OnOk result (numbers.new.room ≡ numbers.old.room) }
     ensures ready { OnOk result (L.ready (lines.new, device.new)) }
-    ensures refused { IfErr result (λ kind. L.refuses (lines.new, device.new) kind
-        ⊎ ((kind ≡ Memory) × LacksRoom (S.knows squares.now) (S.content squares.now)
-        (least_level rule.now) numbers.old.room)) }
+    ensures refused { IfErr result (RefusesWalk (L.refuses (lines.new, device.new))
+        (S.knows squares.now) (S.content squares.now) rule.now numbers.old.room) }
 {
     if let Some(number) = known_number(squares, level, numbers, id) {
         return Ok(number);
@@ -108,9 +104,8 @@ fn walk_new_square<S: SharedSquares, D, L: LineSink<D>>(
         id (lines.old, device.old) (lines.new, device.new) numbers.old.ids numbers.new.ids result }
     ensures places { OnOk result (numbers.new.room ≡ numbers.old.room) }
     ensures ready { OnOk result (L.ready (lines.new, device.new)) }
-    ensures refused { IfErr result (λ kind. L.refuses (lines.new, device.new) kind
-        ⊎ ((kind ≡ Memory) × LacksRoom (S.knows squares.now) (S.content squares.now)
-        (least_level rule.now) numbers.old.room)) }
+    ensures refused { IfErr result (RefusesWalk (L.refuses (lines.new, device.new))
+        (S.knows squares.now) (S.content squares.now) rule.now numbers.old.room) }
 {
     if is_leaf(rule, level) {
         let number = numbers.push(id)?;
@@ -136,10 +131,7 @@ pub(crate) fn walk_pattern<S: SharedSquares, D, L: LineSink<D>>(
     lines: &mut L,
     device: &mut D,
 ) -> Result<(), Kind>
-    requires known { S.knows squares.now pattern.now.root }
-    requires level { least_level pattern.now.rule ≤ depth (S.content squares.now pattern.now.root) }
-    requires states { HasStatesUpTo (largest_state pattern.now.rule)
-        (S.content squares.now pattern.now.root) }
+    requires root { MayWalkPattern (S.knows squares.now) (S.content squares.now) pattern.now }
     requires none { numbers.ids ≡ [] }
     requires ready { L.ready (lines.old, device.old) }
     ensures took { OnOk result (L.took (lines.old, device.old) (lines.new, device.new)
@@ -149,9 +141,8 @@ pub(crate) fn walk_pattern<S: SharedSquares, D, L: LineSink<D>>(
         (lines_for pattern.now.rule (listed (S.content squares.now pattern.now.root)
         (least_level pattern.now.rule)))) }
     ensures ready { OnOk result (L.ready (lines.new, device.new)) }
-    ensures refused { IfErr result (λ kind. L.refuses (lines.new, device.new) kind
-        ⊎ ((kind ≡ Memory) × LacksRoom (S.knows squares.now) (S.content squares.now)
-        (least_level pattern.now.rule) numbers.room)) }
+    ensures refused { IfErr result (RefusesWalk (L.refuses (lines.new, device.new))
+        (S.knows squares.now) (S.content squares.now) pattern.now.rule numbers.room) }
 {
     let level = squares.level(pattern.root);
     walk_square(

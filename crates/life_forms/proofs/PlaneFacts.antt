@@ -81,9 +81,6 @@ ordered low high h a b =
     let e = high-end in
     record { least = omega (arith, ints); order = h; most = omega (arith, ints) }
 
-in-order : (a b x : ℤ) → a ≤ℤ x → x ≤ℤ b → a ≤ℤ b
-in-order a b x h k = omega (arith, ints)
-
 pub columns-ordered : (t : Tree) (box : Bounds) → depth t ≤ MAX_LEVEL → quad.IsLeastBox t box → IsOrdered box.left box.right
 columns-ordered t box low least =
     let inside = least.inside _ _ least.at_left.1 in

@@ -1,40 +1,18 @@
 -- Worked forms: the eight images of a glider at four places, a blank pattern, 256 states, wide sides. Lines are computed in a small square, which
 -- gives those of the whole plane.
-use Rattle.std.proofs.Common.{◌≡◌, ℕ, ◌-◌, ◌^◌, ◌&&◌, true, false, List, [], ◌∷◌, ◌++◌, map, fold, refl, ℤ, pos, negsuc, neg_ℤ, ◌+ℤ◌, if◌then◌else◌, codes, nat_cmp, is_gt, arith}
+use Rattle.std.proofs.Common.{◌≡◌, ℕ, ◌-◌, ◌^◌, true, false, List, [], ◌∷◌, ◌++◌, map, fold, refl, ℤ, pos, negsuc, neg_ℤ, ◌+ℤ◌, if◌then◌else◌, codes, nat_cmp, is_gt, arith}
 use Rattle.std.proofs.lemmas.Int.{ints}
-use Rattle.std.specs.Ordering.{int_eq}
 use Rattle.std.specs.Int.{int_min}
 use Rattle.std.specs.Cmp.Lexicographic.{slice_cmp}
-use Rattle.life_base.specs.declared.rule.Near.TheVariants.{Moore}
-use Rattle.life_base.specs.declared.rule.Rule.{Rule}
-use Rattle.life_base.specs.declared.rule.Rule.TheVariants.{Life, Named}
+use Rattle.life_base.specs.declared.rule.Rule.TheVariants.{Named}
 use Rattle.life_mc.specs.declared.line.Line.{Line}
 use Rattle.life_mc.specs.declared.line.Line.TheVariants.{Leaf, Quad}
 use Rattle.life_mc.specs.Writing.{mc_text, row_cells}
-use Rattle.life_canon.specs.Universe.{Universe, square, corner, centred, whole}
+use Rattle.life_canon.specs.Universe.{square, corner, centred, whole}
 use Rattle.life_canon.specs.Listing.{listed, rows_of, canonical_file}
+use Rattle.life_canon.proofs.Spots.{Spot, spot, life, pattern_of, canonical_lines}
 use Rattle.life_forms.specs.Turns.{Turn, turns, turn_of, column_of, row_of, back, after}
 use Rattle.life_forms.specs.Forms.{IsInPlace, at_zero, at_edge, edge}
-
--- a cell with a state
-record Spot : Type 0 where
-  x : ℤ
-  y : ℤ
-  state : ℕ
-
--- the plane with these cells
-abbrev spots : List Spot → ℤ → ℤ → ℕ
-spots [] x y = 0
-spots (s ∷ ss) x y = if int_eq x s.x && int_eq y s.y then s.state else spots ss x y
-
-abbrev spot : ℤ → ℤ → ℕ → Spot
-spot x y state = record { x = x; y = y; state = state }
-
-abbrev life : Rule
-life = Life (record { sets = record { births = 8; survivals = 12 }; near = Moore })
-
-abbrev pattern_of : Rule → List Spot → Universe
-pattern_of rule cells = record { rule = rule; generation = 0; cell = spots cells }
 
 -- where a turn puts a cell
 abbrev turned_spot : Turn → Spot → Spot
@@ -59,9 +37,6 @@ moved_spots (s ∷ ss) = map (shifted_spot (neg_ℤ (least_x s ss)) (neg_ℤ (le
 abbrev glider_at : ℤ → ℤ → List Spot
 glider_at a b =
     map (shifted_spot a b) (spot (pos 1) (pos 0) 1 ∷ spot (pos 2) (pos 1) 1 ∷ spot (pos 0) (pos 2) 1 ∷ spot (pos 1) (pos 2) 1 ∷ spot (pos 2) (pos 2) 1 ∷ [])
-
-abbrev canonical_lines : ℕ → Universe → List Line
-canonical_lines top u = (canonical_file top u).lines
 
 -- the cells of the eight images, moved, in the order of `turns`
 abbrev eight_images : List Spot → List (List Spot)

@@ -1,5 +1,6 @@
 -- Shifts, least boxes and moved forms.
 use Rattle.std.proofs.Common.{◌≡◌, ◌≢◌, ◌⊎◌, inl, inr, ℕ, zero, suc, ◌<◌, ◌≤◌, ◌^◌, Bool, true, false, ◌||◌, List, refl, sym, ap, ap₂, ◌∙◌, subst, subst₂, ℤ, pos, negsuc, neg_ℤ, ◌+ℤ◌, ◌≤ℤ◌, ◌<ℤ◌, arith, true≢false}
+use Rattle.std.proofs.lemmas.Bool.{cases_Bool}
 use Rattle.std.proofs.lemmas.Int.{ints, by_lt_z}
 use Rattle.life_canon.specs.Universe.{Universe, IsSame, IsBlankOutside, IsWithin, corner}
 use Rattle.life_base.specs.declared.bounds.Bounds.{Bounds}
@@ -108,17 +109,19 @@ abbrev some_from : (ℤ → Bool) → ℤ → ℕ → Bool
 some_from p c zero = false
 some_from p c (suc n) = p c || some_from p (c +ℤ pos 1) n
 
--- c is the first number, of n from low on, at which the test holds; and the last one
-record IsFirst (p : ℤ → Bool) (low : ℤ) (n : ℕ) (c : ℤ) : Type 0 where
+-- c is one of n numbers from low on, and the test holds there
+record IsOne (p : ℤ → Bool) (low : ℤ) (n : ℕ) (c : ℤ) : Type 0 where
   from : low ≤ℤ c
   to : c <ℤ (low +ℤ pos n)
   holds : p c ≡ true
+
+-- it is the first one; and the last one
+record IsFirst (p : ℤ → Bool) (low : ℤ) (n : ℕ) (c : ℤ) : Type 0 where
+  one : IsOne p low n c
   before : (x : ℤ) → low ≤ℤ x → x <ℤ c → p x ≡ false
 
 record IsLast (p : ℤ → Bool) (low : ℤ) (n : ℕ) (c : ℤ) : Type 0 where
-  from : low ≤ℤ c
-  to : c <ℤ (low +ℤ pos n)
-  holds : p c ≡ true
+  one : IsOne p low n c
   behind : (x : ℤ) → c <ℤ x → x <ℤ (low +ℤ pos n) → p x ≡ false
 
 abbrev NoneFrom : (ℤ → Bool) → ℤ → ℕ → Type 0
@@ -127,68 +130,48 @@ NoneFrom p low n = (x : ℤ) → low ≤ℤ x → x <ℤ (low +ℤ pos n) → p 
 at-or-above : (low x : ℤ) → low ≤ℤ x → (x ≡ low) ⊎ ((low +ℤ pos 1) ≤ℤ x)
 at-or-above low x h = grind (arith, ints)
 
-bool-cases : (b : Bool) → (b ≡ true) ⊎ (b ≡ false)
-bool-cases true = inl refl
-bool-cases false = inr refl
+one-here : (p : ℤ → Bool) (low : ℤ) (n : ℕ) → p low ≡ true → IsOne p low (suc n) low
+one-here p low n e = record { from = omega (arith, ints); to = omega (arith, ints); holds = e }
 
-first-step : (p : ℤ → Bool) (low : ℤ) (n : ℕ) → (p low ≡ true) ⊎ (p low ≡ false) → NoneFrom p (low +ℤ pos 1) n ⊎ ((c : ℤ) × IsFirst p (low +ℤ pos 1) n c)
-    → NoneFrom p low (suc n) ⊎ ((c : ℤ) × IsFirst p low (suc n) c)
-first-step p low n (inl e) rest =
-    inr (low, record { from = omega (arith, ints); to = omega (arith, ints); holds = e; before = λ x h k. absurd (omega (arith, ints)) })
-first-step p low n (inr e) (inl none) =
-    inl (λ x h k. elim (at-or-above low x h) [ inl here ↦ ap p here ∙ e | inr above ↦ none x above (omega (arith, ints)) ])
-first-step p low n (inr e) (inr (c, f)) =
-    let from = f.from in
-    let to = f.to in
+one-more : (p : ℤ → Bool) (low : ℤ) (n : ℕ) (c : ℤ) → IsOne p (low +ℤ pos 1) n c → IsOne p low (suc n) c
+one-more p low n c o = record { from = omega (arith, ints); to = omega (arith, ints); holds = o.holds }
+
+none-more : (p : ℤ → Bool) (low : ℤ) (n : ℕ) → p low ≡ false → NoneFrom p (low +ℤ pos 1) n → NoneFrom p low (suc n)
+none-more p low n e none x h k = elim (at-or-above low x h) [ inl here ↦ ap p here ∙ e | inr above ↦ none x above (omega (arith, ints)) ]
+
+-- none of n numbers from low on passes the test, or one is such; and so it is with one number more in front
+abbrev Found : (ℤ → Bool) → (ℤ → ℕ → ℤ → Type 0) → ℤ → ℕ → Type 0
+Found p Is low n = NoneFrom p low n ⊎ ((c : ℤ) × Is low n c)
+
+abbrev Goes : (ℤ → Bool) → (ℤ → ℕ → ℤ → Type 0) → Type 0
+Goes p Is = (low : ℤ) (n : ℕ) → (p low ≡ true) ⊎ (p low ≡ false) → Found p Is (low +ℤ pos 1) n → Found p Is low (suc n)
+
+found-of : (p : ℤ → Bool) (Is : ℤ → ℕ → ℤ → Type 0) → Goes p Is → (low : ℤ) (n : ℕ) → Found p Is low n
+found-of p Is go low zero = inl (λ x h k. absurd (omega (arith, ints)))
+found-of p Is go low (suc n) = go low n (cases_Bool (p low)) (found-of p Is go (low +ℤ pos 1) n)
+
+first-goes : (p : ℤ → Bool) → Goes p (IsFirst p)
+first-goes p low n (inl e) rest = inr (low, record { one = one-here p low n e; before = λ x h k. absurd (omega (arith, ints)) })
+first-goes p low n (inr e) (inl none) = inl (none-more p low n e none)
+first-goes p low n (inr e) (inr (c, f)) =
     inr (
       c,
       record {
-        from = omega (arith, ints);
-        to = omega (arith, ints);
-        holds = f.holds;
+        one = one-more p low n c f.one;
         before = λ x h k. elim (at-or-above low x h) [ inl here ↦ ap p here ∙ e | inr above ↦ f.before x above k ];
       },
     )
 
-first-of : (p : ℤ → Bool) (low : ℤ) (n : ℕ) → NoneFrom p low n ⊎ ((c : ℤ) × IsFirst p low n c)
-first-of p low zero = inl (λ x h k. absurd (omega (arith, ints)))
-first-of p low (suc n) = first-step p low n (bool-cases (p low)) (first-of p (low +ℤ pos 1) n)
-
-last-step : (p : ℤ → Bool) (low : ℤ) (n : ℕ) → (p low ≡ true) ⊎ (p low ≡ false) → NoneFrom p (low +ℤ pos 1) n ⊎ ((c : ℤ) × IsLast p (low +ℤ pos 1) n c)
-    → NoneFrom p low (suc n) ⊎ ((c : ℤ) × IsLast p low (suc n) c)
-last-step p low n at (inr (c, f)) =
-    let from = f.from in
-    let to = f.to in
-    inr (
-      c,
-      record {
-        from = omega (arith, ints);
-        to = omega (arith, ints);
-        holds = f.holds;
-        behind = λ x h k. f.behind x h (omega (arith, ints));
-      },
-    )
-last-step p low n (inl e) (inl none) =
-    inr (
-      low,
-      record {
-        from = omega (arith, ints);
-        to = omega (arith, ints);
-        holds = e;
-        behind = λ x h k. none x (omega (arith, ints)) (omega (arith, ints));
-      },
-    )
-last-step p low n (inr e) (inl none) =
-    inl (λ x h k. elim (at-or-above low x h) [ inl here ↦ ap p here ∙ e | inr above ↦ none x above (omega (arith, ints)) ])
-
-last-of : (p : ℤ → Bool) (low : ℤ) (n : ℕ) → NoneFrom p low n ⊎ ((c : ℤ) × IsLast p low n c)
-last-of p low zero = inl (λ x h k. absurd (omega (arith, ints)))
-last-of p low (suc n) = last-step p low n (bool-cases (p low)) (last-of p (low +ℤ pos 1) n)
+last-goes : (p : ℤ → Bool) → Goes p (IsLast p)
+last-goes p low n at (inr (c, f)) = inr (c, record { one = one-more p low n c f.one; behind = λ x h k. f.behind x h (omega (arith, ints)) })
+last-goes p low n (inl e) (inl none) =
+    inr (low, record { one = one-here p low n e; behind = λ x h k. none x (omega (arith, ints)) (omega (arith, ints)) })
+last-goes p low n (inr e) (inl none) = inl (none-more p low n e none)
 
 -- where some number of them passes the test, there is one
 some-true : (q : ℤ → Bool) (low : ℤ) (n : ℕ) → some_from q low n ≡ true → (y : ℤ) × (q y ≡ true)
 some-true q low zero e = absurd (true≢false (sym e))
-some-true q low (suc n) e = elim (bool-cases (q low)) [
+some-true q low (suc n) e = elim (cases_Bool (q low)) [
   | inl here ↦ (low, here)
   | inr lacks ↦ some-true q (low +ℤ pos 1) n (sym (ap (λ b. b || some_from q (low +ℤ pos 1) n) lacks) ∙ e)
 ]
@@ -199,7 +182,7 @@ some-has q low zero y e h k = absurd (omega (arith, ints))
 some-has q low (suc n) y e h k =
     elim (at-or-above low y h) [
       | inl here ↦ ap (λ b. b || some_from q (low +ℤ pos 1) n) (sym (ap q here) ∙ e)
-      | inr above ↦ elim (bool-cases (q low)) [
+      | inr above ↦ elim (cases_Bool (q low)) [
         | inl has ↦ ap (λ b. b || some_from q (low +ℤ pos 1) n) has
         | inr lacks ↦ ap (λ b. b || some_from q (low +ℤ pos 1) n) lacks ∙ some-has q (low +ℤ pos 1) n y e above (omega (arith, ints))
       ]
@@ -299,17 +282,17 @@ box-of top u outside l r t b first last upper lower = (
           not-before _ _ _ _ upper y row w.1.0,
           not-behind _ _ _ _ lower y row w.1.1,
         );
-    at_left = in-column top u.cell l first.holds;
-    at_right = in-column top u.cell r last.holds;
-    at_top = in-row top u.cell t upper.holds;
-    at_bottom = in-row top u.cell b lower.holds;
+    at_left = in-column top u.cell l first.one.holds;
+    at_right = in-column top u.cell r last.one.holds;
+    at_top = in-row top u.cell t upper.one.holds;
+    at_bottom = in-row top u.cell b lower.one.holds;
   },
 )
 
 -- where no column lives, all is blank
 blank-by-columns : (top : ℕ) (u : Universe) → IsBlankOutside top u.cell → NoneFrom (column_lives top u.cell) (corner top) (2 ^ top) → IsBlank u
 blank-by-columns top u outside none x y =
-    elim (bool-cases (lives (u.cell x y))) [
+    elim (cases_Bool (lives (u.cell x y))) [
       | inr e ↦ none-lives _ e
       | inl e ↦
           let some = lives-some _ e in
@@ -318,19 +301,19 @@ blank-by-columns top u outside none x y =
     ]
 
 box-or-blank : (top : ℕ) (u : Universe) → IsBlankOutside top u.cell
-    → NoneFrom (column_lives top u.cell) (corner top) (2 ^ top) ⊎ ((c : ℤ) × IsFirst (column_lives top u.cell) (corner top) (2 ^ top) c)
-    → NoneFrom (column_lives top u.cell) (corner top) (2 ^ top) ⊎ ((c : ℤ) × IsLast (column_lives top u.cell) (corner top) (2 ^ top) c)
-    → NoneFrom (row_lives top u.cell) (corner top) (2 ^ top) ⊎ ((c : ℤ) × IsFirst (row_lives top u.cell) (corner top) (2 ^ top) c)
-    → NoneFrom (row_lives top u.cell) (corner top) (2 ^ top) ⊎ ((c : ℤ) × IsLast (row_lives top u.cell) (corner top) (2 ^ top) c)
+    → Found (column_lives top u.cell) (IsFirst (column_lives top u.cell)) (corner top) (2 ^ top)
+    → Found (column_lives top u.cell) (IsLast (column_lives top u.cell)) (corner top) (2 ^ top)
+    → Found (row_lives top u.cell) (IsFirst (row_lives top u.cell)) (corner top) (2 ^ top)
+    → Found (row_lives top u.cell) (IsLast (row_lives top u.cell)) (corner top) (2 ^ top)
     → IsBlank u ⊎ HasBox u
 box-or-blank top u outside (inl none) second third fourth = inl (blank-by-columns top u outside none)
 box-or-blank top u outside (inr (l, first)) (inl none) third fourth = inl (blank-by-columns top u outside none)
 box-or-blank top u outside (inr (l, first)) (inr (r, last)) (inl none) fourth =
-    let found = in-column top u.cell l first.holds in
+    let found = in-column top u.cell l first.one.holds in
     let w = seen top u.cell outside l found.0 found.1 in
     absurd (true≢false (sym (row-has top u.cell outside l found.0 found.1) ∙ none found.0 w.1.0 w.1.1))
 box-or-blank top u outside (inr (l, first)) (inr (r, last)) (inr (t, upper)) (inl none) =
-    let found = in-column top u.cell l first.holds in
+    let found = in-column top u.cell l first.one.holds in
     let w = seen top u.cell outside l found.0 found.1 in
     absurd (true≢false (sym (row-has top u.cell outside l found.0 found.1) ∙ none found.0 w.1.0 w.1.1))
 box-or-blank top u outside (inr (l, first)) (inr (r, last)) (inr (t, upper)) (inr (b, lower)) = inr (box-of top u outside l r t b first last upper lower)
@@ -338,8 +321,11 @@ box-or-blank top u outside (inr (l, first)) (inr (r, last)) (inr (t, upper)) (in
 -- a pattern of the plane is blank, or has a least box
 pub has-box : (top : ℕ) (u : Universe) → IsBlankOutside top u.cell → IsBlank u ⊎ HasBox u
 has-box top u outside =
-    box-or-blank top u outside (first-of _ (corner top) (2 ^ top)) (last-of _ (corner top) (2 ^ top)) (first-of _ (corner top) (2 ^ top))
-    (last-of _ (corner top) (2 ^ top))
+    let column = column_lives top u.cell in
+    let row = row_lives top u.cell in
+    box-or-blank top u outside (found-of column (IsFirst column) (first-goes column) (corner top) (2 ^ top))
+    (found-of column (IsLast column) (last-goes column) (corner top) (2 ^ top)) (found-of row (IsFirst row) (first-goes row) (corner top) (2 ^ top))
+    (found-of row (IsLast row) (last-goes row) (corner top) (2 ^ top))
 
 -- ---- places
 
@@ -448,7 +434,7 @@ moved-seen top u v moved outside (inr (box, least)) x y some =
     )
 
 pub zero-unless : (n : ℕ) → (n ≢ 0 → ⊥) → n ≡ 0
-zero-unless n h = elim (bool-cases (lives n)) [ inl e ↦ absurd (h (lives-some n e)) | inr e ↦ none-lives n e ]
+zero-unless n h = elim (cases_Bool (lives n)) [ inl e ↦ absurd (h (lives-some n e)) | inr e ↦ none-lives n e ]
 
 same-limit : (a b : Rule) (m n : ℕ) → a ≡ b → m ≡ n → n ≤ largest_state a → m ≤ largest_state b
 same-limit a b m n e f h = subst₂ (λ (r : Rule) (k : ℕ). k ≤ largest_state r) e (sym f) h

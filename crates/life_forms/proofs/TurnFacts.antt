@@ -2,7 +2,7 @@
 use Rattle.std.proofs.Common.{◌≡◌, ℕ, zero, suc, ◌+◌, ◌≤◌, ◌^◌, Bool, true, false, refl, ap₂, ◌∙◌, ℤ, pos, negsuc, neg_ℤ, ◌+ℤ◌, arith, Contains, lit<}
 use Rattle.std.proofs.lemmas.Int.{ints}
 use Rattle.life_canon.specs.Universe.{Universe, IsBlankOutside, IsWithin, corner}
-use Rattle.life_forms.specs.Turns.{Turn, turn_of, turns, backwards, counted, column_of, row_of, image, differ, after, back}
+use Rattle.life_forms.specs.Turns.{Turn, turn_of, turns, upright, backwards, counted, column_of, row_of, image, differ, after, back}
 use Rattle.life_forms.specs.Forms.{IsShift, edge}
 use Rattle.life_forms.specs.Laws.{TurnsAreEight, TurnsAreClosed, TurnsHaveInverses, ImagesStayOnPlane, ImagesKeepShifts}
 
@@ -36,26 +36,21 @@ counted-twice false b x = refl
 counted-twice true false x = refl
 counted-twice true true x = backwards-twice x
 
-column-after : (fe fc fr se sc sr : Bool) (x y : ℤ)
-    → column_of (turn_of fe fc fr) (column_of (turn_of se sc sr) x y) (row_of (turn_of se sc sr) x y)
-    ≡ column_of (after (turn_of fe fc fr) (turn_of se sc sr)) x y
-column-after false fc fr se sc sr x y = counted-twice fc sc _
-column-after true fc fr true sc sr x y = counted-twice fc sr x
-column-after true fc fr false sc sr x y = counted-twice fc sr y
+-- the turn t takes the place (v, w) to the place that the turn q takes (x, y) to
+abbrev IsTaken : Turn → ℤ → ℤ → Turn → ℤ → ℤ → Type 0
+IsTaken t v w q x y = (column_of t v w ≡ column_of q x y) × (row_of t v w ≡ row_of q x y)
 
-row-after : (fe fc fr se sc sr : Bool) (x y : ℤ)
-    → row_of (turn_of fe fc fr) (column_of (turn_of se sc sr) x y) (row_of (turn_of se sc sr) x y)
-    ≡ row_of (after (turn_of fe fc fr) (turn_of se sc sr)) x y
-row-after false fc fr se sc sr x y = counted-twice fr sr _
-row-after true fc fr true sc sr x y = counted-twice fr sc y
-row-after true fc fr false sc sr x y = counted-twice fr sc x
+placed-after : (fe fc fr se sc sr : Bool) (x y : ℤ)
+    → IsTaken (turn_of fe fc fr) (column_of (turn_of se sc sr) x y) (row_of (turn_of se sc sr) x y) (after (turn_of fe fc fr) (turn_of se sc sr)) x y
+placed-after false fc fr se sc sr x y = (counted-twice fc sc _, counted-twice fr sr _)
+placed-after true fc fr true sc sr x y = (counted-twice fc sr x, counted-twice fr sc y)
+placed-after true fc fr false sc sr x y = (counted-twice fc sr y, counted-twice fr sc x)
 
 pub turns-are-closed : TurnsAreClosed
 turns-are-closed f s u = record {
   rule = refl;
   generation = refl;
-  cells = λ x y. ap₂ u.cell (column-after f.exchange f.columns f.rows s.exchange s.columns s.rows x y)
-      (row-after f.exchange f.columns f.rows s.exchange s.columns s.rows x y);
+  cells = λ x y. let p = placed-after f.exchange f.columns f.rows s.exchange s.columns s.rows x y in ap₂ u.cell p.0 p.1;
 }
 
 -- ---- taken back
@@ -64,21 +59,16 @@ counted-back : (a : Bool) (x : ℤ) → counted a (counted a x) ≡ x
 counted-back false x = refl
 counted-back true x = backwards-twice x
 
-column-back : (e c r : Bool) (x y : ℤ)
-    → column_of (turn_of e c r) (column_of (back (turn_of e c r)) x y) (row_of (back (turn_of e c r)) x y) ≡ x
-column-back false c r x y = counted-back c x
-column-back true c r x y = counted-back c x
-
-row-back : (e c r : Bool) (x y : ℤ)
-    → row_of (turn_of e c r) (column_of (back (turn_of e c r)) x y) (row_of (back (turn_of e c r)) x y) ≡ y
-row-back false c r x y = counted-back r y
-row-back true c r x y = counted-back r y
+placed-back : (e c r : Bool) (x y : ℤ)
+    → IsTaken (turn_of e c r) (column_of (back (turn_of e c r)) x y) (row_of (back (turn_of e c r)) x y) upright x y
+placed-back false c r x y = (counted-back c x, counted-back r y)
+placed-back true c r x y = (counted-back c x, counted-back r y)
 
 pub turns-have-inverses : TurnsHaveInverses
 turns-have-inverses t u = record {
   rule = refl;
   generation = refl;
-  cells = λ x y. ap₂ u.cell (column-back t.exchange t.columns t.rows x y) (row-back t.exchange t.columns t.rows x y);
+  cells = λ x y. let p = placed-back t.exchange t.columns t.rows x y in ap₂ u.cell p.0 p.1;
 }
 
 -- ---- shifts
@@ -95,21 +85,18 @@ counted-shifted true x d =
     let here = backwards-is x in
     omega (arith, ints)
 
+-- what takes the cells of the one image to those of the other is a shift
+shift-as : (t : Turn) (u v : Universe) → IsShift u v → (columns rows : ℤ)
+    → ((x y : ℤ) → (image t v).cell (x +ℤ columns) (y +ℤ rows) ≡ (image t u).cell x y) → IsShift (image t u) (image t v)
+shift-as t u v s columns rows cells = record { rule = s.rule; generation = s.generation; columns = columns; rows = rows; cells = cells }
+
 shifts-kept : (e c r : Bool) (u v : Universe) → IsShift u v → IsShift (image (turn_of e c r) u) (image (turn_of e c r) v)
-shifts-kept false c r u v s = record {
-  rule = s.rule;
-  generation = s.generation;
-  columns = signed c s.columns;
-  rows = signed r s.rows;
-  cells = λ x y. ap₂ v.cell (counted-shifted c x s.columns) (counted-shifted r y s.rows) ∙ s.cells (counted c x) (counted r y);
-}
-shifts-kept true c r u v s = record {
-  rule = s.rule;
-  generation = s.generation;
-  columns = signed r s.rows;
-  rows = signed c s.columns;
-  cells = λ x y. ap₂ v.cell (counted-shifted c y s.columns) (counted-shifted r x s.rows) ∙ s.cells (counted c y) (counted r x);
-}
+shifts-kept false c r u v s =
+    shift-as (turn_of false c r) u v s (signed c s.columns) (signed r s.rows)
+    (λ x y. ap₂ v.cell (counted-shifted c x s.columns) (counted-shifted r y s.rows) ∙ s.cells (counted c x) (counted r y))
+shifts-kept true c r u v s =
+    shift-as (turn_of true c r) u v s (signed r s.rows) (signed c s.columns)
+    (λ x y. ap₂ v.cell (counted-shifted c y s.columns) (counted-shifted r x s.rows) ∙ s.cells (counted c y) (counted r x))
 
 pub images-keep-shifts : ImagesKeepShifts
 images-keep-shifts t u v s = shifts-kept t.exchange t.columns t.rows u v s

@@ -10,10 +10,11 @@ use Rattle.life_canon.proofs.macrocell.numbered.Goals as goal
 
 pub invariant_of-result : goal.invariant_of-result
 invariant_of-result g c =
+    let may = c.requires.root in
     let root = g.S.Squares.content c.args.squares.now c.args.pattern.now.root in
     let lines : List Line = lines_for c.args.pattern.now.rule (listed root (least_level c.args.pattern.now.rule)) in
     let P : Rule → Type 0 = λ r. AreSquares MAX_LEVEL r c.from_vec.result in
     subst P (sym c.in_ok-copy.ensures.ok)
-    (valid-lines MAX_LEVEL c.args.pattern.now.rule root (g.met.S.Squares.full _ _ c.requires.known) c.requires.states (g.met.S.Squares.low _ _ c.requires.known)
-    _ refl c.from_vec.result
+    (valid-lines MAX_LEVEL c.args.pattern.now.rule root (g.met.S.Squares.full _ _ may.known) may.states (g.met.S.Squares.low _ _ may.known) _ refl
+    c.from_vec.result
     (c.from_vec.ensures ∙ c.in_ok-walk_pattern.ensures.took ∙ ap (λ l. l ++ lines) c.new.ensures.items))

@@ -5,10 +5,10 @@ use Rattle.life_canon.proofs.node_walk.walk_pattern.Goals as goal
 
 pub walk_square-requires-clause-square : goal.walk_square-requires-clause-square
 walk_square-requires-clause-square g c = record {
-  known = c.requires.known;
+  known = c.requires.root.known;
   level = c.level-level.ensures.level;
-  high = root-high c.args.pattern.now.rule _ (rw c.level-level.ensures.level c.requires.level);
-  states = c.requires.states;
+  high = root-high c.args.pattern.now.rule _ (rw c.level-level.ensures.level c.requires.root.level);
+  states = c.requires.root.states;
   numbers = rw c.requires.none (λ k d l. absurd (omega arith));
   closed = none-numbered c.args.pattern.now.rule _ (ap (map (g.S.Squares.content c.args.squares.now)) c.requires.none);
 }

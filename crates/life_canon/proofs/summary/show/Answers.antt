@@ -1,5 +1,5 @@
 use Rattle.std.proofs.Common.{inl, inr}
-use Rattle.std.proofs.lemmas.Result.{IfOk-weaker, IfErr-weaker, err_from_is_err_and}
+use Rattle.std.proofs.lemmas.Result.{IfOk-weaker, IfErr-weaker}
 use Rattle.life_canon.proofs.Stored.{no-room, reads-err, reads-still}
 use Rattle.life_canon.proofs.summary.show.Goals as goal
 
@@ -13,9 +13,7 @@ pub returns-clause-fault : goal.returns-clause-fault
 returns-clause-fault c = IfErr-weaker c.five_lines_of.result _ _ (λ fault e. inr (inl e)) c.five_lines_of.ensures.memory
 
 pub returns-in_err-pattern-clause-reads : goal.returns-in_err-pattern-clause-reads
-returns-in_err-pattern-clause-reads c =
-    let p = err_from_is_err_and c.from_residual.result c.from_residual.ensures.1 in
-    rw (p.1, p.2) (reads-err c.in_err-pattern.ensures.reads)
+returns-in_err-pattern-clause-reads c = reads-err c.from_residual.ensures.1 c.in_err-pattern.ensures.reads
 
 pub returns-clause-reads : goal.returns-clause-reads
 returns-clause-reads c = reads-still c.in_ok-pattern.ensures.reads (no-room c.five_lines_of.ensures.memory)

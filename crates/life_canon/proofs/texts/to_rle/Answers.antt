@@ -1,4 +1,4 @@
-use Rattle.std.proofs.lemmas.Result.{IfOk-weaker, err_from_is_err_and}
+use Rattle.std.proofs.lemmas.Result.{IfOk-weaker}
 use Rattle.life_canon.proofs.CallFacts.{rle-fault}
 use Rattle.life_canon.proofs.Stored.{not-stored, reads-err, reads-still}
 use Rattle.life_canon.proofs.texts.to_rle.Goals as goal
@@ -16,9 +16,7 @@ pub returns-clause-fault : goal.returns-clause-fault
 returns-clause-fault c = rle-fault c.args.bytes.now _ _ c.in_ok-pattern.ensures.pattern c.rle_of.result c.rle_of.ensures.fault
 
 pub returns-in_err-pattern-clause-reads : goal.returns-in_err-pattern-clause-reads
-returns-in_err-pattern-clause-reads c =
-    let p = err_from_is_err_and c.from_residual.result c.from_residual.ensures.1 in
-    rw (p.1, p.2) (reads-err c.in_err-pattern.ensures.reads)
+returns-in_err-pattern-clause-reads c = reads-err c.from_residual.ensures.1 c.in_err-pattern.ensures.reads
 
 pub returns-clause-reads : goal.returns-clause-reads
 returns-clause-reads c = reads-still c.in_ok-pattern.ensures.reads (not-stored _ c.rle_of.ensures.fault)

@@ -1,10 +1,9 @@
 use Rattle.std.proofs.Common.{inr, subst}
-use Rattle.std.proofs.lemmas.Result.{err_from_is_err_and}
 use Rattle.life_quad.proofs.KeepingLemmas.{keeps-then}
 use Rattle.life_canon.specs.Universe.{Universe}
 use Rattle.life_forms.specs.Needed.{LacksForMoved}
 use Rattle.life_forms.proofs.ComparingFacts.{shifts-told, stays-same}
-use Rattle.life_forms.proofs.RefusalFacts.{fault-again}
+use Rattle.life_forms.proofs.RefusalFacts.{handed-on}
 use Rattle.life_forms.proofs.compare.are_shifts.Goals as goal
 
 pub returns-in_err-second-clause-keeps : goal.returns-in_err-second-clause-keeps
@@ -14,12 +13,10 @@ pub returns-clause-keeps : goal.returns-clause-keeps
 returns-clause-keeps c = keeps-then c.in_ok-first.ensures.keeps c.in_ok-second.ensures.keeps
 
 pub returns-in_err-second-clause-needed : goal.returns-in_err-second-clause-needed
-returns-in_err-second-clause-needed c =
-    let p = err_from_is_err_and c.from_residual-in_err-second.result c.from_residual-in_err-second.ensures.1 in
+returns-in_err-second-clause-needed c full =
     let same = stays-same c.args.store.now c.moved_of.new.store c.args.b.now c.in_ok-first.ensures.keeps c.requires.b in
-    rw (p.1, p.2)
-    (λ e. inr (subst (λ (u : Universe). LacksForMoved u c.moved_of-2.new.store) same
-    (c.in_err-second.ensures.needed (fault-again c.in_err-second.field-0.0 e))))
+    inr (subst (λ (u : Universe). LacksForMoved u c.moved_of-2.new.store) same
+    (handed-on _ c.from_residual-in_err-second.ensures.1 c.in_err-second.ensures.needed full))
 
 pub returns-clause-answer : goal.returns-clause-answer
 returns-clause-answer c =

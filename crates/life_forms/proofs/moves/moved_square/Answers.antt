@@ -1,6 +1,6 @@
 use Rattle.std.proofs.Common.{inl, inr, ℤ, subst₂, ◌^◌, List, ◌∷◌, [], ◌++◌, sym, ap, ap₂, ◌∙◌, subst, take_all, to_z, of_z, to_z-of_z, w64}
 use Rattle.std.proofs.lemmas.Option.{slice_get-get_or}
-use Rattle.std.proofs.lemmas.Result.{IfOk-weaker, err_from_is_err_and}
+use Rattle.std.proofs.lemmas.Result.{IfOk-weaker}
 use Rattle.life_base.specs.declared.cell.Run.{Run}
 use Rattle.life_quad.proofs.KeepingLemmas.{keeps-then}
 use Rattle.life_base.specs.declared.cell.TheConstants.{MAX_LEVEL}
@@ -9,7 +9,7 @@ use Rattle.life_strip.specs.Needed.{SomeSquare}
 use Rattle.life_canon.specs.Needs.{SomeOfRuns}
 use Rattle.life_forms.specs.Cells.{moved_runs}
 use Rattle.life_forms.proofs.CellMoves.{next-run, runs-above, runs-more}
-use Rattle.life_forms.proofs.RefusalFacts.{full-again}
+use Rattle.life_forms.proofs.RefusalFacts.{handed-on}
 use Rattle.life_forms.proofs.moves.moved_square.Goals as goal
 
 pub add_run-requires-clause-next : goal.add_run-requires-clause-next
@@ -38,14 +38,13 @@ loop-cell-preserved g c = record {
 }
 
 pub returns-in_err-add_run-clause-needed : goal.returns-in_err-add_run-clause-needed
-returns-in_err-add_run-clause-needed g c =
+returns-in_err-add_run-clause-needed g c full =
     let P = g.S.Squares.needs_node c.add_run.new.squares in
     let cells = c.args.cells.now in
-    let p = err_from_is_err_and c.from_residual.result c.from_residual.ensures.1 in
-    rw (p.1, p.2)
-    (λ e. inl (subst₂ (λ (m n : ℤ). SomeOfRuns P (moved_runs m n cells)) (to_z-of_z c.ranges.columns) (to_z-of_z c.ranges.rows)
+    inl (subst₂ (λ (m n : ℤ). SomeOfRuns P (moved_runs m n cells)) (to_z-of_z c.ranges.columns) (to_z-of_z c.ranges.rows)
     (runs-above P (to_z w64 (of_z w64 c.args.columns)) (to_z w64 (of_z w64 c.args.rows)) cells c.loop-cell.builder.runs c.loop-cell.cell-index _
-    c.moved_run.result c.loop-cell-test.true c.loop-cell.invariant.runs c.moved_run.ensures (c.in_err-add_run.ensures.grows.needed (full-again _ e)))))
+    c.moved_run.result c.loop-cell-test.true c.loop-cell.invariant.runs c.moved_run.ensures
+    (handed-on _ c.from_residual.ensures.1 c.in_err-add_run.ensures.grows.needed full)))
 
 pub returns-clause-needed : goal.returns-clause-needed
 returns-clause-needed g c = λ e.

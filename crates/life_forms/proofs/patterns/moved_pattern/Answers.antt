@@ -1,5 +1,4 @@
 use Rattle.std.proofs.Common.{inl, inr, ℕ, ap, ◌∙◌, subst}
-use Rattle.std.proofs.lemmas.Result.{err_from_is_err_and}
 use Rattle.life_mc.specs.Macrocell.{largest_state}
 use Rattle.life_quad.specs.Moves.{trimmed}
 use Rattle.life_quad.specs.Refused.{TrimmedTo}
@@ -9,7 +8,7 @@ use Rattle.life_canon.specs.Needs.{IsNew}
 use Rattle.life_canon.specs.Store.{content}
 use Rattle.life_canon.specs.Universe.{square_universe}
 use Rattle.life_forms.proofs.PatternFacts.{few-cells, plane-trimmed, plane-moved, shift-up-to}
-use Rattle.life_forms.proofs.RefusalFacts.{full-again}
+use Rattle.life_forms.proofs.RefusalFacts.{handed-on}
 use Rattle.life_forms.proofs.patterns.moved_pattern.Goals as goal
 
 pub returns-in_err-root-clause-keeps : goal.returns-in_err-root-clause-keeps
@@ -19,14 +18,12 @@ pub returns-clause-keeps : goal.returns-clause-keeps
 returns-clause-keeps c = keeps-then c.in_ok-plane.ensures.keeps c.in_ok-root.ensures.keeps
 
 pub returns-in_err-plane-clause-needed : goal.returns-in_err-plane-clause-needed
-returns-in_err-plane-clause-needed c =
-    let p = err_from_is_err_and c.from_residual.result c.from_residual.ensures.1 in
-    let whole = (known_squares_are_full c.args.store.now c.args.square c.requires.known.0).0 in
-    rw (p.1, p.2)
-    (λ e. (
-      few-cells (content c.args.store.now c.args.square) whole c.requires.high (c.in_err-plane.ensures.room (full-again _ e)),
-      inl (c.in_err-plane.ensures.needed (full-again _ e)),
-    ))
+returns-in_err-plane-clause-needed c full =
+    let whole = (known_squares_are_full c.args.store.now c.args.square c.requires.known.0).0 in (
+      few-cells (content c.args.store.now c.args.square) whole c.requires.high
+          (handed-on _ c.from_residual.ensures.1 c.in_err-plane.ensures.room full),
+      inl (handed-on _ c.from_residual.ensures.1 c.in_err-plane.ensures.needed full),
+    )
 
 pub returns-in_err-root-clause-needed : goal.returns-in_err-root-clause-needed
 returns-in_err-root-clause-needed c = λ full.

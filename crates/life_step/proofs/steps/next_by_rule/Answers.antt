@@ -13,7 +13,7 @@ use Rattle.life_canon.specs.Needs.{IsNew}
 use Rattle.life_canon.specs.Store.{content, IsRead}
 use Rattle.life_canon.specs.Universe.{Universe, least_level}
 use Rattle.life_step.specs.Refusals.{LacksForLife, of_generation, of_root, LifeRefusal}
-use Rattle.life_step.proofs.NeedFacts.{full-again}
+use Rattle.life_step.proofs.NeedFacts.{handed-on}
 use Rattle.life_step.proofs.StepFacts.{next-small, needs-table, life-last, life-refused-read, life-stepped-read}
 use Rattle.life_step.proofs.steps.next_by_rule.Goals as goal
 
@@ -90,12 +90,10 @@ pub returns-clause-keeps : goal.returns-clause-keeps
 returns-clause-keeps c = keeps-then c.in_ok-square.ensures.keeps c.text_of_square.ensures.keeps
 
 pub returns-in_err-square-clause-needed : goal.returns-in_err-square-clause-needed
-returns-in_err-square-clause-needed c =
+returns-in_err-square-clause-needed c full =
     let root = content c.args.store.now c.args.pattern.root in
-    let p = err_from_is_err_and c.from_residual-in_err-square.result c.from_residual-in_err-square.ensures.1 in
-    rw (p.1, p.2)
-    (λ full. subst (λ q. LacksForLife q root c.next_life_generation.new.squares) (sym c.in-Life.is)
-    (of_generation (c.in_err-square.ensures.needed (full-again c.in_err-square.field-0.0 full))))
+    subst (λ q. LacksForLife q root c.next_life_generation.new.squares) (sym c.in-Life.is)
+    (of_generation (handed-on _ c.from_residual-in_err-square.ensures.1 c.in_err-square.ensures.needed full))
 
 pub returns-clause-needed : goal.returns-clause-needed
 returns-clause-needed c full =

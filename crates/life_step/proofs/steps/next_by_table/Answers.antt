@@ -16,7 +16,7 @@ use Rattle.life_canon.specs.Needs.{IsNew}
 use Rattle.life_canon.specs.Store.{content, IsRead}
 use Rattle.life_canon.specs.Universe.{Universe, least_level}
 use Rattle.life_step.specs.Refusals.{SomeOfTable, of_next, of_next_root, TableRefusal}
-use Rattle.life_step.proofs.NeedFacts.{full-again}
+use Rattle.life_step.proofs.NeedFacts.{handed-on}
 use Rattle.life_step.proofs.StateFacts.{cell-byte}
 use Rattle.life_step.proofs.StepFacts.{root-high, table-last, table-refused-read, table-stepped-read}
 use Rattle.life_step.proofs.steps.next_by_table.Goals as goal
@@ -90,17 +90,13 @@ pub returns-clause-keeps : goal.returns-clause-keeps
 returns-clause-keeps c = keeps-then c.in_ok-square.ensures.keeps c.text_of_square.ensures.keeps
 
 pub returns-in_err-square-clause-needed : goal.returns-in_err-square-clause-needed
-returns-in_err-square-clause-needed c =
+returns-in_err-square-clause-needed c full =
     let root = content c.args.store.now c.args.pattern.root in
-    let P = IsNew c.next_generation.new.squares in
-    let law : Table = c.in_ok-by_table.by_table in
-    let p = err_from_is_err_and c.from_residual-in_err-square.result c.from_residual-in_err-square.ensures.1 in
-    rw (p.1, p.2)
-    (λ full. (
+    let P = IsNew c.next_generation.new.squares in (
       c.is_rule_of.ensures.0 c.if-not-is_rule_of.false,
       subst (λ (T : Table). SomeOfTable P T root) c.in_ok-by_table.ensures.table
-          (of_next (c.in_err-square.ensures.needed (full-again c.in_err-square.field-0.0 full))),
-    ))
+          (of_next (handed-on _ c.from_residual-in_err-square.ensures.1 c.in_err-square.ensures.needed full)),
+    )
 
 pub returns-clause-needed : goal.returns-clause-needed
 returns-clause-needed c full =

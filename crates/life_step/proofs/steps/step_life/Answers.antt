@@ -24,7 +24,7 @@ returns-clause-keeps c = keeps-then c.in_ok-pattern.ensures.reads.keeps c.next_b
 
 pub returns-in_err-pattern-clause-needed : goal.returns-in_err-pattern-clause-needed
 returns-in_err-pattern-clause-needed c full =
-    inl (handed-on c.from_residual.result c.in_err-pattern.field-0.0 c.from_residual.ensures.1 c.in_err-pattern.ensures.reads.needed full)
+    inl (handed-on _ c.from_residual.ensures.1 c.in_err-pattern.ensures.reads.needed full)
 
 pub returns-clause-needed : goal.returns-clause-needed
 returns-clause-needed c full =
