@@ -18,9 +18,6 @@ pub(crate) enum Unanswered {
     BadInput,
 }
 
-/// Whether a name is that of a call of a crate, whose answer was added then.
-pub(crate) type IsCall = Result<bool, Unanswered>;
-
 impl Unanswered {
     /// The line that tells it.
     pub(crate) fn text(self) -> &'static str {

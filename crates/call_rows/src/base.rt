@@ -1,6 +1,6 @@
 //! Calls of `life_base`.
 
-use crate::answer::{IsCall, Unanswered};
+use crate::answer::Unanswered;
 use crate::row::{halves, number_of};
 use crate::shown::{Show, show_bool, show_bytes, show_each, show_rule};
 use life_base::{
@@ -22,7 +22,7 @@ fn is_named(alloc: Global, rule: &Rule, text: &[u8]) -> Result<bool, Unanswered>
 
 /// Of a B/S rule `Life` and its canonical text, `Name` of one that is kept as it stands but for whitespace around it, and of a text that is
 /// no rule the kind with which it is refused.
-fn rule(alloc: Global, out: &mut String, text: &[u8]) -> Result<(), Unanswered> {
+pub(crate) fn rule(alloc: Global, out: &mut String, text: &[u8]) -> Result<(), Unanswered> {
     match Rule::parse(alloc, text) {
         Ok(rule) if is_named(alloc, &rule, trimmed(text))? => out.push_str("Name")?,
         Ok(rule) => {
@@ -35,7 +35,7 @@ fn rule(alloc: Global, out: &mut String, text: &[u8]) -> Result<(), Unanswered> 
 }
 
 /// Whether two texts say one rule, and whether a copy of the first says it too.
-fn same_rules(alloc: Global, out: &mut String, texts: &[u8]) -> Result<(), Unanswered> {
+pub(crate) fn same_rules(alloc: Global, out: &mut String, texts: &[u8]) -> Result<(), Unanswered> {
     let (left, right) = halves(texts)?;
     let one = Rule::parse(alloc, left)?;
     let other = Rule::parse(alloc, right)?;
@@ -46,7 +46,7 @@ fn same_rules(alloc: Global, out: &mut String, texts: &[u8]) -> Result<(), Unans
 }
 
 /// Each line with its number, and `more` if one comes behind the last, or later.
-fn numbered_lines(out: &mut String, text: &[u8]) -> Result<(), Unanswered> {
+pub(crate) fn numbered_lines(out: &mut String, text: &[u8]) -> Result<(), Unanswered> {
     let mut behind = lines(text);
     for (number, line) in lines(text) {
         write!(out, "{number}<")?;
@@ -61,13 +61,13 @@ fn numbered_lines(out: &mut String, text: &[u8]) -> Result<(), Unanswered> {
 }
 
 /// Whether a text begins with another.
-fn front(out: &mut String, texts: &[u8]) -> Result<(), Unanswered> {
+pub(crate) fn front(out: &mut String, texts: &[u8]) -> Result<(), Unanswered> {
     let (text, front) = halves(texts)?;
     show_bool(out, begins_with(text, front))
 }
 
 /// The first word of a text, and what stands behind it.
-fn first_word(out: &mut String, text: &[u8]) -> Result<(), Unanswered> {
+pub(crate) fn first_word(out: &mut String, text: &[u8]) -> Result<(), Unanswered> {
     let (word, rest) = split_word(text);
     out.push_str("<")?;
     show_bytes(out, word)?;
@@ -78,14 +78,14 @@ fn first_word(out: &mut String, text: &[u8]) -> Result<(), Unanswered> {
 }
 
 /// The number in front of a text, and how many digits it has.
-fn number_in_front(out: &mut String, text: &[u8]) -> Result<(), Unanswered> {
+pub(crate) fn number_in_front(out: &mut String, text: &[u8]) -> Result<(), Unanswered> {
     let (number, count) = leading_number(text);
     write!(out, "{number} {count}")?;
     Ok(())
 }
 
 /// Where the first line ends.
-fn first_end(out: &mut String, text: &[u8]) -> Result<(), Unanswered> {
+pub(crate) fn first_end(out: &mut String, text: &[u8]) -> Result<(), Unanswered> {
     match line_end(text) {
         Some(end) => write!(out, "{end}")?,
         None => out.push_str("none")?,
@@ -94,13 +94,13 @@ fn first_end(out: &mut String, text: &[u8]) -> Result<(), Unanswered> {
 }
 
 /// Whether a line of so many bytes may have so many more.
-fn fitting(out: &mut String, numbers: &[u8]) -> Result<(), Unanswered> {
+pub(crate) fn fitting(out: &mut String, numbers: &[u8]) -> Result<(), Unanswered> {
     let (kept, more) = halves(numbers)?;
     show_bool(out, line_fits(number_of(kept)?, number_of(more)?))
 }
 
 /// The whole number that a text writes.
-fn unsigned(out: &mut String, text: &[u8]) -> Result<(), Unanswered> {
+pub(crate) fn unsigned(out: &mut String, text: &[u8]) -> Result<(), Unanswered> {
     match read_u64(text) {
         Ok(number) => write!(out, "{number}")?,
         Err(kind) => out.push_str(kind.name())?,
@@ -109,7 +109,7 @@ fn unsigned(out: &mut String, text: &[u8]) -> Result<(), Unanswered> {
 }
 
 /// The whole number of either sign that a text writes.
-fn signed(out: &mut String, text: &[u8]) -> Result<(), Unanswered> {
+pub(crate) fn signed(out: &mut String, text: &[u8]) -> Result<(), Unanswered> {
     match read_i64(text) {
         Ok(number) => write!(out, "{number}")?,
         Err(kind) => out.push_str(kind.name())?,
@@ -118,7 +118,7 @@ fn signed(out: &mut String, text: &[u8]) -> Result<(), Unanswered> {
 }
 
 /// Whether a line is too long.
-fn too_long(out: &mut String, line: &[u8]) -> Result<(), Unanswered> {
+pub(crate) fn too_long(out: &mut String, line: &[u8]) -> Result<(), Unanswered> {
     show_bool(out, is_too_long(line))
 }
 
@@ -131,7 +131,7 @@ impl Show for u64 {
 }
 
 /// Numbers that become items one behind another: all of them behind each.
-fn items(alloc: Global, out: &mut String, numbers: &[u8]) -> Result<(), Unanswered> {
+pub(crate) fn items(alloc: Global, out: &mut String, numbers: &[u8]) -> Result<(), Unanswered> {
     let mut items = Items::<u64>::new(alloc);
     for number in numbers.split(|byte| *byte == b' ') {
         items.push(number_of(number)?)?;
@@ -143,7 +143,7 @@ fn items(alloc: Global, out: &mut String, numbers: &[u8]) -> Result<(), Unanswer
 }
 
 /// The texts of rules that became items.
-fn rules(alloc: Global, out: &mut String, texts: &[u8]) -> Result<(), Unanswered> {
+pub(crate) fn rules(alloc: Global, out: &mut String, texts: &[u8]) -> Result<(), Unanswered> {
     let mut rules = Items::<Rule>::new(alloc);
     for text in texts.split(|byte| *byte == b'|') {
         rules.push(Rule::parse(alloc, text)?)?;
@@ -167,7 +167,7 @@ fn append_of(text: &mut Vec<u8>, name: &[u8], number: &[u8]) -> Result<(), Unans
 }
 
 /// Numbers of a type one behind another, as they are added to `#G `.
-fn numbers(alloc: Global, out: &mut String, input: &[u8]) -> Result<(), Unanswered> {
+pub(crate) fn numbers(alloc: Global, out: &mut String, input: &[u8]) -> Result<(), Unanswered> {
     let (name, numbers) = halves(input)?;
     let mut text = Vec::from_slice(alloc, b"#G ")?;
     for number in numbers.split(|byte| *byte == b' ') {
@@ -190,7 +190,7 @@ fn show_next(out: &mut String, rule: &LifeRule) -> Result<(), Unanswered> {
 }
 
 /// The text of a rule, of the default one for no text, and the states that it gives.
-fn next_states(alloc: Global, out: &mut String, text: &[u8]) -> Result<(), Unanswered> {
+pub(crate) fn next_states(alloc: Global, out: &mut String, text: &[u8]) -> Result<(), Unanswered> {
     let rule = if text.is_empty() {
         Rule::default_rule()
     } else {
@@ -204,7 +204,7 @@ fn next_states(alloc: Global, out: &mut String, text: &[u8]) -> Result<(), Unans
 }
 
 /// Whether what is read of an input is all of it, or a kind; and `failed` where the source says so.
-fn within(alloc: Global, out: &mut String, input: &[u8]) -> Result<(), Unanswered> {
+pub(crate) fn within(alloc: Global, out: &mut String, input: &[u8]) -> Result<(), Unanswered> {
     let (most, bytes) = halves(input)?;
     let most = number_of::<u64>(most)?;
     if most > 1 << 30 {
@@ -219,28 +219,4 @@ fn within(alloc: Global, out: &mut String, input: &[u8]) -> Result<(), Unanswere
         out.push_str(" failed")?;
     }
     Ok(())
-}
-
-/// Adds what a call of `life_base` answers to an input. Answers whether it is one.
-pub(crate) fn answer(alloc: Global, out: &mut String, call: &str, input: &[u8]) -> IsCall {
-    match call {
-        "rule" => rule(alloc, out, input)?,
-        "same_rules" => same_rules(alloc, out, input)?,
-        "lines" => numbered_lines(out, input)?,
-        "begins_with" => front(out, input)?,
-        "split_word" => first_word(out, input)?,
-        "leading_number" => number_in_front(out, input)?,
-        "line_end" => first_end(out, input)?,
-        "line_fits" => fitting(out, input)?,
-        "is_too_long" => too_long(out, input)?,
-        "items" => items(alloc, out, input)?,
-        "rules" => rules(alloc, out, input)?,
-        "append_numbers" => numbers(alloc, out, input)?,
-        "next_states" => next_states(alloc, out, input)?,
-        "read_within" => within(alloc, out, input)?,
-        "read_u64" => unsigned(out, input)?,
-        "read_i64" => signed(out, input)?,
-        _ => return Ok(false),
-    }
-    Ok(true)
 }

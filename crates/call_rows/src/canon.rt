@@ -1,6 +1,6 @@
 //! Calls of `life_canon`.
 
-use crate::answer::{IsCall, Unanswered};
+use crate::answer::Unanswered;
 use crate::row::halves;
 use crate::shown::{ROOM, show_bool, show_bytes, show_fault, show_text};
 use life_base::Fault;
@@ -9,7 +9,7 @@ use life_quad::{Seed, Shared};
 use std::alloc::Global;
 
 /// The canonical text of a file, and behind `|` that of this text where it is another.
-fn canonical(alloc: Global, out: &mut String, file: &[u8]) -> Result<(), Unanswered> {
+pub(crate) fn canonical(alloc: Global, out: &mut String, file: &[u8]) -> Result<(), Unanswered> {
     let text = canon(alloc, &mut Shared::new(alloc, Seed::fixed(), ROOM), file)?;
     show_bytes(out, &text)?;
     let again = canon(alloc, &mut Shared::new(alloc, Seed::fixed(), ROOM), &text)?;
@@ -32,7 +32,7 @@ fn show_refusal<T: Drop>(out: &mut String, answer: Result<T, Fault>) -> Result<(
 }
 
 /// The line and the kind of the faults that the calls for the canonical text, the five lines, the runs and the pattern of a file tell.
-fn refused(alloc: Global, out: &mut String, file: &[u8]) -> Result<(), Unanswered> {
+pub(crate) fn refused(alloc: Global, out: &mut String, file: &[u8]) -> Result<(), Unanswered> {
     let mut store = Shared::new(alloc, Seed::fixed(), ROOM);
     show_refusal(out, canon(alloc, &mut store, file))?;
     out.push_str(", ")?;
@@ -52,7 +52,7 @@ fn show_same(out: &mut String, answer: Result<bool, Fault>) -> Result<(), Unansw
 }
 
 /// Whether two files are the same, and whether they are in the other order.
-fn compared(alloc: Global, out: &mut String, files: &[u8]) -> Result<(), Unanswered> {
+pub(crate) fn compared(alloc: Global, out: &mut String, files: &[u8]) -> Result<(), Unanswered> {
     let (first, second) = halves(files)?;
     let mut store = Shared::new(alloc, Seed::fixed(), ROOM);
     show_same(out, same(alloc, &mut store, first, second))?;
@@ -61,7 +61,7 @@ fn compared(alloc: Global, out: &mut String, files: &[u8]) -> Result<(), Unanswe
 }
 
 /// The five lines on a file, or the line and the kind of a fault.
-fn five_lines(alloc: Global, out: &mut String, file: &[u8]) -> Result<(), Unanswered> {
+pub(crate) fn five_lines(alloc: Global, out: &mut String, file: &[u8]) -> Result<(), Unanswered> {
     show_text(
         out,
         show(alloc, &mut Shared::new(alloc, Seed::fixed(), ROOM), file),
@@ -69,22 +69,9 @@ fn five_lines(alloc: Global, out: &mut String, file: &[u8]) -> Result<(), Unansw
 }
 
 /// A file in RLE, or the line and the kind of a fault.
-fn runs(alloc: Global, out: &mut String, file: &[u8]) -> Result<(), Unanswered> {
+pub(crate) fn runs(alloc: Global, out: &mut String, file: &[u8]) -> Result<(), Unanswered> {
     show_text(
         out,
         to_rle(alloc, &mut Shared::new(alloc, Seed::fixed(), ROOM), file),
     )
-}
-
-/// Adds what a call of `life_canon` answers to an input. Answers whether it is one.
-pub(crate) fn answer(alloc: Global, out: &mut String, call: &str, input: &[u8]) -> IsCall {
-    match call {
-        "canonical" => canonical(alloc, out, input)?,
-        "refused" => refused(alloc, out, input)?,
-        "same" => compared(alloc, out, input)?,
-        "show" => five_lines(alloc, out, input)?,
-        "to_rle" => runs(alloc, out, input)?,
-        _ => return Ok(false),
-    }
-    Ok(true)
 }

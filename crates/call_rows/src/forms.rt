@@ -1,6 +1,6 @@
 //! Calls of `life_forms`.
 
-use crate::answer::{IsCall, Unanswered};
+use crate::answer::Unanswered;
 use crate::shown::{ROOM, show_text};
 use life_base::Fault;
 use life_canon::{read, text_of};
@@ -24,21 +24,11 @@ fn turned_text_of(alloc: Global, file: &[u8]) -> Result<Vec<u8>, Fault> {
 }
 
 /// The text of the moved form of a file, or the line and the kind of a fault.
-fn moved(alloc: Global, out: &mut String, file: &[u8]) -> Result<(), Unanswered> {
+pub(crate) fn moved(alloc: Global, out: &mut String, file: &[u8]) -> Result<(), Unanswered> {
     show_text(out, moved_text(alloc, file))
 }
 
 /// The text of the turned form of a file, or the line and the kind of a fault.
-fn turned(alloc: Global, out: &mut String, file: &[u8]) -> Result<(), Unanswered> {
+pub(crate) fn turned(alloc: Global, out: &mut String, file: &[u8]) -> Result<(), Unanswered> {
     show_text(out, turned_text_of(alloc, file))
-}
-
-/// Adds what a call of `life_forms` answers to an input. Answers whether it is one.
-pub(crate) fn answer(alloc: Global, out: &mut String, call: &str, input: &[u8]) -> IsCall {
-    match call {
-        "moved" => moved(alloc, out, input)?,
-        "turned" => turned(alloc, out, input)?,
-        _ => return Ok(false),
-    }
-    Ok(true)
 }

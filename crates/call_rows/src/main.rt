@@ -14,6 +14,7 @@
 
 mod answer;
 mod base;
+mod calls;
 mod canon;
 mod escaped;
 mod forms;

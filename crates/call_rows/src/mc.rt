@@ -1,13 +1,13 @@
 //! Calls of `life_mc`.
 
-use crate::answer::{IsCall, Unanswered};
+use crate::answer::Unanswered;
 use crate::shown::{Show, show_bytes, show_each, show_end, show_fault, show_rule};
 use life_base::lines;
 use life_mc::{Line, McFile, McLines, read_mc, write_mc};
 use std::alloc::Global;
 
 /// The text that a file is written as, or the line and the kind of a fault.
-fn file(alloc: Global, out: &mut String, input: &[u8]) -> Result<(), Unanswered> {
+pub(crate) fn file(alloc: Global, out: &mut String, input: &[u8]) -> Result<(), Unanswered> {
     match read_mc(alloc, input) {
         Ok(file) => match write_mc(alloc, &file) {
             Ok(text) => show_bytes(out, &text),
@@ -38,7 +38,7 @@ fn show_squares(alloc: Global, out: &mut String, file: &McFile) -> Result<(), Un
 }
 
 /// The rule, the generation and each square of a file; or the line and the kind of a fault.
-fn squares(alloc: Global, out: &mut String, input: &[u8]) -> Result<(), Unanswered> {
+pub(crate) fn squares(alloc: Global, out: &mut String, input: &[u8]) -> Result<(), Unanswered> {
     match read_mc(alloc, input) {
         Ok(file) => show_squares(alloc, out, &file),
         Err(fault) => show_fault(out, &fault),
@@ -47,7 +47,7 @@ fn squares(alloc: Global, out: &mut String, input: &[u8]) -> Result<(), Unanswer
 
 /// Of each line its square, `-` or the kind of a fault; and at the end the rule and the generation, or the kind with which the lines are no
 /// file.
-fn by_lines(alloc: Global, out: &mut String, input: &[u8]) -> Result<(), Unanswered> {
+pub(crate) fn by_lines(alloc: Global, out: &mut String, input: &[u8]) -> Result<(), Unanswered> {
     let mut reader = McLines::new(alloc);
     for (_, line) in lines(input) {
         match reader.line(line) {
@@ -58,15 +58,4 @@ fn by_lines(alloc: Global, out: &mut String, input: &[u8]) -> Result<(), Unanswe
         out.push_str(" ")?;
     }
     show_end(alloc, out, reader.end())
-}
-
-/// Adds what a call of `life_mc` answers to an input. Answers whether it is one.
-pub(crate) fn answer(alloc: Global, out: &mut String, call: &str, input: &[u8]) -> IsCall {
-    match call {
-        "read_mc" => file(alloc, out, input)?,
-        "mc_squares" => squares(alloc, out, input)?,
-        "mc_lines" => by_lines(alloc, out, input)?,
-        _ => return Ok(false),
-    }
-    Ok(true)
 }

@@ -1,6 +1,6 @@
 //! Calls of `life_rle`.
 
-use crate::answer::{IsCall, Unanswered};
+use crate::answer::Unanswered;
 use crate::row::{halves, number_of};
 use crate::shown::{Show, show_bool, show_bytes, show_each, show_end, show_fault, show_rule};
 use life_base::{Cell, Rule, Run, lines};
@@ -23,7 +23,7 @@ fn show_file(alloc: Global, out: &mut String, file: &RleFile) -> Result<(), Unan
 }
 
 /// The rule, the generation, the corner and each run of a file; or the line and the kind of a fault.
-fn file(alloc: Global, out: &mut String, input: &[u8]) -> Result<(), Unanswered> {
+pub(crate) fn file(alloc: Global, out: &mut String, input: &[u8]) -> Result<(), Unanswered> {
     match read_rle(alloc, input) {
         Ok(file) => show_file(alloc, out, &file),
         Err(fault) => show_fault(out, &fault),
@@ -40,7 +40,7 @@ fn show_runs(out: &mut String, runs: &[Run]) -> Result<(), Unanswered> {
 
 /// Of each line its runs or the kind of a fault, and `!` where the pattern is over behind it; and at the end the rule and the generation, or
 /// the kind with which the lines are no file.
-fn by_lines(alloc: Global, out: &mut String, input: &[u8]) -> Result<(), Unanswered> {
+pub(crate) fn by_lines(alloc: Global, out: &mut String, input: &[u8]) -> Result<(), Unanswered> {
     let mut reader = RleLines::new(alloc);
     for (_, line) in lines(input) {
         match reader.line(line) {
@@ -53,7 +53,7 @@ fn by_lines(alloc: Global, out: &mut String, input: &[u8]) -> Result<(), Unanswe
 }
 
 /// The kinds of the lines that are refused, and the runs of the others in one vector.
-fn into_one(alloc: Global, out: &mut String, input: &[u8]) -> Result<(), Unanswered> {
+pub(crate) fn into_one(alloc: Global, out: &mut String, input: &[u8]) -> Result<(), Unanswered> {
     let mut reader = RleLines::new(alloc);
     let mut runs = Vec::new(alloc);
     let mut count = 0;
@@ -125,7 +125,7 @@ fn request_of(alloc: Global, input: &[u8]) -> Result<Request, Unanswered> {
 }
 
 /// Whether cells can be written under a rule.
-fn sorted(alloc: Global, out: &mut String, input: &[u8]) -> Result<(), Unanswered> {
+pub(crate) fn sorted(alloc: Global, out: &mut String, input: &[u8]) -> Result<(), Unanswered> {
     let request = request_of(alloc, input)?;
     show_bool(out, sorted_cells(&request.rule, &request.cells))
 }
@@ -139,13 +139,13 @@ fn text_of(alloc: Global, request: &Request) -> Result<Vec<u8>, Unanswered> {
 }
 
 /// Cells as RLE.
-fn written(alloc: Global, out: &mut String, input: &[u8]) -> Result<(), Unanswered> {
+pub(crate) fn written(alloc: Global, out: &mut String, input: &[u8]) -> Result<(), Unanswered> {
     let request = request_of(alloc, input)?;
     show_bytes(out, &text_of(alloc, &request)?)
 }
 
 /// The rule, the generation, the corner and the number of runs of cells that are written and read again, and whether the cells stay.
-fn read_again(alloc: Global, out: &mut String, input: &[u8]) -> Result<(), Unanswered> {
+pub(crate) fn read_again(alloc: Global, out: &mut String, input: &[u8]) -> Result<(), Unanswered> {
     let request = request_of(alloc, input)?;
     let file = read_rle(alloc, &text_of(alloc, &request)?)?;
     let mut cells = Vec::new(alloc);
@@ -156,18 +156,4 @@ fn read_again(alloc: Global, out: &mut String, input: &[u8]) -> Result<(), Unans
     let count = file.runs.as_slice().len();
     write!(out, " {} {},{} {count} ", file.generation, file.x, file.y)?;
     show_bool(out, cells.as_slice() == request.cells.as_slice())
-}
-
-/// Adds what a call of `life_rle` answers to an input. Answers whether it is one.
-pub(crate) fn answer(alloc: Global, out: &mut String, call: &str, input: &[u8]) -> IsCall {
-    match call {
-        "read_rle" => file(alloc, out, input)?,
-        "rle_lines" => by_lines(alloc, out, input)?,
-        "rle_lines_into" => into_one(alloc, out, input)?,
-        "sorted_cells" => sorted(alloc, out, input)?,
-        "write_rle" => written(alloc, out, input)?,
-        "write_and_read_rle" => read_again(alloc, out, input)?,
-        _ => return Ok(false),
-    }
-    Ok(true)
 }

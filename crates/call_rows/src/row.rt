@@ -1,8 +1,8 @@
 //! A row and its answer.
 
 use crate::answer::Unanswered;
+use crate::calls::answer;
 use crate::escaped::bytes_of;
-use crate::{base, canon, forms, mc, rle, step, table};
 use std::alloc::Global;
 use std::num::ParseIntError;
 use std::str::FromStr;
@@ -21,21 +21,6 @@ pub(crate) fn number_of<N: FromStr<Err = ParseIntError>>(text: &[u8]) -> Result<
         return Err(Unanswered::BadInput);
     };
     text.parse::<N>().map_err(|_| Unanswered::BadInput)
-}
-
-/// Adds what a call answers to an input.
-fn answer(alloc: Global, out: &mut String, call: &str, input: &[u8]) -> Result<(), Unanswered> {
-    if base::answer(alloc, out, call, input)?
-        || rle::answer(alloc, out, call, input)?
-        || mc::answer(alloc, out, call, input)?
-        || table::answer(alloc, out, call, input)?
-        || canon::answer(alloc, out, call, input)?
-        || forms::answer(alloc, out, call, input)?
-        || step::answer(alloc, out, call, input)?
-    {
-        return Ok(());
-    }
-    Err(Unanswered::NoCall)
 }
 
 /// The answer of a row.

@@ -1,6 +1,6 @@
 //! Calls of `life_step`.
 
-use crate::answer::{IsCall, Unanswered};
+use crate::answer::Unanswered;
 use crate::row::{halves, number_of};
 use crate::shown::{ROOM, show_bool, show_text};
 use life_base::Fault;
@@ -39,13 +39,13 @@ fn stepped(
 }
 
 /// The canonical text that so many steps make of a file under its own rule, or the line and the kind of a fault.
-fn by_rule(alloc: Global, out: &mut String, input: &[u8]) -> Result<(), Unanswered> {
+pub(crate) fn by_rule(alloc: Global, out: &mut String, input: &[u8]) -> Result<(), Unanswered> {
     let (steps, file) = halves(input)?;
     show_text(out, stepped(alloc, file, None, number_of(steps)?))
 }
 
 /// The canonical text that so many steps make of a file by a table, or the line and the kind of a fault.
-fn by_table(alloc: Global, out: &mut String, input: &[u8]) -> Result<(), Unanswered> {
+pub(crate) fn by_table(alloc: Global, out: &mut String, input: &[u8]) -> Result<(), Unanswered> {
     let (steps, files) = halves(input)?;
     let (file, text) = halves(files)?;
     let table = read_table(alloc, NameSeed::fixed(), text)?;
@@ -53,7 +53,7 @@ fn by_table(alloc: Global, out: &mut String, input: &[u8]) -> Result<(), Unanswe
 }
 
 /// Whether so many steps make of a file the canonical text of another file.
-fn becomes(alloc: Global, out: &mut String, input: &[u8]) -> Result<(), Unanswered> {
+pub(crate) fn becomes(alloc: Global, out: &mut String, input: &[u8]) -> Result<(), Unanswered> {
     let (steps, files) = halves(input)?;
     let (file, other) = halves(files)?;
     let text = stepped(alloc, file, None, number_of(steps)?)?;
@@ -62,14 +62,18 @@ fn becomes(alloc: Global, out: &mut String, input: &[u8]) -> Result<(), Unanswer
 }
 
 /// The canonical text of the next generation of a pattern in a store, under its rule.
-fn next_of_pattern(alloc: Global, out: &mut String, file: &[u8]) -> Result<(), Unanswered> {
+pub(crate) fn next_of_pattern(
+    alloc: Global,
+    out: &mut String,
+    file: &[u8],
+) -> Result<(), Unanswered> {
     let mut store = Shared::new(alloc, Seed::fixed(), ROOM);
     let pattern = read(alloc, &mut store, file)?;
     show_text(out, next_by_rule(alloc, &mut store, pattern))
 }
 
 /// The canonical text of the next generation of a pattern in a store, by a table.
-fn next_of_pattern_by_table(
+pub(crate) fn next_of_pattern_by_table(
     alloc: Global,
     out: &mut String,
     input: &[u8],
@@ -79,17 +83,4 @@ fn next_of_pattern_by_table(
     let mut store = Shared::new(alloc, Seed::fixed(), ROOM);
     let pattern = read(alloc, &mut store, file)?;
     show_text(out, next_by_table(alloc, &mut store, pattern, &table))
-}
-
-/// Adds what a call of `life_step` answers to an input. Answers whether it is one.
-pub(crate) fn answer(alloc: Global, out: &mut String, call: &str, input: &[u8]) -> IsCall {
-    match call {
-        "step_life" => by_rule(alloc, out, input)?,
-        "step_table" => by_table(alloc, out, input)?,
-        "becomes" => becomes(alloc, out, input)?,
-        "next_by_rule" => next_of_pattern(alloc, out, input)?,
-        "next_by_table" => next_of_pattern_by_table(alloc, out, input)?,
-        _ => return Ok(false),
-    }
-    Ok(true)
 }

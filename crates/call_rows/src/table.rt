@@ -2,7 +2,7 @@
 
 ghost use Rattle.std.specs.Prelude.{◌<◌, All, IsTrue};
 
-use crate::answer::{IsCall, Unanswered};
+use crate::answer::Unanswered;
 use crate::row::{halves, number_of};
 use crate::shown::{Show, show_bytes, show_each, show_fault};
 use life_base::{Fault, State};
@@ -10,7 +10,7 @@ use life_table::{Entry, NameSeed, Neighborhood, Neighbours, Table, Transition, V
 use std::alloc::Global;
 
 /// `read` of a table, or the line and the kind of a fault.
-fn refusal(alloc: Global, out: &mut String, input: &[u8]) -> Result<(), Unanswered> {
+pub(crate) fn refusal(alloc: Global, out: &mut String, input: &[u8]) -> Result<(), Unanswered> {
     match read_table(alloc, NameSeed::fixed(), input) {
         Ok(_) => out.push_str("read")?,
         Err(fault) => show_fault(out, &fault)?,
@@ -30,7 +30,7 @@ fn show_settings(out: &mut String, table: &Table) -> Result<(), Unanswered> {
 }
 
 /// The settings of a table and how many variables and transitions it has; or the line and the kind of a fault.
-fn counts(alloc: Global, out: &mut String, input: &[u8]) -> Result<(), Unanswered> {
+pub(crate) fn counts(alloc: Global, out: &mut String, input: &[u8]) -> Result<(), Unanswered> {
     match read_table(alloc, NameSeed::fixed(), input) {
         Ok(table) => {
             show_settings(out, &table)?;
@@ -82,7 +82,7 @@ fn show_table(out: &mut String, table: &Table) -> Result<(), Unanswered> {
 }
 
 /// The settings, the variables and the transitions of a table; or the line and the kind of a fault.
-fn whole(alloc: Global, out: &mut String, input: &[u8]) -> Result<(), Unanswered> {
+pub(crate) fn whole(alloc: Global, out: &mut String, input: &[u8]) -> Result<(), Unanswered> {
     match read_table(alloc, NameSeed::fixed(), input) {
         Ok(table) => show_table(out, &table),
         Err(fault) => show_fault(out, &fault),
@@ -128,7 +128,7 @@ fn decided_by_eight(table: &Table, cells: [State; 9]) -> Option<Result<State, Fa
 }
 
 /// The state that a table makes of a cell and its neighbours; or the line and the kind of a fault.
-fn next(alloc: Global, out: &mut String, input: &[u8]) -> Result<(), Unanswered> {
+pub(crate) fn next(alloc: Global, out: &mut String, input: &[u8]) -> Result<(), Unanswered> {
     let (states, text) = halves(input)?;
     let around = around_of(alloc, states)?;
     let table = match read_table(alloc, NameSeed::fixed(), text) {
@@ -145,16 +145,4 @@ fn next(alloc: Global, out: &mut String, input: &[u8]) -> Result<(), Unanswered>
         None => return Err(Unanswered::BadInput),
     }
     Ok(())
-}
-
-/// Adds what a call of `life_table` answers to an input. Answers whether it is one.
-pub(crate) fn answer(alloc: Global, out: &mut String, call: &str, input: &[u8]) -> IsCall {
-    match call {
-        "read_table" => refusal(alloc, out, input)?,
-        "table_counts" => counts(alloc, out, input)?,
-        "table" => whole(alloc, out, input)?,
-        "next" => next(alloc, out, input)?,
-        _ => return Ok(false),
-    }
-    Ok(true)
 }
