@@ -174,14 +174,16 @@ listed_places first ids numbers paged some h =
 
 -- there is a number for an Id at its place
 pub number_left_by : (first : ℕ) (ids : List Id) (numbers : List ℕ) (paged : Id → ℕ) (id : Id) (index : ℕ) → HasPlaces ids (number_by first numbers paged)
-    → ¬ Contains ids id → (first ≤ id.0 → index ≡ id.0 - first) → (id.0 < first → 2 ^ 32 ≤ index) → length numbers < 2 ^ 32 → index < length numbers → length ids < length numbers
+    → ¬ Contains ids id → (first ≤ id.0 → index ≡ id.0 - first) → (id.0 < first → 2 ^ 32 ≤ index) → length numbers < 2 ^ 32
+    → index < length numbers → length ids < length numbers
 number_left_by first ids numbers paged id index h absent from before short room =
     let at = room_there first index (length numbers) id from before short room in
     number_left first ids numbers id (listed_places first ids numbers paged (omega (arith, room)) h) absent at.0 (omega (arith, at.1, room))
 
 -- the same in the list, at the place that is the Id's
 pub one_listed : (first : ℕ) (ids : List Id) (numbers : List ℕ) (paged : Id → ℕ) (id : Id) (index number : ℕ) → HasPlaces ids (number_by first numbers paged)
-    → ¬ Contains ids id → (first ≤ id.0 → index ≡ id.0 - first) → (id.0 < first → 2 ^ 32 ≤ index) → length numbers < 2 ^ 32 → index < length numbers → number ≡ length ids + 1
+    → ¬ Contains ids id → (first ≤ id.0 → index ≡ id.0 - first) → (id.0 < first → 2 ^ 32 ≤ index) → length numbers < 2 ^ 32
+    → index < length numbers → number ≡ length ids + 1
     → HasPlaces (ids ++ id ∷ []) (number_by first (set numbers index number) paged)
 one_listed first ids numbers paged id index number h absent from before short room is =
     let at = room_there first index (length numbers) id from before short room in

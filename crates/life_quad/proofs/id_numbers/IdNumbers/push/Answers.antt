@@ -8,9 +8,10 @@ use Rattle.life_quad.proofs.id_numbers.IdNumbers.push.Goals as goal
 
 pub overflow_add-self : goal.overflow_add-self
 overflow_add-self c =
-    let absent : ¬ Contains (map id_of c.self.inside.log.ids) c.args.id = subst (λ (v : Numbered). ¬ Contains v.ids c.args.id) (sym c.self.view_is) c.requires in
+    let ids = map id_of c.self.inside.log.ids in
+    let absent : ¬ Contains ids c.args.id = subst (λ (v : Numbered). ¬ Contains v.ids c.args.id) (sym c.self.view_is) c.requires in
     let at = c.index_from-index.ensures in
-    let left = number_left_by c.self.inside.first (map id_of c.self.inside.log.ids) c.self.inside.numbers.items (value_of c.self.inside.pages) c.args.id
+    let left = number_left_by c.self.inside.first ids c.self.inside.numbers.items (value_of c.self.inside.pages) c.args.id
     c.index_from-index.result c.self.invariant.0 absent at.from at.before c.self.invariant.2
     (let l = c.len.ensures in let k = c.self.inside.numbers.ok in omega (arith, l, k, c.if-index-len.false)) in
     omega (arith, left, c.self.invariant.1, c.self.invariant.2)
