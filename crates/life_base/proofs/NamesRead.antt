@@ -2,6 +2,7 @@
 use Rattle.std.proofs.Common.{◌≡◌, ℕ, ◌-◌, List, take, drop, [], ◌∷◌, length, Bool, true, false, cond, not, ◌&&◌, ◌||◌, refl, ap, ◌∙◌, arith}
 use Rattle.std.specs.Prelude.{nat_le, nat_lt, ◌==◌, map, codes, bytes_eq, is_some, Option, Some, None, Ok, Err}
 use Rattle.std.specs.List.{list_all, list_any}
+use Rattle.std.proofs.lemmas.Bool.{not-true}
 use Rattle.std.proofs.lemmas.Bool.Decides.{nat_tests}
 use Rattle.std.specs.Char.{to_ascii_uppercase}
 use Rattle.life_base.proofs.Numbers.{first, second}
@@ -20,10 +21,6 @@ all_pass p q f (b ∷ xs) h = ap (λ v. v && list_all q xs) (f b (first _ _ h)) 
 abbrev pub solid : ℕ → Bool
 solid b = not (is_whitespace b)
 
-not_true : (v : Bool) → not v ≡ true → v ≡ false
-not_true true h = cc
-not_true false h = refl
-
 -- a text whose first byte is no whitespace
 start_stays : (b : ℕ) (text : List ℕ) → is_whitespace b ≡ false → trim_start (b ∷ text) ≡ b ∷ text
 start_stays b text h = ap (λ v. cond v (trim_start text) (b ∷ text)) h
@@ -32,7 +29,7 @@ start_stays b text h = ap (λ v. cond v (trim_start text) (b ∷ text)) h
 pub solid_trimmed : (text : List ℕ) → list_all solid text ≡ true → trim text ≡ text
 solid_trimmed [] h = refl
 solid_trimmed (b ∷ text) h =
-    ap (without_last is_whitespace) (start_stays b text (not_true (is_whitespace b) (first _ _ h))) ∙ none_passes is_whitespace (b ∷ text) h
+    ap (without_last is_whitespace) (start_stays b text (not-true (is_whitespace b) (first _ _ h))) ∙ none_passes is_whitespace (b ∷ text) h
 
 abbrev visible : ℕ → Bool
 visible b = nat_le 33 b && nat_le b 126

@@ -2,6 +2,7 @@
 use Rattle.std.proofs.Common.{◌≡◌, ℕ, ◌<◌, ◌≤◌, List, [], ◌∷◌, ◌++◌, length, Bool, true, false, not, ◌&&◌, ◌||◌, refl, ap, sym, ◌∙◌, arith, length-append, append_assoc}
 use Rattle.std.specs.Prelude.{codes, nat_le, nat_lt, ◌==◌, Some, Ok}
 use Rattle.std.specs.List.{list_all}
+use Rattle.std.proofs.lemmas.Bool.{and_from}
 use Rattle.std.proofs.lemmas.Bool.Decides.{nat_tests}
 use Rattle.std.proofs.lemmas.List.{append-nil}
 use Rattle.std.proofs.lemmas.List.Folds.{list_all-append}
@@ -13,9 +14,6 @@ use Rattle.life_base.specs.RuleForms.{IsFourText, IsRuleWord, SaysRule}
 use Rattle.life_base.specs.declared.rule.Near.{Near}
 use Rattle.life_base.specs.declared.rule.Near.TheVariants.{Moore, VonNeumann}
 use Rattle.life_base.specs.declared.rule.Rule.TheVariants.{Life, Named}
-
-both : (a b : Bool) → a ≡ true → b ≡ true → (a && b) ≡ true
-both a b h k = ap (λ v. v && b) h ∙ k
 
 small : (n : ℕ) → n < 32 → n < 512
 small n h = omega (arith, h)
@@ -43,7 +41,7 @@ module _ (v : DigitSets) (h : IsLifeRule (record { sets = v; near = VonNeumann }
       → list_all q word ≡ true
   passes q f m n =
       list_all-append q front (codes "V")
-      ∙ both (list_all q front) _ (text_passes q f m ds es (set_digits v.births births_small) (set_digits v.survivals survivals_small)) n
+      ∙ and_from (list_all q front) _ (text_passes q f m ds es (set_digits v.births births_small) (set_digits v.survivals survivals_small)) n
 
   is_sets : life_sets front ≡ Some v
   is_sets =

@@ -2,7 +2,7 @@
 use Rattle.std.proofs.Common.{◌≡◌, ℕ, zero, suc, ◌<◌, ◌≤◌, List, [], ◌∷◌, ◌++◌, length, Bool, true, false, cond, not, ◌&&◌, ◌||◌, refl, ap, ◌∙◌, arith, length-append, append_assoc, ◌⊎◌, inl, inr}
 use Rattle.std.specs.Prelude.{codes, filter, nat_le, nat_lt, ◌==◌, Ok, Err, map}
 use Rattle.std.specs.List.{list_all, list_any, slice_split}
-use Rattle.std.proofs.lemmas.Bool.{leb-true}
+use Rattle.std.proofs.lemmas.Bool.{leb-true, and_from}
 use Rattle.std.proofs.lemmas.Bool.Decides.{nat_tests}
 use Rattle.std.proofs.lemmas.List.Folds.{list_all-append}
 use Rattle.std.specs.Char.{to_ascii_uppercase}
@@ -56,17 +56,15 @@ digits_pass : (q : ℕ → Bool) → ((b : ℕ) → is_count_digit b ≡ true �
 digits_pass q f [] h = refl
 digits_pass q f (b ∷ xs) h = ap (λ v. v && list_all q xs) (f b (first _ _ h)) ∙ digits_pass q f xs (second _ _ h)
 
-both : (a b : Bool) → a ≡ true → b ≡ true → (a && b) ≡ true
-both a b h k = ap (λ v. v && b) h ∙ k
-
 -- the whole text of a B/S rule, by its digits
 pub text_passes : (q : ℕ → Bool) → ((b : ℕ) → is_count_digit b ≡ true → q b ≡ true) → list_all q (codes "B/S") ≡ true
     → (ds es : List ℕ) → list_all is_count_digit ds ≡ true → list_all is_count_digit es ≡ true → list_all q (66 ∷ (ds ++ 47 ∷ 83 ∷ es)) ≡ true
 text_passes q f m ds es d e =
-    both (q 66) _ (first _ _ m)
+    and_from (q 66) _ (first _ _ m)
     (list_all-append q ds (47 ∷ 83 ∷ es)
-    ∙ both (list_all q ds) _ (digits_pass q f ds d)
-    (both (q 47) _ (first (q 47) _ (second (q 66) _ m)) (both (q 83) _ (first (q 83) true (second (q 47) _ (second (q 66) _ m))) (digits_pass q f es e))))
+    ∙ and_from (list_all q ds) _ (digits_pass q f ds d)
+    (and_from (q 47) _ (first (q 47) _ (second (q 66) _ m))
+    (and_from (q 83) _ (first (q 83) true (second (q 47) _ (second (q 66) _ m))) (digits_pass q f es e))))
 
 -- a text of which no byte passes stays whole
 pub none_passes : (test : ℕ → Bool) (xs : List ℕ) → list_all (λ b. not (test b)) xs ≡ true → without_last test xs ≡ xs

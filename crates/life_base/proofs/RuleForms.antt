@@ -2,6 +2,7 @@
 use Rattle.std.proofs.Common.{◌≡◌, ℕ, ◌<◌, ◌≤◌, ◌-◌, List, [], ◌∷◌, ◌++◌, length, take, drop, Bool, true, false, cond, not, ◌&&◌, ◌||◌, refl, ap, sym, subst, ◌∙◌, arith, append_assoc, length-append, ◌⊎◌, inl, inr}
 use Rattle.std.specs.Prelude.{◌==◌, ◌↔◌, nat_le, nat_lt, map, filter, codes, bytes_eq, is_some, Option, Some, None, Ok, Err}
 use Rattle.std.specs.List.{list_all, list_any, onto_first}
+use Rattle.std.proofs.lemmas.Bool.{not-true, and_from}
 use Rattle.std.proofs.lemmas.Bool.Decides.{nat_tests}
 use Rattle.std.proofs.lemmas.Slice.Eq.{bytes_eq-Decides}
 use Rattle.std.proofs.lemmas.List.{take-append-drop}
@@ -31,14 +32,6 @@ digit_of_upper b = grind (arith, nat_tests)
 
 upper_again : (b : ℕ) → to_ascii_uppercase (to_ascii_uppercase b) ≡ to_ascii_uppercase b
 upper_again b = grind (arith, nat_tests)
-
-not_true : (v : Bool) → not v ≡ true → v ≡ false
-not_true true h = cc
-not_true false h = refl
-
-not_false : (v : Bool) → not v ≡ false → v ≡ true
-not_false true h = refl
-not_false false h = cc
 
 -- ---- a text, and its groups of digits and its marks
 
@@ -73,13 +66,10 @@ weave (b ∷ text) =
 abbrev are_digits : List (List ℕ) → Bool
 are_digits groups = list_all (λ (group : List ℕ). list_all is_count_digit group) groups
 
-both : (a b : Bool) → a ≡ true → b ≡ true → (a && b) ≡ true
-both a b h k = ap (λ v. v && b) h ∙ k
-
 digits_onto : (b : ℕ) (groups : List (List ℕ)) → is_count_digit b ≡ true → are_digits groups ≡ true → are_digits (onto_first b groups) ≡ true
-digits_onto b [] e h = both _ true (both _ true e refl) refl
+digits_onto b [] e h = and_from _ true (and_from _ true e refl) refl
 digits_onto b (group ∷ groups) e h =
-    both _ _ (both _ _ e (first (list_all is_count_digit group) _ h)) (second (list_all is_count_digit group) _ h)
+    and_from _ _ (and_from _ _ e (first (list_all is_count_digit group) _ h)) (second (list_all is_count_digit group) _ h)
 
 digits_step : (v : Bool) (b : ℕ) (groups : List (List ℕ)) → is_count_digit b ≡ v → are_digits groups ≡ true
     → are_digits (cond (not v) ([] ∷ groups) (onto_first b groups)) ≡ true
@@ -295,7 +285,7 @@ digit_no_v : (b : ℕ) → is_count_digit b ≡ true → no_v b ≡ true
 digit_no_v b h = grind (arith, nat_tests)
 
 pass_two : (xs ys : List ℕ) → list_all no_v xs ≡ true → list_all no_v ys ≡ true → list_all no_v (xs ++ ys) ≡ true
-pass_two xs ys h k = list_all-append no_v xs ys ∙ both (list_all no_v xs) (list_all no_v ys) h k
+pass_two xs ys h k = list_all-append no_v xs ys ∙ and_from (list_all no_v xs) (list_all no_v ys) h k
 
 digits_no_v : (ds : List ℕ) → list_all is_count_digit ds ≡ true → list_all no_v ds ≡ true
 digits_no_v ds h = all_pass is_count_digit no_v digit_no_v ds h
@@ -327,7 +317,7 @@ no_form_with_v word front last w e (Some s) h =
     ∙ ap (λ (t : List ℕ). list_all no_v (map to_ascii_uppercase t)) w ∙ v_behind front last e in
     cc
 
-below_32 : (n : ℕ) → nat_lt n 32 ≡ true → n < 32
+pub below_32 : (n : ℕ) → nat_lt n 32 ≡ true → n < 32
 below_32 n h = grind (arith, nat_tests)
 
 is_below : (n : ℕ) → n < 32 → nat_lt n 32 ≡ true
@@ -418,7 +408,7 @@ record Front (text rest : List ℕ) : Type 0 where
   blank : list_all is_whitespace front ≡ true
 
 front_step : (v : Bool) (b : ℕ) (text : List ℕ) → is_whitespace b ≡ v → Front text (trim_start text) → Front (b ∷ text) (cond v (trim_start text) (b ∷ text))
-front_step true b text e f = record { front = b ∷ f.front; is = ap (λ (t : List ℕ). b ∷ t) f.is; blank = both _ _ e f.blank }
+front_step true b text e f = record { front = b ∷ f.front; is = ap (λ (t : List ℕ). b ∷ t) f.is; blank = and_from _ _ e f.blank }
 front_step false b text e f = record { front = []; is = refl; blank = refl }
 
 front_of : (text : List ℕ) → Front text (trim_start text)
@@ -457,12 +447,12 @@ none_kept (b ∷ back) h = ap (λ v. cond v [] (b ∷ without_last is_whitespace
 word_kept : (word back : List ℕ) → list_all solid word ≡ true → list_all is_whitespace back ≡ true → without_last is_whitespace (word ++ back) ≡ word
 word_kept [] back h k = none_kept back k
 word_kept (b ∷ word) back h k =
-    ap (λ v. cond (v && list_all is_whitespace (word ++ back)) [] (b ∷ without_last is_whitespace (word ++ back))) (not_true (is_whitespace b) (first _ _ h))
+    ap (λ v. cond (v && list_all is_whitespace (word ++ back)) [] (b ∷ without_last is_whitespace (word ++ back))) (not-true (is_whitespace b) (first _ _ h))
     ∙ ap (λ (t : List ℕ). b ∷ t) (word_kept word back (second (solid b) _ h) k)
 
 word_starts : (word back : List ℕ) → 0 < length word → list_all solid word ≡ true → trim_start (word ++ back) ≡ word ++ back
 word_starts [] back n h = absurd (omega arith)
-word_starts (b ∷ word) back n h = ap (λ v. cond v (trim_start (word ++ back)) (b ∷ (word ++ back))) (not_true (is_whitespace b) (first _ _ h))
+word_starts (b ∷ word) back n h = ap (λ v. cond v (trim_start (word ++ back)) (b ∷ (word ++ back))) (not-true (is_whitespace b) (first _ _ h))
 
 pub around_trim : (text word : List ℕ) → IsAround text word → 0 < length word → list_all solid word ≡ true → trim text ≡ word
 around_trim text word a n h =
@@ -510,7 +500,7 @@ or_both false b h = (refl, h)
 
 all_others : (test : ℕ → Bool) (xs : List ℕ) → list_any test xs ≡ false → list_all (λ b. not (test b)) xs ≡ true
 all_others test [] h = refl
-all_others test (b ∷ xs) h = let p = or_both (test b) (list_any test xs) h in both _ _ (ap not p.0) (all_others test xs p.1)
+all_others test (b ∷ xs) h = let p = or_both (test b) (list_any test xs) h in and_from _ _ (ap not p.0) (all_others test xs p.1)
 
 rule_word : (word : List ℕ) → is_bad_text word ≡ false → list_any (λ b. b == 58) word ≡ false → IsRuleWord word
 rule_word word h k =
@@ -558,7 +548,7 @@ module _ (word front : List ℕ) (last : ℕ) (s : DigitSets) (w : word ≡ fron
   where
     names_others : names_other_neighbours word ≡ true
     names_others =
-        both (is_some (life_sets (take (length word - 1) word))) (names_other (drop (length word - 1) word))
+        and_from (is_some (life_sets (take (length word - 1) word))) (names_other (drop (length word - 1) word))
         (ap (λ (t : List ℕ). is_some (life_sets t)) (front_is word front last w) ∙ ap is_some l)
         (ap names_other (end_is word front last w) ∙ letter_names last n)
 

@@ -2,7 +2,6 @@
 use Rattle.std.proofs.Common.{◌≡◌, ℕ, ◌<◌, ◌≤◌, ◌+◌, ◌-◌, ◌^◌, ◌&&◌, length, take, List, [], ◌∷◌, Bool, true, false, cond, refl, ap, subst, ◌∙◌, arith}
 use Rattle.std.specs.Prelude.{◌==◌, nat_lt, codes, bytes_eq, Option, Some, None, Ok, Err}
 use Rattle.std.specs.List.{list_any}
-use Rattle.std.proofs.lemmas.Bool.Decides.{nat_tests}
 use Rattle.life_base.proofs.NamesRead.{rule_text_trimmed}
 use Rattle.life_base.specs.Sets.{DigitSets, OuterTotalistic}
 use Rattle.life_base.specs.Text.{trim}
@@ -12,6 +11,7 @@ use Rattle.life_base.specs.declared.rule.Near.{Near}
 use Rattle.life_base.specs.declared.rule.Near.TheVariants.{Moore, VonNeumann}
 use Rattle.life_base.specs.declared.rule.Rule.{Rule}
 use Rattle.life_base.specs.declared.rule.Rule.TheVariants.{Life, Named}
+use Rattle.life_base.proofs.RuleForms.{below_32}
 
 -- ---- a name
 
@@ -110,11 +110,8 @@ life_small : (text : List ℕ) → AreSmall (life_sets text)
 unfolding life_sets
 life_small text = form_small (digit_groups text) (marks text)
 
-below : (n : ℕ) → nat_lt n 32 ≡ true → n < 32
-below n h = grind (arith, nat_tests)
-
 within : (s : DigitSets) (u v : Bool) → nat_lt s.births 32 ≡ u → nat_lt s.survivals 32 ≡ v → AreBelow 32 (cond (u && v) (Some s) None)
-within s true true e f = (below s.births e, below s.survivals f)
+within s true true e f = (below_32 s.births e, below_32 s.survivals f)
 within s true false e f = tt
 within s false v e f = tt
 

@@ -4,23 +4,21 @@ use Rattle.std.specs.Prelude.{◌==◌}
 use Rattle.std.specs.List.{list_all}
 use Rattle.std.proofs.lemmas.List.{append-nil}
 use Rattle.std.proofs.lemmas.List.Folds.{list_all-append}
+use Rattle.std.proofs.lemmas.Bool.{not-true, and_from}
 use Rattle.std.proofs.lemmas.Bool.Decides.{nat_tests}
 use Rattle.life_base.proofs.Numbers.{first, second}
 use Rattle.life_base.specs.Text.{lines_of, onto_first}
 use Rattle.life_base.specs.Lines.{has_no_feed, onto_next, whole_lines, rest_line, one_line, IsContinued, IsLonger, IsEnded, joined, AreJoined, AreOnlyJoined}
+use Rattle.life_base.proofs.LineEnds.{onto_alone}
 
 -- ---- one line
 
-not_feed : (v : Bool) → not v ≡ true → v ≡ false
-not_feed true h = cc
-not_feed false h = refl
-
 -- a byte that is no line feed stands at the front of the first line
 whole_step : (b : ℕ) (bytes : List ℕ) → not (b == 10) ≡ true → whole_lines (b ∷ bytes) ≡ onto_next b (whole_lines bytes)
-whole_step b bytes h = ap (λ v. cond v ([] ∷ whole_lines bytes) (onto_next b (whole_lines bytes))) (not_feed (b == 10) h)
+whole_step b bytes h = ap (λ v. cond v ([] ∷ whole_lines bytes) (onto_next b (whole_lines bytes))) (not-true (b == 10) h)
 
 lines_step : (b : ℕ) (bytes : List ℕ) → not (b == 10) ≡ true → lines_of (b ∷ bytes) ≡ onto_first b (lines_of bytes)
-lines_step b bytes h = ap (λ v. cond v ([] ∷ lines_of bytes) (onto_first b (lines_of bytes))) (not_feed (b == 10) h)
+lines_step b bytes h = ap (λ v. cond v ([] ∷ lines_of bytes) (onto_first b (lines_of bytes))) (not-true (b == 10) h)
 
 -- without a line feed no line has ended, and all are the rest
 pub none_whole : (bytes : List ℕ) → has_no_feed bytes ≡ true → whole_lines bytes ≡ []
@@ -31,13 +29,9 @@ pub all_rest : (bytes : List ℕ) → has_no_feed bytes ≡ true → rest_line b
 all_rest [] h = refl
 all_rest (b ∷ bytes) h = ap (λ v. cond v (b ∷ bytes) (rest_line bytes)) h
 
-onto_one : (b : ℕ) (bytes : List ℕ) → onto_first b (one_line bytes) ≡ (b ∷ bytes) ∷ []
-onto_one b [] = refl
-onto_one b (c ∷ bytes) = refl
-
 lone_line : (bytes : List ℕ) → has_no_feed bytes ≡ true → lines_of bytes ≡ one_line bytes
 lone_line [] h = refl
-lone_line (b ∷ bytes) h = lines_step b bytes (first _ _ h) ∙ ap (onto_first b) (lone_line bytes (second _ _ h)) ∙ onto_one b bytes
+lone_line (b ∷ bytes) h = lines_step b bytes (first _ _ h) ∙ ap (onto_first b) (lone_line bytes (second _ _ h)) ∙ onto_alone b bytes
 
 -- up to its line feed it is the first line
 first_whole : (line more : List ℕ) → has_no_feed line ≡ true → whole_lines (line ++ 10 ∷ more) ≡ line ∷ whole_lines more
@@ -115,9 +109,6 @@ record Cut (bytes : List ℕ) : Type 0 where
   rest : List ℕ
   are : AreJoined bytes lines rest
 
-both : (a b : Bool) → a ≡ true → b ≡ true → (a && b) ≡ true
-both a b h k = ap (λ v. v && b) h ∙ k
-
 is_feed : (b : ℕ) → (b == 10) ≡ true → b ≡ 10
 is_feed b h = grind (arith, nat_tests)
 
@@ -125,14 +116,14 @@ one_more : (b : ℕ) (bytes : List ℕ) → (b == 10) ≡ false → (lines : Lis
 one_more b bytes e [] rest are = record {
   lines = [];
   rest = b ∷ rest;
-  are = record { is = ap (λ (bs : List ℕ). b ∷ bs) are.is; whole = refl; behind = both _ _ (ap not e) are.behind };
+  are = record { is = ap (λ (bs : List ℕ). b ∷ bs) are.is; whole = refl; behind = and_from _ _ (ap not e) are.behind };
 }
 one_more b bytes e (line ∷ lines) rest are = record {
   lines = (b ∷ line) ∷ lines;
   rest = rest;
   are = record {
     is = ap (λ (bs : List ℕ). b ∷ bs) are.is;
-    whole = both (has_no_feed (b ∷ line)) _ (both _ _ (ap not e) (first (has_no_feed line) _ are.whole)) (second (has_no_feed line) _ are.whole);
+    whole = and_from (has_no_feed (b ∷ line)) _ (and_from _ _ (ap not e) (first (has_no_feed line) _ are.whole)) (second (has_no_feed line) _ are.whole);
     behind = are.behind;
   };
 }
@@ -183,7 +174,7 @@ lines_continue bytes more =
     }
 
 clean_behind : (bytes more : List ℕ) → has_no_feed more ≡ true → has_no_feed (rest_line bytes ++ more) ≡ true
-clean_behind bytes more h = list_all-append _ (rest_line bytes) more ∙ both _ _ (rest_has_no_feed bytes) h
+clean_behind bytes more h = list_all-append _ (rest_line bytes) more ∙ and_from _ _ (rest_has_no_feed bytes) h
 
 pub lines_longer : (bytes more : List ℕ) → has_no_feed more ≡ true → IsLonger bytes more
 lines_longer bytes more h =

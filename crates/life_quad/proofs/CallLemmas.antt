@@ -575,10 +575,14 @@ pub node_there : (s : Nodes) (n : Node) (i : ℕ) → IsSound s → IsShared s �
 node_there s n i h u at = answers_ok s s (node_square (squares s.nodes) n) (id_of (66064 + i)) (joined_there s n (id_of (66064 + i)) h u (as_node i refl at))
     refl
 
+-- a square that isn't blank and isn't held
+abbrev pub is_wanted : Nodes → Tree → Type 0
+is_wanted s t = (is_blank_tree t ≡ false) × ¬ Contains (held s) t
+
 -- what a join of a square that isn't blank answers
 module _ (old new : Nodes) (t : Tree) (deep : 0 < depth t) (not_blank : is_blank_tree t ≡ false) where
   abbrev Needs : Type 0
-  Needs = (is_blank_tree t ≡ false) × ¬ Contains (held old) t
+  Needs = is_wanted old t
 
   join_known : (r : Result Id Kind) → Answers old new t r → IfOk r (λ id. Knows new id × IsShared new)
   join_known (Ok id) a = by a.joined
@@ -661,7 +665,7 @@ module _ (old new : Nodes) (t : Tree) (deep : 0 < depth t) (not_blank : is_blank
   join_adds (Err k) a = record { each = λ u h. inl (subst (λ s. Contains (held s) u) a.unchanged h) }
 
   pub join_answers : (r : Result Id Kind) → Answers old new t r
-      → Joins (λ s id. Knows s id × IsShared s) content held (λ s. s.limit) (λ s u. (is_blank_tree u ≡ false) × ¬ Contains (held s) u) old new t r
+      → Joins (λ s id. Knows s id × IsShared s) content held (λ s. s.limit) is_wanted old new t r
   join_answers r a =
       record {
         known = join_known r a;

@@ -110,36 +110,29 @@ module _ {S : Type 0} {knows : S → Id → Type 0} {content : S → Id → Tree
       (why (subst (λ s. needs s t) (sym join.unchanged) join.needed))
 
   -- the same two of calls that store no squares but such as they need
+  adding : {T : Type 0} {old mid new : S} {t : Tree} (needs : S → Tree → Type 0) (known square : T → Type 0) (Needs : (Tree → Type 0) → Type 0)
+      (r : Result T Kind) → Makes knows content stored most old new known square (Needs (needs new)) r → AddsOnly stored Needs old mid
+      → AddsOnly stored (λ P. P t) mid new → ((P : Tree → Type 0) → P t → Needs P) → MakesOnly knows content stored most needs old new known square Needs r
+  adding needs known square Needs r made before added why = record {
+    known = made.known;
+    square = made.square;
+    keeps = made.keeps;
+    adds = adds-then Needs before added (λ P a. a) why;
+    refusals = made.refusals;
+    room = made.room;
+    needed = made.needed;
+  }
+
   pub joined-only : {old mid new : S} {t : Tree} (needs : S → Tree → Type 0) (square : Tree → Type 0) (Needs : (Tree → Type 0) → Type 0) (r : Result Id Kind)
       → KeepsSquares knows content stored most old mid → AddsOnly stored Needs old mid
       → Joins knows content stored most needs mid new t r → square t → ((P : Tree → Type 0) → P t → Needs P)
       → MakesOnly knows content stored most needs old new (knows new) (λ id. square (content new id)) Needs r
-  joined-only {old = old} {new = new} needs square Needs r first before join is why =
-      let made : Makes knows content stored most old new (knows new) (λ id. square (content new id)) (Needs (needs new)) r =
-      joined-last needs square r first join is (why (needs new)) in
-      record {
-        known = made.known;
-        square = made.square;
-        keeps = made.keeps;
-        adds = adds-then Needs before join.adds (λ P a. a) why;
-        refusals = made.refusals;
-        room = made.room;
-        needed = made.needed;
-      }
+  joined-only {new = new} needs square Needs r first before join is why =
+      adding needs (knows new) (λ id. square (content new id)) Needs r (joined-last needs square r first join is (why (needs new))) before join.adds why
 
   pub refused-only : {T : Type 0} {old mid new : S} {t : Tree} {e : Kind} (needs : S → Tree → Type 0) (known square : T → Type 0)
       (Needs : (Tree → Type 0) → Type 0) (r : Result T Kind) → IsErrAnd r (λ f. f ≡ e)
       → KeepsSquares knows content stored most old mid → AddsOnly stored Needs old mid → Joins knows content stored most needs mid new t (Err e)
       → ((P : Tree → Type 0) → P t → Needs P) → MakesOnly knows content stored most needs old new known square Needs r
-  refused-only {old = old} {new = new} needs known square Needs r told first before join why =
-      let made : Makes knows content stored most old new known square (Needs (needs new)) r = join-refused needs known square r told first join
-      (why (needs new)) in
-      record {
-        known = made.known;
-        square = made.square;
-        keeps = made.keeps;
-        adds = adds-then Needs before join.adds (λ P a. a) why;
-        refusals = made.refusals;
-        room = made.room;
-        needed = made.needed;
-      }
+  refused-only {new = new} needs known square Needs r told first before join why =
+      adding needs known square Needs r (join-refused needs known square r told first join (why (needs new))) before join.adds why

@@ -59,24 +59,18 @@ all_four false q r s e = absurd (true≢false (sym e))
 -- a row of a square of level 1, kept or not
 pair_kept : (low : Bool) (x y : ℤ) (t : Tree) → IsFull t → depth t ≡ 1 → row_cells y (half_band low 1 (kept t x)) ≡ live_cells x y (pair_of low t)
 pair_kept low x y (point s) f e = absurd (omega arith)
-pair_kept false x y (quad a b c d) f e = by (is_blank_tree a && is_blank_tree b && is_blank_tree c && is_blank_tree d) refl
+pair_kept low x y (quad a b c d) f e = by low (is_blank_tree a && is_blank_tree b && is_blank_tree c && is_blank_tree d) refl
   where
     da : depth a ≡ 0
     da = omega arith
 
-    by : (k : Bool) → (is_blank_tree a && is_blank_tree b && is_blank_tree c && is_blank_tree d) ≡ k
-        → row_cells y (half_band false 1 (if k then [] else piece (quad a b c d) x ∷ [])) ≡ live_cells x y (state_at a 0 0 ∷ state_at b 0 0 ∷ [])
-    by true h = let g = all_four (is_blank_tree a) (is_blank_tree b) (is_blank_tree c) (is_blank_tree d) h in blank_two x y a b da (f.4 ∙ da) g.0 g.1
-    by false h = kept_two x y a b da (f.4 ∙ da)
-pair_kept true x y (quad a b c d) f e = by (is_blank_tree a && is_blank_tree b && is_blank_tree c && is_blank_tree d) refl
-  where
-    da : depth a ≡ 0
-    da = omega arith
-
-    by : (k : Bool) → (is_blank_tree a && is_blank_tree b && is_blank_tree c && is_blank_tree d) ≡ k
-        → row_cells y (half_band true 1 (if k then [] else piece (quad a b c d) x ∷ [])) ≡ live_cells x y (state_at c 0 0 ∷ state_at d 0 0 ∷ [])
-    by true h = let g = all_four (is_blank_tree a) (is_blank_tree b) (is_blank_tree c) (is_blank_tree d) h in blank_two x y c d (f.5 ∙ da) (f.6 ∙ da) g.2 g.3
-    by false h = kept_two x y c d (f.5 ∙ da) (f.6 ∙ da)
+    by : (l k : Bool) → (is_blank_tree a && is_blank_tree b && is_blank_tree c && is_blank_tree d) ≡ k
+        → row_cells y (half_band l 1 (if k then [] else piece (quad a b c d) x ∷ [])) ≡ live_cells x y (pair_of l (quad a b c d))
+    by false true h = let g = all_four (is_blank_tree a) (is_blank_tree b) (is_blank_tree c) (is_blank_tree d) h in blank_two x y a b da (f.4 ∙ da) g.0 g.1
+    by false false h = kept_two x y a b da (f.4 ∙ da)
+    by true true h =
+        let g = all_four (is_blank_tree a) (is_blank_tree b) (is_blank_tree c) (is_blank_tree d) h in blank_two x y c d (f.5 ∙ da) (f.6 ∙ da) g.2 g.3
+    by true false h = kept_two x y c d (f.5 ∙ da) (f.6 ∙ da)
 
 -- the rows of bands one behind the other
 row_append : (low : Bool) (y : ℤ) (l m : List Piece)

@@ -150,7 +150,7 @@ in_list first [] paged some q = absurd (omega arith)
 in_list first (n ∷ numbers) paged some q = refl
 
 -- there is room for an Id whose number has a place in the list
-pub room_there : (first index size : ℕ) (q : Id) → (first ≤ q.0 → index ≡ q.0 - first) → (q.0 < first → 2 ^ 32 ≤ index) → size < 2 ^ 32 → index < size
+room_there : (first index size : ℕ) (q : Id) → (first ≤ q.0 → index ≡ q.0 - first) → (q.0 < first → 2 ^ 32 ≤ index) → size < 2 ^ 32 → index < size
     → (first ≤ q.0) × (index ≡ q.0 - first)
 room_there first index size q from before short lt = by (from-or-before first q.0)
   where
@@ -174,15 +174,19 @@ listed_places first ids numbers paged some h =
 
 -- there is a number for an Id at its place
 pub number_left_by : (first : ℕ) (ids : List Id) (numbers : List ℕ) (paged : Id → ℕ) (id : Id) (index : ℕ) → HasPlaces ids (number_by first numbers paged)
-    → ¬ Contains ids id → (first ≤ id.0) × (index ≡ id.0 - first) → index < length numbers → length ids < length numbers
-number_left_by first ids numbers paged id index h absent at room =
+    → ¬ Contains ids id → (first ≤ id.0 → index ≡ id.0 - first) → (id.0 < first → 2 ^ 32 ≤ index) → length numbers < 2 ^ 32
+    → index < length numbers → length ids < length numbers
+number_left_by first ids numbers paged id index h absent from before short room =
+    let at = room_there first index (length numbers) id from before short room in
     number_left first ids numbers id (listed_places first ids numbers paged (omega (arith, room)) h) absent at.0 (omega (arith, at.1, room))
 
 -- the same in the list, at the place that is the Id's
 pub one_listed : (first : ℕ) (ids : List Id) (numbers : List ℕ) (paged : Id → ℕ) (id : Id) (index number : ℕ) → HasPlaces ids (number_by first numbers paged)
-    → ¬ Contains ids id → (first ≤ id.0) × (index ≡ id.0 - first) → index < length numbers → number ≡ length ids + 1
+    → ¬ Contains ids id → (first ≤ id.0 → index ≡ id.0 - first) → (id.0 < first → 2 ^ 32 ≤ index) → length numbers < 2 ^ 32
+    → index < length numbers → number ≡ length ids + 1
     → HasPlaces (ids ++ id ∷ []) (number_by first (set numbers index number) paged)
-one_listed first ids numbers paged id index number h absent at room is =
+one_listed first ids numbers paged id index number h absent from before short room is =
+    let at = room_there first index (length numbers) id from before short room in
     let below : id.0 - first < length numbers = omega (arith, at.1, room) in
     let new = set numbers (id.0 - first) number in
     let placed = same_places (ids ++ id ∷ []) (number_at first new) (number_by first new paged)

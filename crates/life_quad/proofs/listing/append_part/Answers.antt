@@ -1,22 +1,17 @@
-use Rattle.std.proofs.Common.{◌≡◌, ◌++◌, pos, sym, ◌∙◌, arith, to_z, of_z, w64}
+use Rattle.std.proofs.Common.{◌≡◌, ◌++◌, pos, ◌∙◌, arith, to_z, of_z, w64}
 use Rattle.std.proofs.lemmas.Int.{ints}
-use Rattle.std.proofs.lemmas.List.{append-nil, take_all}
+use Rattle.std.proofs.lemmas.List.{take_all}
 use Rattle.life_quad.specs.declared.listing.Placed.{Placed}
 use Rattle.life_quad.specs.Bands.{pieces, part_cells}
 use Rattle.life_quad.proofs.PartLemmas.{part_more}
 use Rattle.life_quad.proofs.listing.append_part.Goals as goal
 
-pub loop-placed-init : goal.loop-placed-init
-loop-placed-init g c = sym (append-nil c.args.list.now.items)
-
 pub loop-placed-preserved : goal.loop-placed-preserved
 loop-placed-preserved g c =
     let none : Placed = record { square = record { 0 = 0 }; column = pos 0 } in
     let p = c.requires.each c.loop-placed.placed-index none c.loop-placed-test.true in
-    let west = p.west in
-    let east = p.east in
     part_more (g.S.Squares.content c.args.squares.now) c.args.band.now _ none c.loop-placed-test.true c.args.south c.args.low _ _ _ _ _ _ _
-    (omega (arith, ints, west, east)) (omega (arith, ints, c.ranges.y)) c.row_of-states.ensures c.loop-placed.invariant
+    (omega (arith, ints, p.west, p.east)) (omega (arith, ints, c.ranges.y)) c.row_of-states.ensures c.loop-placed.invariant
     c.in_ok-append_states.ensures.cells
 
 pub returns-clause-cells : goal.returns-clause-cells

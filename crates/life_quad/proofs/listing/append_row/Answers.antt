@@ -1,23 +1,18 @@
-use Rattle.std.proofs.Common.{◌≡◌, ◌++◌, pos, sym, ◌∙◌, arith, to_z, of_z, w64}
+use Rattle.std.proofs.Common.{◌≡◌, ◌++◌, pos, ◌∙◌, arith, to_z, of_z, w64}
 use Rattle.std.proofs.lemmas.Int.{ints}
-use Rattle.std.proofs.lemmas.List.{append-nil, take_all}
+use Rattle.std.proofs.lemmas.List.{take_all}
 use Rattle.life_quad.specs.declared.listing.Placed.{Placed}
 use Rattle.life_quad.specs.Bands.{pieces, row_cells}
 use Rattle.life_quad.proofs.CellListLemmas.{cell_more}
 use Rattle.life_quad.proofs.listing.append_row.Goals as goal
 
-pub loop-placed-init : goal.loop-placed-init
-loop-placed-init g c = sym (append-nil c.args.list.now.items)
-
 pub loop-placed-preserved : goal.loop-placed-preserved
 loop-placed-preserved g c =
     let none : Placed = record { square = record { 0 = 0 }; column = pos 0 } in
     let p = c.requires.each c.loop-placed.placed-index none c.loop-placed-test.true in
-    let west = p.west in
-    let east = p.east in
     cell_more (g.S.Squares.content c.args.squares.now) c.args.band.now _ none c.loop-placed-test.true _ _ _ _ _ _ c.loop-placed.invariant
     c.in_ok-push.ensures.items
-    c.in-Some.ensures (omega (arith, ints, west, east))
+    c.in-Some.ensures (omega (arith, ints, p.west, p.east))
 
 pub returns-clause-cells : goal.returns-clause-cells
 returns-clause-cells g c =

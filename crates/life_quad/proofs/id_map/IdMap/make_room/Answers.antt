@@ -1,5 +1,4 @@
-use Rattle.std.proofs.Common.{◌≡◌, ◌≢◌, ℕ, ◌+◌, ◌-◌, ◌<◌, ◌≤◌, List, ◌++◌, length, get_or, set, replicate, vec_len, sym, ◌∙◌, ap, arith, get_or-set_same, get_or-set_other, length-append}
-use Rattle.std.proofs.lemmas.List.{take_all}
+use Rattle.std.proofs.Common.{◌≡◌, ◌≢◌, ℕ, ◌<◌, ◌≤◌, List, length, get_or, set, replicate, sym, ◌∙◌, ap, arith, get_or-set_same, get_or-set_other, length-append}
 use Rattle.life_quad.specs.IdMap.{value_of}
 use Rattle.life_quad.specs.Pages.{start_in, index_in}
 use Rattle.life_quad.proofs.PageLemmas.{one_page, same_values}

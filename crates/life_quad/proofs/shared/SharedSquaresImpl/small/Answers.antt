@@ -1,10 +1,11 @@
-use Rattle.std.proofs.Common.{◌+◌, ap, sym, ◌∙◌, arith, subst, inl}
-use Rattle.life_base.proofs.Results.{on_err_both}
+use Rattle.std.proofs.Common.{◌≡◌, ◌+◌, refl, ap, sym, ◌∙◌, arith, subst, inl}
+use Rattle.life_base.specs.Tree.{Tree}
 use Rattle.life_quad.specs.IdMap.{value_of}
 use Rattle.life_quad.specs.Refused.{SomePart}
 use Rattle.life_quad.specs.Store.{four, small_square, squares, IsSmall, Answers, HasSeen}
-use Rattle.life_quad.proofs.CallLemmas.{join_answers}
-use Rattle.life_quad.proofs.KeepingLemmas.{adds-as}
+use Rattle.life_quad.proofs.CallLemmas.{is_wanted, join_answers}
+use Rattle.life_quad.proofs.KeepingLemmas.{keeps-same, adds-none}
+use Rattle.life_quad.proofs.MakingLemmas.{joined-only}
 use Rattle.life_quad.proofs.SmallCells.{four_is, four_small}
 use Rattle.life_quad.proofs.shared.SharedSquaresImpl.small.Goals as goal
 
@@ -26,12 +27,5 @@ returns-then-has_quarters c =
     (omega (arith, c.if-cells-eq0.false)) (omega arith) in
     let answers = subst (λ t. Answers s c.mark.new.self t r) (ap (λ n. small_square (528 + n)) c.from.ensures ∙ four_is d) c.mark.ensures in
     let join = join_answers s c.mark.new.self (four d) (omega arith) small.1 r answers in
-    record {
-      known = join.known;
-      square = join.square;
-      keeps = join.keeps;
-      adds = adds-as (λ P. SomePart P (four d)) join.adds (λ P p. inl p);
-      refusals = join.refusals;
-      room = join.room;
-      needed = on_err_both r (λ needs same. inl (needs.0, rw same needs.1)) join.needed join.unchanged;
-    }
+    let Needs : (Tree → Type 0) → Type 0 = λ P. SomePart P (four d) in
+    joined-only is_wanted (λ u. u ≡ four d) Needs r (keeps-same s) (adds-none Needs s) join refl (λ P p. inl p)
