@@ -15,8 +15,8 @@ use life_sweep::laws::life_answers_at;
 use life_sweep::{ByCounts, next_generation};
 use std::alloc::Global;
 
-/// Half of the side of the plane: its coordinates go from -HALF to HALF - 1.
-const HALF: i64 = 1 << (MAX_LEVEL - 1);
+/// Half of the side of the plane: its coordinates go from -HALF_PLANE to HALF_PLANE - 1.
+const HALF_PLANE: i64 = 1 << (MAX_LEVEL - 1);
 
 /// Whether a box on the plane doesn't reach the plane's edge.
 fn is_off_edge(bounds: &Bounds) -> bool
@@ -25,10 +25,10 @@ fn is_off_edge(bounds: &Bounds) -> bool
     ensures north { result ≡ true → neg_ℤ (pos (2 ^ 61)) <ℤ bounds.now.top }
     ensures south { result ≡ true → after bounds.now.bottom <ℤ pos (2 ^ 61) }
 {
-    if bounds.left <= -HALF || bounds.right >= HALF - 1 {
+    if bounds.left <= -HALF_PLANE || bounds.right >= HALF_PLANE - 1 {
         return false;
     }
-    if bounds.top <= -HALF || bounds.bottom >= HALF - 1 {
+    if bounds.top <= -HALF_PLANE || bounds.bottom >= HALF_PLANE - 1 {
         return false;
     }
     true

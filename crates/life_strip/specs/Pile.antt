@@ -4,11 +4,16 @@ use Rattle.life_base.specs.Tree.{Tree}
 use Rattle.life_quad.specs.declared.id.Id.{Id}
 use Rattle.life_strip.specs.declared.spans.Strip.{Strip}
 use Rattle.life_strip.specs.declared.pile.Pile.{Pile}
+use Rattle.life_strip.specs.Needed.{SomeSquare}
 use Rattle.life_strip.specs.Picture.{AreStacked, IsLowest, IsRow, height, picture}
 
 -- all strips of a pile: those of whole bands, and below them the rows of the next band
 abbrev pub strips_of : Pile → List Strip
 strips_of pile = pile.strips.items ++ pile.band.items
+
+-- a square of the rows of a pile has a property
+abbrev pub SomeOfPile : (Tree → Type 0) → (Id → Tree) → Pile → Type 0
+SomeOfPile P content pile = SomeSquare P (height (strips_of pile)) (picture content (strips_of pile))
 
 -- the strips of whole bands of four rows have falling levels, and below them are at most three rows
 pub record IsPile (knows : Id → Type 0) (content : Id → Tree) (pile : Pile) : Type 0 where

@@ -4,7 +4,7 @@ ghost use Rattle.life_base.specs.Tree.{depth, state_at};
 ghost use Rattle.life_quad.specs.Grows.{Grows};
 ghost use Rattle.life_strip.specs.Picture.{picture, height, AreStacked, IsLowest, IsRow};
 ghost use Rattle.life_strip.specs.Needed.{SomeSquare};
-ghost use Rattle.life_strip.specs.Pile.{IsPile, IsClosed, strips_of};
+ghost use Rattle.life_strip.specs.Pile.{IsPile, IsClosed, SomeOfPile, strips_of};
 
 use crate::rows::{band_strip, blank_level, push_strip, whole};
 use crate::spans::Strip;
@@ -46,8 +46,7 @@ impl Pile {
         ensures closed { OnOk result (IsClosed (S.knows squares.new) (S.content squares.old)
             (S.content squares.new) self.old self.new) }
         ensures grows { Grows S.Squares squares.old squares.new result
-            (λ P. SomeSquare P (height (strips_of self.old))
-            (picture (S.content squares.old) (strips_of self.old))) }
+            (λ P. SomeOfPile P (S.content squares.old) self.old) }
     {
         let Some(last) = self.band.pop() else {
             return Ok(());
@@ -69,8 +68,7 @@ impl Pile {
         ensures closed { OnOk result (IsClosed (S.knows squares.new) (S.content squares.old)
             (S.content squares.new) self.old self.new) }
         ensures grows { Grows S.Squares squares.old squares.new result
-            (λ P. SomeSquare P (height (strips_of self.old))
-            (picture (S.content squares.old) (strips_of self.old))) }
+            (λ P. SomeOfPile P (S.content squares.old) self.old) }
     {
         let Some(strip) = band_strip(squares, &mut self.spare, self.band.as_slice())? else {
             return self.push_rows(squares);

@@ -14,7 +14,7 @@ use std::alloc::Global;
 use std::mem;
 
 // Half of the side of the plane: the column and the row of the cell (0, 0).
-const HALF: i64 = 1 << (MAX_LEVEL - 1);
+const HALF_PLANE: i64 = 1 << (MAX_LEVEL - 1);
 
 // The side of the plane.
 const SIDE: u64 = 1 << MAX_LEVEL;
@@ -35,7 +35,7 @@ fn offset(x: i64) -> u64
     requires high { x <ℤ pos half_plane }
     ensures { pos result ≡ (x +ℤ pos half_plane) }
 {
-    (x + HALF) as u64
+    (x + HALF_PLANE) as u64
 }
 
 impl Plane {

@@ -3,7 +3,7 @@ ghost use Rattle.std.specs.Prelude.{◌≡◌, ◌⊎◌, ℕ, ℤ, ◌+◌, ◌
 ghost use Rattle.life_sweep.specs.Generation.{after};
 ghost use Rattle.life_sweep.specs.Rows.{IsRest, IsInside, StartsFrom, StartsAt, SomeStartsAt, InRows, AreInside, AreBelow, AreRows, IsColumn, column_at, is_blank_column, left_in, far, first_coordinate};
 
-use crate::plane::HALF;
+use crate::plane::HALF_PLANE;
 use life_base::{Cell, State};
 
 /// Three values, one below the other.
@@ -25,7 +25,7 @@ pub(crate) const BLANK: Column<State> = Column {
 };
 
 // East of every cell.
-const FAR: i64 = HALF;
+const FAR: i64 = HALF_PLANE;
 
 impl Column<State> {
     /// Whether no cell stands in the column.

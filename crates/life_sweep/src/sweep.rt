@@ -15,7 +15,7 @@ use crate::band::Band;
 use crate::column::Rows;
 use crate::law::Law;
 use crate::pen::Pen;
-use crate::plane::HALF;
+use crate::plane::HALF_PLANE;
 use crate::window::Window;
 use life_base::{Cell, Fault, Kind, MAX_LEVEL};
 use life_quad::{Id, Squares};
@@ -26,7 +26,7 @@ use std::alloc::Global;
 fn is_on_plane(x: i64, y: i64) -> bool
     ensures { IsTrue result ↔ IsOnPlane x y 1 }
 {
-    -HALF <= x && x < HALF && -HALF <= y && y < HALF
+    -HALF_PLANE <= x && x < HALF_PLANE && -HALF_PLANE <= y && y < HALF_PLANE
 }
 
 // Gives the place of a window in the row `y` its next state. Tells whether a place outside the plane would not become 0, as it may be
