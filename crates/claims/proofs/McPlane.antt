@@ -15,6 +15,7 @@ use Rattle.life_mc.specs.Cells.{root_level as layer_root_level}
 use Rattle.life_mc.specs.Reading.{row_byte, columns}
 use Rattle.life_mc.specs.declared.line.Line.{Line}
 use Rattle.life_mc.specs.declared.line.Line.TheVariants.{Leaf, Quad}
+use Rattle.life_mc.proofs.TestFacts.{all_four}
 use Rattle.claims.specs.Macrocell.{Node, leaf, quad, level_of, leaf_state, quarter_at, state_in, root_level, cell}
 use Rattle.claims.proofs.Bits.{all_over, all_over_at, bit}
 use Rattle.claims.proofs.NodeLaw.{line_in, level_is}
@@ -138,9 +139,6 @@ chosen P true false a b c d p q r s = q
 chosen P false true a b c d p q r s = r
 chosen P false false a b c d p q r s = s
 
-four : (a b c d : Bool) → (a && (b && (c && (d && true)))) ≡ true → (a ≡ true) × (b ≡ true) × (c ≡ true) × (d ≡ true)
-four a b c d h = (first _ _ h, first _ _ (second a _ h), first _ _ (second b _ (second a _ h)), first _ _ (second c _ (second b _ (second a _ h))))
-
 module _ (rule : LayerRule) (nodes : List Node) (valid : AreSquares 62 rule (map line_in nodes)) where
   abbrev lines : List Line
   lines = map line_in nodes
@@ -172,7 +170,7 @@ module _ (rule : LayerRule) (nodes : List Node) (valid : AreSquares 62 rule (map
   at_node k i (quad level a b c d) x y h l e g ltb-true =
       let levels = map line_level (take i lines) in
       let is = valid i (Quad level a b c d) (in_lines nodes i (quad level a b c d) g) in
-      let q = four _ _ _ _ (ap (λ n. list_all (is_quarter rule levels n) (a ∷ b ∷ c ∷ d ∷ [])) (sym e) ∙ is.2) in
+      let q = all_four _ _ _ _ (ap (λ n. list_all (is_quarter rule levels n) (a ∷ b ∷ c ∷ d ∷ [])) (sym e) ∙ is.2) in
       let P : ℕ → Type 0 = Names nodes k in
       ltb-true (quarter_at (2 ^ k) x y a b c d) (x % 2 ^ k) (y % 2 ^ k)
       (chosen P (nat_lt y (2 ^ k)) (nat_lt x (2 ^ k)) a b c d (quarter_names rule nodes i k a q.0) (quarter_names rule nodes i k b q.1)

@@ -1,17 +1,14 @@
 -- Small facts on tests.
-use Rattle.std.proofs.Common.{◌≡◌, ℕ, suc, ◌*◌, ◌≤◌, Bool, true, false, cond, ◌&&◌, refl, arith}
+use Rattle.std.proofs.Common.{◌≡◌, ℕ, suc, ◌*◌, ◌≤◌, Bool, true, false, cond, ◌&&◌, arith}
 use Rattle.std.specs.Prelude.{◌==◌}
 use Rattle.std.proofs.lemmas.Bool.Decides.{nat_tests}
 use Rattle.life_base.specs.declared.rule.Rule.{Rule}
 use Rattle.life_base.specs.declared.rule.Rule.TheVariants.{Life, Named}
+use Rattle.life_base.proofs.Numbers.{first, second}
 use Rattle.life_mc.specs.Macrocell.{largest_state}
 
 pub all_four : (a b c d : Bool) → (a && (b && (c && (d && true)))) ≡ true → (a ≡ true) × (b ≡ true) × (c ≡ true) × (d ≡ true)
-all_four true true true true h = (refl, refl, refl, refl)
-all_four true true true false h = cc
-all_four true true false d h = cc
-all_four true false c d h = cc
-all_four false b c d h = cc
+all_four a b c d h = (first _ _ h, first _ _ (second a _ h), first _ _ (second b _ (second a _ h)), first _ _ (second c _ (second b _ (second a _ h))))
 
 -- a test's weight
 pub weigh : (v : Bool) (w : ℕ) → cond v w 0 ≡ w * cond v 1 0

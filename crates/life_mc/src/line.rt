@@ -1,12 +1,12 @@
 //! The lines of a macrocell file: what one is, and the square that a node line writes.
 
-ghost use Rattle.std.specs.Prelude.{◌≡◌, ◌<◌, ◌-◌, ◌^◌, length, true, None, Some, Err, MatchOption, MatchResult, ◌⊎◌, drop, IfErr};
+ghost use Rattle.std.specs.Prelude.{◌≡◌, ◌<◌, ◌-◌, ◌^◌, length, true, None, Some, Err, MatchResult, ◌⊎◌, drop, IfErr};
 ghost use Rattle.life_base.specs.Text.{trim, value_of};
 ghost use Rattle.life_base.specs.Numbers.{u64_of};
 ghost use Rattle.life_base.specs.declared.kind.Kind.TheVariants.{Memory};
 ghost use Rattle.std.specs.Result.{result_err};
 ghost use Rattle.life_mc.specs.Reading.{is_command, is_node_line, broken_after};
-ghost use Rattle.life_mc.specs.Standing.{IsParsed};
+ghost use Rattle.life_mc.specs.Standing.{IsCommandRead, IsParsed};
 
 use crate::node::read_node;
 use life_base::{Kind, MAX_LEVEL, Rule, begins_with, is_blank, is_whitespace, read_u64, trimmed};
@@ -70,11 +70,7 @@ fn parse_command(
     levels: &[u8],
     line: &[u8],
 ) -> Result<Option<Directive>, Kind>
-    ensures { MatchResult result (λ found. MatchOption found (is_node_line line.now ≡ true)
-        (λ directive. IsParsed line.now directive
-        × (broken_after MAX_LEVEL rule.now levels.now line.now ≡ None)))
-        (λ kind. (kind ≡ Memory)
-        ⊎ (broken_after MAX_LEVEL rule.now levels.now line.now ≡ Some kind)) }
+    ensures { IsCommandRead MAX_LEVEL rule.now levels.now line.now result }
 {
     if begins_as_node(line) {
         return Ok(None);
@@ -90,11 +86,7 @@ fn parse_by_tests(
     levels: &[u8],
     line: &[u8],
 ) -> Result<Option<Directive>, Kind>
-    ensures { MatchResult result (λ found. MatchOption found (is_node_line line.now ≡ true)
-        (λ directive. IsParsed line.now directive
-        × (broken_after MAX_LEVEL rule.now levels.now line.now ≡ None)))
-        (λ kind. (kind ≡ Memory)
-        ⊎ (broken_after MAX_LEVEL rule.now levels.now line.now ≡ Some kind)) }
+    ensures { IsCommandRead MAX_LEVEL rule.now levels.now line.now result }
 {
     if is_blank(line) {
         return Ok(Some(Directive::Nothing));

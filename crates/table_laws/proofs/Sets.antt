@@ -12,6 +12,8 @@ use Rattle.std.proofs.Math.Bool.{or_assoc, or-false}
 use Rattle.std.proofs.lemmas.List.Folds.{list_any-append}
 use Rattle.std.proofs.lemmas.List.{get_or_past}
 use Rattle.std.proofs.lemmas.Bool.{cases_Bool}
+use Rattle.life_table.proofs.Values.{union_at}
+use Rattle.life_table.proofs.Searching.{zeros_at}
 use Rattle.life_table.specs.Meaning.{has_state}
 use Rattle.life_table.specs.Reading.{single, union, union_of, states_of_entry}
 use Rattle.life_table.specs.Valid.{IsEntry, IsVariable}
@@ -49,13 +51,6 @@ one_of m (suc (suc n)) h l = absurd (omega (arith, l))
 bit_of_or : (x y i : ℕ) → (bit_at (bit_or x y) i == 1) ≡ (bit_at x i == 1 || bit_at y i == 1)
 bit_of_or x y i = ap (λ n. n == 1) (bit_at_or x y i) ∙ one_of (bit_at x i) (bit_at y i) (bit_at-lt x i) (bit_at-lt y i)
 
-union_low : (a b : List ℕ) (k : ℕ) → k < 4 → slice_index (union a b) k ≡ bit_or (slice_index a k) (slice_index b k)
-union_low a b zero h = refl
-union_low a b (suc zero) h = refl
-union_low a b (suc (suc zero)) h = refl
-union_low a b (suc (suc (suc zero))) h = refl
-union_low a b (suc (suc (suc (suc k)))) h = absurd (omega (arith, h))
-
 union_small : (a b : List ℕ) → IsSmall (union a b)
 union_small a b s h = no_word (union a b) s (get_or_past (union a b) (s / 64) 0 (omega (arith, h)))
 
@@ -64,7 +59,7 @@ union_has a b h k s = elim (leb_tells 256 s) [
   | inl e ↦ union_small a b s e.1 ∙ sym (ap (λ v. v || has_set b s) (h s e.1) ∙ k s e.1)
   | inr n ↦
       let below : s / 64 < 4 = (let l : s < 256 = n.1 in omega (arith, l)) in
-      ap (λ m. bit_at m (s % 64) == 1) (union_low a b (s / 64) below) ∙ bit_of_or (slice_index a (s / 64)) (slice_index b (s / 64)) (s % 64)
+      ap (λ m. bit_at m (s % 64) == 1) (union_at a b (s / 64) below) ∙ bit_of_or (slice_index a (s / 64)) (slice_index b (s / 64)) (s % 64)
 ]
 
 fold_has : (sets : List (List ℕ)) (set : List ℕ) → IsSmall set → All IsSmall sets → (s : ℕ)
@@ -75,15 +70,8 @@ fold_has (t ∷ sets) set h all s =
     ∙ ap (λ v. v || list_any (λ u. has_set u s) sets) (union_has set t h (All-head IsSmall t sets all) s)
     ∙ or_assoc (has_set set s) (has_set t s) (list_any (λ u. has_set u s) sets)
 
-zeros : (k : ℕ) → slice_index (0 ∷ 0 ∷ 0 ∷ 0 ∷ []) k ≡ 0
-zeros zero = refl
-zeros (suc zero) = refl
-zeros (suc (suc zero)) = refl
-zeros (suc (suc (suc zero))) = refl
-zeros (suc (suc (suc (suc k)))) = refl
-
 empty_has : (s : ℕ) → has_set (0 ∷ 0 ∷ 0 ∷ 0 ∷ []) s ≡ false
-empty_has s = no_word (0 ∷ 0 ∷ 0 ∷ 0 ∷ []) s (zeros (s / 64))
+empty_has s = no_word (0 ∷ 0 ∷ 0 ∷ 0 ∷ []) s (zeros_at 4 (s / 64))
 
 pub union_of_has : (sets : List (List ℕ)) → All IsSmall sets → (s : ℕ) → has_set (union_of sets) s ≡ list_any (λ t. has_set t s) sets
 union_of_has sets all s = fold_has sets (0 ∷ 0 ∷ 0 ∷ 0 ∷ []) (λ r h. empty_has r) all s ∙ ap (λ v. v || list_any (λ t. has_set t s) sets) (empty_has s)

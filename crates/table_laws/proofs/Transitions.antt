@@ -7,6 +7,7 @@ use Rattle.std.proofs.lemmas.List.{map-append}
 use Rattle.std.proofs.lemmas.Bool.{cases_Bool}
 use Rattle.std.proofs.Math.Bool.{or-false}
 use Rattle.std.proofs.Math.Seq.{take-append_seam}
+use Rattle.life_table.proofs.LineForms.{last_at}
 use Rattle.life_base.specs.declared.kind.Kind.{Kind}
 use Rattle.life_base.specs.declared.kind.Kind.TheVariants as kinds
 use Rattle.life_table.specs.Meaning.{has_state}
@@ -124,10 +125,6 @@ module _ {X : Type 0} (f : List ℕ → Option X) where
 
 -- ---- the transition of some parts
 
-last_of : {X : Type 0} (xs : List X) (x : X) → slice_get (xs ++ x ∷ []) (length xs) ≡ Some x
-last_of [] x = refl
-last_of (y ∷ xs) x = last_of xs x
-
 no_parts : (k number : ℕ) (parts : List LayerEntry) → (length parts == k + 2) ≡ false → transition_from k number parts ≡ None
 no_parts k number parts e =
     ap (λ v. cond v (option_map (λ (output : LayerEntry). record { line = number; inputs = take (k + 1) parts; output = output })
@@ -143,7 +140,7 @@ all_parts k number front last l =
     ∙ ap (λ m. option_map (λ (output : LayerEntry). record { line = number; inputs = take m (front ++ last ∷ []); output = output })
     (slice_get (front ++ last ∷ []) m)) (sym l)
     ∙ ap (option_map (λ (output : LayerEntry). record { line = number; inputs = take (length front) (front ++ last ∷ []); output = output }))
-    (last_of front last)
+    (last_at front last)
     ∙ ap (λ (es : List LayerEntry). Some (record { line = number; inputs = es; output = last })) (take-append_seam front (last ∷ []))
 
 module _ (parsed : Parsed) (name : List ℕ) (variables : List Variable) (same : AreVariables parsed.vars variables) (good : IsGood parsed)
