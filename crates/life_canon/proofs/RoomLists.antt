@@ -1,26 +1,10 @@
 -- Lists of squares that hold no square twice, and what is among elements.
-use Rattle.std.proofs.Common.{◌≡◌, ◌≢◌, ℕ, zero, suc, ◌<◌, ◌≤◌, List, [], ◌∷◌, ◌++◌, length, map, get_or, refl, ap, sym, ◌∙◌, subst, arith, ◌⊎◌, inl, inr, AllPairs}
+use Rattle.std.proofs.Common.{◌≡◌, ◌≢◌, ℕ, zero, suc, ◌<◌, ◌≤◌, List, [], ◌∷◌, length, map, get_or, refl, ap, sym, ◌∙◌, subst, arith, inl, inr, AllPairs}
 use Rattle.std.specs.Prelude.{Contains}
 use Rattle.life_base.specs.Tree.{Tree}
-
--- an element of a list, by cases
-abbrev pub Among : {A : Type 0} → List A → A → Type 0
-Among [] a = ⊥
-Among (x ∷ xs) a = (x ≡ a) ⊎ Among xs a
-
-pub among-left : {A : Type 0} (xs ys : List A) (a : A) → Among xs a → Among (xs ++ ys) a
-among-left [] ys a h = absurd h
-among-left (x ∷ xs) ys a (inl e) = inl e
-among-left (x ∷ xs) ys a (inr h) = inr (among-left xs ys a h)
-
-pub among-right : {A : Type 0} (xs ys : List A) (a : A) → Among ys a → Among (xs ++ ys) a
-among-right [] ys a h = h
-among-right (x ∷ xs) ys a h = inr (among-right xs ys a h)
-
-pub contains-among : {A : Type 0} (xs : List A) (a : A) → Among xs a → Contains xs a
-contains-among [] a h = absurd h
-contains-among (x ∷ xs) a (inl e) = (0, omega arith, e)
-contains-among (x ∷ xs) a (inr h) = let k = contains-among xs a h in (suc k.0, omega (arith, k.1), k.2)
+pub use Rattle.life_rle.proofs.BlockItems.{Among}
+pub use Rattle.life_rle.proofs.BlockCover.{among-left, among-right}
+pub use Rattle.life_rle.proofs.BlockLaw.{contains-among}
 
 pub contains-map : {A B : Type 0} (f : A → B) (xs : List A) (a : A) → Contains xs a → Contains (map f xs) (f a)
 contains-map f [] a h = absurd (omega (arith, h.1))
