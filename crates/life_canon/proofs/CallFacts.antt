@@ -3,7 +3,7 @@ use Rattle.std.proofs.Common.{◌≡◌, ℕ, ◌<◌, ◌≤◌, ◌^◌, true,
 use Rattle.std.specs.Prelude.{Result, Ok, Err, IfErr}
 use Rattle.life_base.specs.Refusal.{fault_of}
 use Rattle.life_base.specs.Text.{lines_of}
-use Rattle.life_base.specs.Tree.{depth, tree_cell}
+use Rattle.life_base.specs.Tree.{depth}
 use Rattle.life_base.specs.declared.cell.Cell.{Cell}
 use Rattle.life_base.specs.declared.cell.TheConstants.{MAX_LEVEL}
 use Rattle.life_base.specs.declared.fault.Fault.{Fault}
@@ -16,7 +16,7 @@ use Rattle.life_quad.proofs.LawLemmas.{known_squares_are_full, equal_squares_hav
 use Rattle.life_rle.specs.Sorted.{are_sorted_cells}
 use Rattle.life_rle.specs.Laws.{RleTextReadsBack}
 use Rattle.life_rle.specs.Written.{rle_text}
-use Rattle.life_canon.specs.Universe.{Universe, IsOnPlane, whole, rle_universe}
+use Rattle.life_canon.specs.Universe.{Universe, IsSame, IsOnPlane, whole, rle_universe, square_universe}
 use Rattle.life_canon.specs.Files.{Reads, Refuses, Same, as_rle}
 use Rattle.life_canon.specs.Feeding.{RefusesFront}
 use Rattle.life_canon.specs.Laws.{RleTextsAreFiles, RleTextsKeepPatterns}
@@ -25,10 +25,9 @@ use Rattle.life_canon.specs.Listing.{canonical_file, canon_text}
 use Rattle.life_canon.specs.Store.{content, Keeps, IsRead, IsWant, RefusesIn, universe_in}
 use Rattle.life_canon.specs.Texts.{IsCanonical, AreCellsOf, HasMoreCells, IsRleOf}
 use Rattle.life_canon.specs.declared.pattern.Pattern.{Pattern}
-use Rattle.life_canon.proofs.Canonical.{same-whole, same-canonical}
+use Rattle.life_canon.proofs.Canonical.{same-whole, same-canonical, same-sym, same-trans}
 use Rattle.life_canon.proofs.CellFacts.{cells-of, sorted-cells, listed-cells}
-use Rattle.life_canon.proofs.Content.{least-one}
-use Rattle.life_canon.proofs.Fits.{read-fits, read-same}
+use Rattle.life_canon.proofs.Fits.{read-fits, read-same, root-high}
 use Rattle.life_canon.proofs.Formats.{files_say_one, reads-plane}
 use Rattle.life_canon.proofs.TreeWords.{below_top}
 use Rattle.life_canon.proofs.TextLaws as laws
@@ -82,7 +81,7 @@ least-text bytes store pattern r text e =
 -- ---- lists of cells
 
 pub root-deep : (bytes : List ℕ) (store : Nodes) (pattern : Pattern) → IsRead MAX_LEVEL bytes store pattern → 1 ≤ depth (content store pattern.root)
-root-deep bytes store pattern r = let l = (read-fits bytes store pattern r).level in let o = least-one pattern.rule in omega arith
+root-deep bytes store pattern r = root-high pattern.rule _ (read-fits bytes store pattern r).level
 
 pub cells-read : (bytes : List ℕ) (store : Nodes) (pattern : Pattern) (r : IsRead MAX_LEVEL bytes store pattern) (cells : List Cell)
     → IsCellList (content store pattern.root) cells
@@ -161,19 +160,9 @@ rle-fault bytes store pattern read (Err fault) (inr many) = inr (many.0, many.1 
 pub same-read : (first second : List ℕ) (store : Nodes) (a b : Pattern) → IsRead MAX_LEVEL first store a → IsRead MAX_LEVEL second store b
     → a.rule ≡ b.rule → a.generation ≡ b.generation → a.root ≡ b.root → Same MAX_LEVEL first second
 same-read first second store a b p q rule generation root =
-    let s = read-same first store a p in
-    let t = read-same second store b q in
-    record {
-      first = p.universe;
-      second = q.universe;
-      reads_first = p.reads;
-      reads_second = q.reads;
-      same = record {
-        rule = s.rule ∙ rule ∙ sym t.rule;
-        generation = s.generation ∙ generation ∙ sym t.generation;
-        cells = λ x y. s.cells x y ∙ ap (λ id. tree_cell (content store id) x y) root ∙ sym (t.cells x y);
-      };
-    }
+    let one : universe_in store a ≡ universe_in store b = λ i. square_universe (rule i) (generation i) (content store (root i)) in
+    let same = same-trans _ _ _ (subst (IsSame p.universe) one (read-same first store a p)) (same-sym _ _ (read-same second store b q)) in
+    record { first = p.universe; second = q.universe; reads_first = p.reads; reads_second = q.reads; same = same }
 
 pub read-equal : (first second : List ℕ) (store : Nodes) (a b : Pattern) → IsRead MAX_LEVEL first store a → IsRead MAX_LEVEL second store b
     → Same MAX_LEVEL first second

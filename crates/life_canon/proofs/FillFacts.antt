@@ -1,6 +1,7 @@
 -- The square of a number of a node line, among the squares of the lines before it.
 use Rattle.std.proofs.Common.{◌≡◌, ℕ, zero, suc, ◌+◌, ◌-◌, ◌<◌, ◌≤◌, true, List, [], ◌∷◌, length, take, map, get_or, refl, ap, sym, ◌∙◌, subst, arith, inl, inr, add-one}
 use Rattle.std.proofs.lemmas.Option.{slice_get-get_or}
+use Rattle.std.proofs.Math.Nat.{le_refl}
 use Rattle.life_base.specs.Tree.{Tree, quad, depth}
 use Rattle.life_base.specs.declared.cell.TheConstants.{MAX_LEVEL}
 use Rattle.life_base.specs.declared.rule.Rule.{Rule}
@@ -20,12 +21,9 @@ take-all (line ∷ lines) = ap (λ l. line ∷ l) (take-all lines)
 quarter-of : (rule : Rule) (lines : List Line) (level number : ℕ) → is_quarter rule (map level_of lines) (level + 1) number ≡ true
     → IsQuarter rule lines (length lines) level number
 quarter-of rule lines level number h =
-    quarter-test rule lines (length lines) level number (same (length lines))
+    quarter-test rule lines (length lines) level number (le_refl (length lines))
     (subst (λ ls. is_quarter rule (map level_of ls) (suc level) number ≡ true) (sym (take-all lines))
     (subst (λ n. is_quarter rule (map level_of lines) n number ≡ true) (add-one level) h))
-  where
-    same : (n : ℕ) → n ≤ n
-    same n = omega arith
 
 -- above, a number that isn't 0 has an Id, which names its square
 pub record HasId (knows : Id → Type 0) (content : Id → Tree) (lines : List Line) (ids : List Id) (level number : ℕ) (d : Id) : Type 0 where

@@ -13,11 +13,15 @@ use Rattle.life_canon.specs.Store.{IsRead, IsTrimmed, content, universe_in}
 use Rattle.life_canon.specs.declared.pattern.Pattern.{Pattern}
 use Rattle.life_canon.proofs.TreeWords.{below_top, trimmed_to}
 use Rattle.life_canon.proofs.Trees.{depth_is}
-use Rattle.life_canon.proofs.Content.{least-one}
+pub use Rattle.life_canon.proofs.Content.{least-one}
 use Rattle.life_canon.proofs.Trees.{centred-trimmed}
 use Rattle.life_canon.proofs.Planes.{states-upto, trimmed-is, centred-tree_cell, tree_cell-outside}
 use Rattle.life_canon.proofs.Canonical.{whole-is, whole-trimmed, same-cells, least-high}
 use Rattle.life_canon.proofs.Formats.{reads-plane}
+
+-- a root is no single cell
+pub root-high : (rule : Rule) (d : ℕ) → least_level rule ≤ d → 1 ≤ d
+root-high rule d h = let o = least-one rule in omega (arith, o, h)
 
 pub whole-fixed : (top : ℕ) (u : Universe) → 3 ≤ suc top → IsOnPlane (suc top) u → trimmed (whole (suc top) u) (least_level u.rule) ≡ whole (suc top) u
 whole-fixed top u high h =

@@ -20,7 +20,7 @@ use Rattle.life_canon.proofs.LineWords.{line_at, IsQuarter, IsValidLine}
 use Rattle.life_canon.proofs.LineFacts.{tree_of-line, get-line_at, less_one, squares-valid, root_level-last}
 use Rattle.life_canon.proofs.Trees.{centred-trimmed, centred-depth, outside-by, square-same, trim_times-once, trim_times-stop, blank-blank, blank-depth, bool_cases, true_false, depth_is, same_tree-refl, same_tree-true}
 use Rattle.life_canon.proofs.ListFacts.{is_in-left, is_in-right, is_in-append_cases, is_in-one, NoRepeats, no_longer}
-use Rattle.life_canon.proofs.Walk.{listed-walk, listed-once, walk-small, walk-big, walk-level, walk-cases, WalkCase, root_case, nw_case, ne_case, sw_case, se_case}
+use Rattle.life_canon.proofs.Walk.{le-more, listed-walk, listed-once, walk-small, walk-big, walk-level, walk-cases, WalkCase, root_case, nw_case, ne_case, sw_case, se_case}
 use Rattle.life_canon.proofs.Content.{not_small, least-one, length-lines_for}
 use Rattle.life_canon.proofs.Planes.{full-depth}
 use Rattle.life_canon.proofs.Canonical.{rooted, root-most, no-lines, listed-last, listed-blank, least-high, whole-is, whole-trimmed, nowhere, nowhere-zero, centred-nowhere}
@@ -146,9 +146,6 @@ walk-lines top m f v leaves (suc k) i (suc j) l q t h = elim q [
 
 -- ---- the walk of a trimmed square
 
-le_suc : (a b : ℕ) → a ≤ b → a ≤ suc b
-le_suc a b h = omega arith
-
 le_from : (a b : ℕ) → a ≡ b → a ≤ b
 le_from a b h = omega arith
 
@@ -196,7 +193,7 @@ module _ (a b c d : Tree) (m : ℕ) (t : Tree) where
 
 module _ {k : ℕ} {a b c d : Tree} (p : HasDepth k a) (q : HasDepth k b) (r : HasDepth k c) (s : HasDepth k d) (m : ℕ) (t : Tree) where
   quad-big : (is_blank a && is_blank b && is_blank c && is_blank d) ≡ false → m ≤ k → is_small m (quad a b c d) ≡ false
-  quad-big h l = not_small m (quad a b c d) (suc k) (depth_is (quad_depth p q r s)) (le_suc m k l) h
+  quad-big h l = not_small m (quad a b c d) (suc k) (depth_is (quad_depth p q r s)) (le-more m k l) h
 
   from-nw : is_in (walk a m) t ≡ true → is_in (walk (quad a b c d) m) t ≡ true
   from-nw h = let v = big-parts m k a (depth_is p) (walked-big a m t h) in
@@ -225,7 +222,7 @@ depth-trim (suc n) point_depth l = absurd (omega arith)
 depth-trim (suc n) (quad_depth {nw = a} {ne = b} {sw = c} {se = d} point_depth q r s) l = absurd (omega arith)
 depth-trim (suc n) {root = root} (quad_depth (quad_depth {k = k} a b c d) (quad_depth e f g h) (quad_depth i j o p) (quad_depth q r s t)) l =
     elim (bool_cases (has_blank_border root)) [
-      | inl u ↦ subst (λ v. depth v ≤ suc (suc k)) (sym (trim_times-once n root u)) (le_suc _ _ (depth-trim n (quad_depth d g j q) (omega arith)))
+      | inl u ↦ subst (λ v. depth v ≤ suc (suc k)) (sym (trim_times-once n root u)) (le-more _ _ (depth-trim n (quad_depth d g j q) (omega arith)))
       | inr u ↦ subst (λ v. depth v ≤ suc (suc k)) (sym (trim_times-stop (suc n) root u))
           (le_from _ _ (depth_is (quad_depth (quad_depth a b c d) (quad_depth e f g h) (quad_depth i j o p) (quad_depth q r s t))))
     ]

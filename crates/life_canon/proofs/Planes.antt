@@ -3,6 +3,7 @@ use Rattle.std.proofs.Common.{◌≡◌, ℕ, zero, suc, ◌+◌, ◌-◌, ◌^�
 use Rattle.std.specs.Prelude.{nat_lt, int_le, int_lt, unsigned_abs}
 use Rattle.std.specs.List.{list_all}
 use Rattle.std.proofs.Math.Bool.{and_assoc, and-true}
+use Rattle.std.proofs.lemmas.Bool.{cond-true, cond-false}
 use Rattle.std.proofs.lemmas.Bool.Decides.{nat_tests}
 use Rattle.std.proofs.lemmas.Int.{ints}
 use Rattle.life_base.specs.Tree.{Tree, point, quad, depth, state_at, half_side, tree_cell, IsFull, is_blank_tree as is_blank}
@@ -132,12 +133,6 @@ low_place n i h =
 four_true : (a b c d : Bool) → a ≡ true → b ≡ true → c ≡ true → d ≡ true → (a && b && c && d) ≡ true
 four_true a b c d p q r s = grind arith
 
-cond_true : (b : Bool) (m n : ℕ) → b ≡ true → cond b m n ≡ m
-cond_true b m n h = rw h refl
-
-cond_false : (b : Bool) (m n : ℕ) → b ≡ false → cond b m n ≡ n
-cond_false b m n h = rw h refl
-
 half-of : (t : Tree) (k : ℕ) → depth t ≡ suc k → half_side t ≡ 2 ^ k
 half-of t k e = let one : suc k - 1 ≡ k = omega arith in ap (λ n. 2 ^ (n - 1)) e ∙ ap (λ n. 2 ^ n) one
 
@@ -149,7 +144,7 @@ tree_cell-at t n i j e p q =
     let x : ℤ = neg_ℤ (pos n) +ℤ pos i in
     let y : ℤ = neg_ℤ (pos n) +ℤ pos j in
     rw e
-    (cond_true (int_le (neg_ℤ (pos n)) x && int_lt x (pos n) && int_le (neg_ℤ (pos n)) y && int_lt y (pos n)) _ _ (four_true _ _ _ _ a.0 a.1 b.0 b.1)
+    (cond-true (int_le (neg_ℤ (pos n)) x && int_lt x (pos n) && int_le (neg_ℤ (pos n)) y && int_lt y (pos n)) _ _ (four_true _ _ _ _ a.0 a.1 b.0 b.1)
     ∙ ap (λ v. state_at t v (unsigned_abs (y +ℤ pos n))) a.2 ∙ ap (state_at t i) b.2)
 
 -- the square of the cells of a square is that square
@@ -186,7 +181,7 @@ tree_cell-outside {k = k} {t = t} h x y n =
             subst (λ v. (neg_ℤ (pos m) ≤ℤ x) × (x <ℤ (neg_ℤ (pos m) +ℤ pos v))) (sym (pow_suc k)) xs,
             subst (λ v. (neg_ℤ (pos m) ≤ℤ y) × (y <ℤ (neg_ℤ (pos m) +ℤ pos v))) (sym (pow_suc k)) ys,
           ))
-      | inr b ↦ cond_false test _ _ b
+      | inr b ↦ cond-false test _ _ b
     ])
 
 -- the states of a square are below the bound, wherever they are asked for

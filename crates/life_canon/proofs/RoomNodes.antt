@@ -1,5 +1,5 @@
 -- The squares of node lines are few.
-use Rattle.std.proofs.Common.{◌≡◌, ℕ, zero, suc, ◌+◌, ◌*◌, ◌^◌, ◌≤◌, List, [], ◌∷◌, ◌++◌, length, refl, ap, sym, ◌∙◌, subst, arith, inl, Option, Some, None, append_assoc, length-append}
+use Rattle.std.proofs.Common.{◌≡◌, ℕ, ◌+◌, ◌*◌, ◌≤◌, List, [], ◌∷◌, ◌++◌, length, refl, ap, sym, ◌∙◌, subst, arith, inl, Option, Some, None, append_assoc, length-append}
 use Rattle.std.specs.Prelude.{◌-◌}
 use Rattle.std.specs.List.{cons_option}
 use Rattle.std.proofs.lemmas.List.{append-nil}
@@ -8,13 +8,13 @@ use Rattle.life_base.specs.Lines.{joined}
 use Rattle.life_base.specs.Tree.{Tree, quad}
 use Rattle.life_mc.specs.Cells.{leaf_cell}
 use Rattle.life_mc.specs.Reading.{squares_of, square_on, square_behind}
-use Rattle.life_mc.specs.Squares.{tree_of, tree_at, leaf_tree}
+use Rattle.life_mc.specs.Squares.{tree_of, leaf_tree}
 use Rattle.life_mc.specs.declared.line.Line.{Line}
 use Rattle.life_mc.specs.declared.line.Line.TheVariants.{Leaf, Quad}
 use Rattle.life_canon.specs.Needs.{SomeOfLine}
+use Rattle.life_canon.proofs.Leaves.{tree_at-depth}
 use Rattle.life_canon.proofs.RoomLists.{Among, among-left, among-right}
 use Rattle.life_canon.proofs.RoomRoots.{parts, parts-have, parts-few}
-use Rattle.life_canon.proofs.TreeWords.{HasDepth, point_depth, quad_depth}
 
 -- the squares of a line behind these
 abbrev pub squares_in : List Line → Option Line → List Tree
@@ -63,12 +63,6 @@ nodes-have before (first ∷ b) behind line square t e some =
     (subst (λ (bs : List (List ℕ)). SomeOfLine (λ u. u ≡ t) (squares_of bs) square) moved some))
 
 -- ---- and few
-
-tree_at-depth : (states : ℕ → ℕ → ℕ) (k x y : ℕ) → HasDepth k (tree_at states k x y)
-tree_at-depth states zero x y = point_depth
-tree_at-depth states (suc k) x y =
-    quad_depth (tree_at-depth states k x y) (tree_at-depth states k (x + 2 ^ k) y) (tree_at-depth states k x (y + 2 ^ k))
-    (tree_at-depth states k (x + 2 ^ k) (y + 2 ^ k))
 
 squares_in-few : (lines : List Line) (o : Option Line) → length (squares_in lines o) ≤ 21
 squares_in-few lines None = omega arith

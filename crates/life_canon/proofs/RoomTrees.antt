@@ -1,10 +1,11 @@
 -- The squares of a plane that has few different blocks of cells are few.
-use Rattle.std.proofs.Common.{◌≡◌, ℕ, ◌+◌, ◌-◌, ◌*◌, ◌^◌, ◌<◌, ◌≤◌, Bool, true, false, ◌&&◌, List, map, refl, ap, sym, ◌∙◌, subst, arith, ◌⊎◌, inl, inr, ℤ, pos, ◌+ℤ◌}
+use Rattle.std.proofs.Common.{◌≡◌, ℕ, ◌+◌, ◌*◌, ◌^◌, ◌<◌, ◌≤◌, Bool, true, false, ◌&&◌, List, map, refl, ap, sym, ◌∙◌, subst, arith, ◌⊎◌, inl, inr, ℤ, pos, ◌+ℤ◌}
 use Rattle.std.specs.Prelude.{◌==◌, ◌-ℤ◌, Contains}
 use Rattle.std.proofs.lemmas.Bool.Decides.{nat_tests}
 use Rattle.std.proofs.lemmas.Bool.{cases_lt}
 use Rattle.std.proofs.lemmas.Int.{ints}
 use Rattle.std.proofs.lemmas.Nat.{pow_below}
+use Rattle.std.proofs.Math.Nat.{add-sub_cancel}
 use Rattle.life_base.specs.declared.cell.TheConstants.{MAX_LEVEL}
 use Rattle.life_base.specs.Tree.{Tree, depth, state_at, is_blank_tree}
 use Rattle.life_rle.specs.Blocks.{Block, AreAllBlocks}
@@ -32,9 +33,6 @@ one_of_four true false c d h = inr (inl refl)
 one_of_four true true false d h = inr (inr (inl refl))
 one_of_four true true true false h = inr (inr (inr refl))
 one_of_four true true true true h = cc
-
-back : (i m : ℕ) → (i + m) - m ≡ i
-back i m = omega arith
 
 pub some_cell : {k : ℕ} {t : Tree} → HasDepth k t → is_blank_tree t ≡ false → SomeCell k t
 some_cell (point_depth {state = s}) h =
@@ -65,7 +63,7 @@ some_cell (quad_depth {k = k} {nw = a} {ne = b} {sw = c} {se = d} p q r s) h =
             row = z.row;
             east = omega (arith, two, z.east);
             south = omega (arith, two, z.south);
-            some = λ w. z.some (ap (λ i. state_at b i z.row) (sym (back z.column (2 ^ k))) ∙ sym
+            some = λ w. z.some (ap (λ i. state_at b i z.row) (sym (add-sub_cancel z.column (2 ^ k))) ∙ sym
                 (state_at-ne a b c d k is (z.column + 2 ^ k) z.row (omega arith) z.south) ∙ w);
           }
       | inr (inr (inl e)) ↦
@@ -75,7 +73,7 @@ some_cell (quad_depth {k = k} {nw = a} {ne = b} {sw = c} {se = d} p q r s) h =
             row = z.row + 2 ^ k;
             east = omega (arith, two, z.east);
             south = omega (arith, two, z.south);
-            some = λ w. z.some (ap (λ j. state_at c z.column j) (sym (back z.row (2 ^ k))) ∙ sym
+            some = λ w. z.some (ap (λ j. state_at c z.column j) (sym (add-sub_cancel z.row (2 ^ k))) ∙ sym
                 (state_at-sw a b c d k is z.column (z.row + 2 ^ k) z.east (omega arith)) ∙ w);
           }
       | inr (inr (inr e)) ↦
@@ -85,7 +83,7 @@ some_cell (quad_depth {k = k} {nw = a} {ne = b} {sw = c} {se = d} p q r s) h =
             row = z.row + 2 ^ k;
             east = omega (arith, two, z.east);
             south = omega (arith, two, z.south);
-            some = λ w. z.some ((λ x. state_at d (sym (back z.column (2 ^ k)) x) (sym (back z.row (2 ^ k)) x)) ∙ sym
+            some = λ w. z.some ((λ x. state_at d (sym (add-sub_cancel z.column (2 ^ k)) x) (sym (add-sub_cancel z.row (2 ^ k)) x)) ∙ sym
                 (state_at-se a b c d k is (z.column + 2 ^ k) (z.row + 2 ^ k) (omega arith) (omega arith)) ∙ w);
           }
     ]

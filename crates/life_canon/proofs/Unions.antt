@@ -21,6 +21,7 @@ use Rattle.life_rle.proofs.FrontLaws.{fronts_of_fronts, fronts_are_files}
 use Rattle.life_canon.specs.Files.{Says, as_macrocell, as_rle, Accepts, Breaks, RefusesLines, missing, is_macrocell}
 use Rattle.life_canon.specs.Universe.{Universe, macrocell_universe, rle_universe}
 use Rattle.life_canon.proofs.Formats.{macrocell-first, rle-first}
+pub use Rattle.life_canon.proofs.Trees.{true_false as not-both}
 
 -- ---- fronts
 
@@ -63,9 +64,6 @@ same-format (first ∷ front) line more = refl
 
 pub none-some : (kind : Kind) (o : Option Kind) → o ≡ None → o ≡ Some kind → ⊥
 none-some kind o e f = cc
-
-pub not-both : (b : Bool) → b ≡ true → b ≡ false → ⊥
-not-both b e f = cc
 
 -- behind it there is no file
 pub for_good : (top : ℕ) (front : List (List ℕ)) (line : List ℕ) (kind : Kind) (more : List (List ℕ)) → Breaks top front line kind

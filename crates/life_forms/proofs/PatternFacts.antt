@@ -15,6 +15,7 @@ use Rattle.life_quad.proofs.LawLemmas.{trimming_keeps_cells, trimmed_is_fixed, t
 use Rattle.life_canon.specs.Laws.{SquaresAreCentred}
 use Rattle.life_canon.specs.Store.{IsKnown, IsTrimmed, content}
 use Rattle.life_canon.specs.Universe.{Universe, IsSame, square, centred, corner, least_level, square_universe}
+pub use Rattle.life_canon.proofs.Fits.{least-one, root-high}
 use Rattle.life_forms.specs.Forms.{IsShift, IsMoved}
 use Rattle.life_forms.specs.Needed.{HasFewCells}
 use Rattle.life_forms.proofs.ShiftFacts.{same-sym, still, shift-trans, there-and-back}
@@ -69,17 +70,9 @@ shift-up-to most u v s h x y =
 
 -- ---- trimmed
 
-pub least-one : (rule : Rule) → 1 ≤ least_level rule
-least-one (Life life) = omega arith
-least-one (Named name) = omega arith
-
 least-low : (rule : Rule) → least_level rule ≤ MAX_LEVEL
 least-low (Life life) = omega arith
 least-low (Named name) = omega arith
-
--- a root has a level above 0
-pub root-high : (rule : Rule) (n : ℕ) → least_level rule ≤ n → 1 ≤ n
-root-high rule n h = let o = least-one rule in omega (arith, o, h)
 
 -- the square of the plane, trimmed, is the root of a pattern
 pub plane-trimmed : SquaresAreCentred → (store : Nodes) (rule : Rule) (generation : ℕ) (root : Id) (t : Tree) → IsKnown store root

@@ -30,6 +30,7 @@ use Rattle.life_canon.specs.Listing.{canonical_file, canon_text}
 use Rattle.life_canon.specs.Store.{IsKnown, content, IsRead, IsTrimmed, IsWant, universe_in}
 use Rattle.life_canon.specs.Universe.{Universe, IsSame, IsOnPlane, least_level, square_universe, macrocell_universe}
 use Rattle.life_canon.specs.declared.pattern.Pattern.{Pattern}
+pub use Rattle.life_canon.proofs.Fits.{least-one, root-high}
 use Rattle.life_step.specs.Refusals.{TableRefusal, LifeRefusal, RuleRefusal}
 use Rattle.life_step.specs.Stepped.{IsLifeStep, IsTableStep, IsTextOf}
 use Rattle.life_step.proofs.RefusalFacts.{refusal-at, life-refusal, blank-outside}
@@ -56,14 +57,6 @@ needs-table u rule refusal is other e = subst (λ (r : Rule). RuleRefusal MAX_LE
     by (Named name) h = e
     by (Life life) h = absurd (h life refl)
 
-one-least : (rule : Rule) → 1 ≤ least_level rule
-one-least (Life life) = omega arith
-one-least (Named name) = omega arith
-
--- a root is no single cell
-pub root-high : (rule : Rule) (d : ℕ) → least_level rule ≤ d → 1 ≤ d
-root-high rule d h = let o = one-least rule in omega (arith, o, h)
-
 -- ---- the text of a square
 
 -- a trimmed square may be numbered
@@ -73,7 +66,7 @@ pub trimmed-fits : (store : Nodes) (rule : Rule) (generation : ℕ) (root : Id) 
     → IsTrimmed store (record { rule = rule; generation = generation; root = root })
 trimmed-fits store rule generation root t known is full least states =
     let m = least_level rule in
-    let one = one-least rule in
+    let one = least-one rule in
     let fixed = trimmed_is_fixed t m full one in
     let high = (trimming_stops t m full one).0 least in
     let upto = states-up-to (largest_state rule) (trimmed t m) fixed.0
@@ -117,7 +110,7 @@ pub text-of-square : FilesAreOnPlane MAX_LEVEL → TextsAreFiles MAX_LEVEL → T
     → IsTextOf MAX_LEVEL (IsSame (square_universe rule generation t)) text
 text-of-square on_plane files tell store rule generation root t is small e full level states text written =
     let same : (x y : ℤ) → tree_cell (content store root) x y ≡ tree_cell t x y =
-    λ x y. ap (λ s. tree_cell s x y) e ∙ trimming_keeps_cells t (least_level rule) full (one-least rule) x y in
+    λ x y. ap (λ s. tree_cell s x y) e ∙ trimming_keeps_cells t (least_level rule) full (least-one rule) x y in
     text-of on_plane files tell (square_universe rule generation t) (square_universe rule generation (content store root))
     (record { rule = refl; generation = refl; cells = λ x y. sym (same x y) }) (plane-of rule generation (content store root) t is small same level states) text
     written
@@ -137,9 +130,6 @@ same-states f g h x y =
     let k = h (before x) y in
     let l = h (before x) (before y) in
     cc
-
-same_state : (a b : ℕ) → Becomes a ≡ Becomes b → a ≡ b
-same_state a b e = cc
 
 pub next-small : (life : OuterTotalistic) (cells : ℤ → ℤ → ℕ) (x y : ℤ) → next_life life cells x y ≤ 1
 next-small life cells x y = by _

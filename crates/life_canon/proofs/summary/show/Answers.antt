@@ -1,5 +1,4 @@
-use Rattle.std.proofs.Common.{inl, inr}
-use Rattle.std.proofs.lemmas.Result.{IfOk-weaker, IfErr-weaker}
+use Rattle.std.proofs.lemmas.Result.{IfOk-weaker}
 use Rattle.life_canon.proofs.Stored.{no-room, reads-err, reads-still}
 use Rattle.life_canon.proofs.summary.show.Goals as goal
 
@@ -8,9 +7,6 @@ five_lines_of-requires c = (c.args.bytes.now, c.in_ok-pattern.ensures.pattern)
 
 pub returns-clause-text : goal.returns-clause-text
 returns-clause-text c = IfOk-weaker c.five_lines_of.result _ _ (λ text h. h c.args.bytes.now c.in_ok-pattern.ensures.pattern) c.five_lines_of.ensures.text
-
-pub returns-clause-fault : goal.returns-clause-fault
-returns-clause-fault c = IfErr-weaker c.five_lines_of.result _ _ (λ fault e. inr (inl e)) c.five_lines_of.ensures.memory
 
 pub returns-in_err-pattern-clause-reads : goal.returns-in_err-pattern-clause-reads
 returns-in_err-pattern-clause-reads c = reads-err c.from_residual.ensures.1 c.in_err-pattern.ensures.reads
