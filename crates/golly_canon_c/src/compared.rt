@@ -1,6 +1,6 @@
 //! The call that compares two files.
 
-ghost use Rattle.library_calls.specs.Comparing.{ComparesWithin, compared};
+ghost use Rattle.golly_canon_c.specs.Words.{ComparesWithin, compared};
 
 use crate::told::tell_compared;
 use library_calls::same;

@@ -1,10 +1,7 @@
 //! The calls on the form of a pattern: where it lies, moved, or turned.
 
 ghost use Rattle.std.specs.Prelude.{MatchOption};
-ghost use Rattle.library_calls.specs.Comparing.{compared};
-ghost use Rattle.library_calls.specs.ComparingInForm.{ComparesInForm, ComparesInNone};
-ghost use Rattle.library_calls.specs.InForm.{form_numbered, IsKeyInForm, IsTextInForm, RefusesInForm, TellsNoForm};
-ghost use Rattle.library_calls.specs.Told.{Answers, told};
+ghost use Rattle.golly_canon_c.specs.Words.{compared, ComparesInForm, ComparesInNone, form_numbered, IsKeyInForm, IsTextInForm, RefusesInForm, TellsNoForm, Answers, told};
 
 use crate::told::{tell, tell_compared};
 use library_calls::{canon_form, key, same_form};

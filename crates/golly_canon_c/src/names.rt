@@ -1,10 +1,7 @@
 //! The names of statuses, and the version.
 
 ghost use Rattle.std.specs.Prelude.{◌≡◌, ◌≢◌, ◌==◌, [], codes, find};
-ghost use Rattle.life_base.specs.declared.kind.Kind.{Kind as KindValue};
-ghost use Rattle.life_base.specs.Kinds.{kind_number, kind_name};
-ghost use Rattle.library_calls.specs.Told.{Gives, told};
-ghost use Rattle.golly_canon_c.specs.Naming.{status_name};
+ghost use Rattle.golly_canon_c.specs.Words.{KindValue, kind_number, kind_name, Gives, told, status_name};
 
 use library_calls::{NO_FORM, NO_ROOM, give};
 use life_base::Kind;

@@ -1,8 +1,6 @@
 //! The calls that step a pattern.
 
-ghost use Rattle.library_calls.specs.Stepping.{RefusesStepWithin, StepsByTable};
-ghost use Rattle.library_calls.specs.Told.{Answers, told};
-ghost use Rattle.life_step.specs.Stepped.{IsStepped};
+ghost use Rattle.golly_canon_c.specs.Words.{RefusesStepWithin, StepsByTable, Answers, told, IsStepped};
 
 use crate::told::tell;
 use library_calls::{step, step_by_table};

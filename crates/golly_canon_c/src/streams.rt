@@ -1,12 +1,7 @@
 //! The calls on streams: a file in pieces, and one answer at its end.
 
 ghost use Rattle.std.specs.Prelude.{◌≡◌, ◌++◌, ℕ, List, None, IfSome, MatchOption};
-ghost use Rattle.life_base.specs.declared.fault.Fault.{Fault as FaultValue};
-ghost use Rattle.library_calls.specs.Forms.{text_in};
-ghost use Rattle.library_calls.specs.InForm.{form_numbered};
-ghost use Rattle.library_calls.specs.Streams.{session_of, IsOpen, IsFed, HasText, HasFault, Opens, Takes, Ends, IsSpent, TellsPiece, TellsNothing, TellsEnd};
-ghost use Rattle.library_calls.specs.Told.{told};
-ghost use Rattle.library_calls.specs.declared.session.Form.{Form as FormValue};
+ghost use Rattle.golly_canon_c.specs.Words.{FaultValue, text_in, form_numbered, session_of, IsOpen, IsFed, HasText, HasFault, Opens, Takes, Ends, IsSpent, TellsPiece, TellsNothing, TellsEnd, told, FormValue};
 
 use crate::told::tell;
 use library_calls::{Form, Stream, close, feed, finish, open, open_canon_form};

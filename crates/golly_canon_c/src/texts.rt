@@ -1,8 +1,6 @@
 //! The calls that give a text of one file.
 
-ghost use Rattle.library_calls.specs.Answers.{IsCanonicalText, IsRleText, RefusesWithin, RefusesRleWithin};
-ghost use Rattle.library_calls.specs.Told.{Answers, told};
-ghost use Rattle.life_canon.specs.Texts.{IsShown};
+ghost use Rattle.golly_canon_c.specs.Words.{IsCanonicalText, IsRleText, RefusesWithin, RefusesRleWithin, Answers, told, IsShown};
 
 use crate::told::tell;
 use library_calls::{canon, show, to_rle};

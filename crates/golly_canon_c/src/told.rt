@@ -1,8 +1,7 @@
 //! What a call told, put where the caller wants it.
 
 ghost use Rattle.std.specs.Prelude.{◌≡◌};
-ghost use Rattle.library_calls.specs.Comparing.{compared};
-ghost use Rattle.library_calls.specs.Told.{told};
+ghost use Rattle.golly_canon_c.specs.Words.{compared, told};
 
 use library_calls::{Compared, Told};
 

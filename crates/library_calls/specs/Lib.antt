@@ -7,3 +7,4 @@ pub mod Owning
 pub mod Streams
 pub mod InForm
 pub mod ComparingInForm
+pub mod Words

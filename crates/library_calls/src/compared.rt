@@ -1,8 +1,7 @@
 //! The call that compares two files.
 
 ghost use Rattle.std.specs.Prelude.{◌≡◌, if◌then◌else◌};
-ghost use Rattle.life_base.specs.Kinds.{kind_number};
-ghost use Rattle.library_calls.specs.Comparing.{ComparesWithin, compared};
+ghost use Rattle.library_calls.specs.Words.{kind_number, ComparesWithin, compared};
 
 use crate::comparison::compare;
 use crate::pattern_form::PatternForm;

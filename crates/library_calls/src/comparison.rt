@@ -1,16 +1,7 @@
 //! The call that compares two files in a form.
 
 ghost use Rattle.std.specs.Prelude.{◌≡◌, ◌↔◌, ◌⊎◌, ℕ, [], Err, IfOk, IfErr, OnOk, IsTrue, MatchOption};
-ghost use Rattle.life_base.specs.Refusal.{fault_of};
-ghost use Rattle.life_base.specs.declared.cell.TheConstants.{MAX_LEVEL};
-ghost use Rattle.life_base.specs.declared.kind.Kind.TheVariants.{Full};
-ghost use Rattle.life_quad.specs.Store.{held};
-ghost use Rattle.life_canon.specs.Files.{Accepted, Refuses};
-ghost use Rattle.life_canon.specs.Store.{IsRead, IsWant};
-ghost use Rattle.library_calls.specs.Answers.{IsFresh};
-ghost use Rattle.library_calls.specs.Comparing.{IsTooSmallForBoth};
-ghost use Rattle.library_calls.specs.InForm.{form_numbered};
-ghost use Rattle.library_calls.specs.ComparingInForm.{AreOneInForm, HasTooMany, RefusesEitherInForm, ComparesInForm, ComparesInNone};
+ghost use Rattle.library_calls.specs.Words.{fault_of, MAX_LEVEL, Full, held, Accepted, Refuses, IsRead, IsWant, IsFresh, IsTooSmallForBoth, form_numbered, AreOneInForm, HasTooMany, RefusesEitherInForm, ComparesInForm, ComparesInNone};
 
 use crate::compared::Compared;
 use crate::in_form::{NO_FORM, form_of};

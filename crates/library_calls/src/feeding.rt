@@ -1,10 +1,7 @@
 //! A file that is read in pieces, and the text that its end gives.
 
 ghost use Rattle.std.specs.Prelude.{◌≡◌, ◌++◌, ℕ, [], IfOk, IfErr, OnOk};
-ghost use Rattle.life_base.specs.declared.fault.Fault.{Fault as FaultValue};
-ghost use Rattle.life_canon.specs.Feeding.{RefusesFront};
-ghost use Rattle.library_calls.specs.Answers.{room_of};
-ghost use Rattle.library_calls.specs.Forms.{IsTextOf, RefusesTextOf, RefusesPiece};
+ghost use Rattle.library_calls.specs.Words.{FaultValue, RefusesFront, room_of, IsTextOf, RefusesTextOf, RefusesPiece};
 
 use crate::session::{Form, store_of};
 use crate::texts::text_of_read;

@@ -1,9 +1,7 @@
 //! The calls that give the text of a file in a form, or its key.
 
 ghost use Rattle.std.specs.Prelude.{◌≡◌, MatchOption};
-ghost use Rattle.library_calls.specs.Told.{Answers, told};
-ghost use Rattle.library_calls.specs.Forms.{text_in};
-ghost use Rattle.library_calls.specs.InForm.{form_numbered, IsTextInForm, IsKeyInForm, RefusesInForm, TellsNoForm};
+ghost use Rattle.library_calls.specs.Words.{Answers, told, text_in, form_numbered, IsTextInForm, IsKeyInForm, RefusesInForm, TellsNoForm};
 
 use crate::pattern_form::PatternForm;
 use crate::session::Form;

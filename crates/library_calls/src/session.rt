@@ -1,10 +1,7 @@
 //! What stands behind the calls: the store of each, and the session of a stream.
 
 ghost use Rattle.std.specs.Prelude.{◌≡◌, ◌++◌, ℕ, List};
-ghost use Rattle.life_base.specs.declared.fault.Fault.{Fault as FaultValue};
-ghost use Rattle.library_calls.specs.Answers.{IsFresh};
-ghost use Rattle.library_calls.specs.Streams.{IsFed, HasText, HasFault, Takes, Ends};
-ghost use Rattle.library_calls.specs.declared.session.Form.{Form as FormValue};
+ghost use Rattle.library_calls.specs.Words.{FaultValue, IsFresh, IsFed, HasText, HasFault, Takes, Ends, FormValue};
 
 use crate::feeding::Feeding;
 use crate::seeds::seed_of_squares;

@@ -1,8 +1,6 @@
 //! The calls that step a pattern.
 
-ghost use Rattle.library_calls.specs.Told.{Answers};
-ghost use Rattle.life_step.specs.Stepped.{IsStepped, IsSteppedBy};
-ghost use Rattle.library_calls.specs.Stepping.{RefusesStepByWithin, RefusesStepWithin, StepsByTable};
+ghost use Rattle.library_calls.specs.Words.{Answers, IsStepped, IsSteppedBy, RefusesStepByWithin, RefusesStepWithin, StepsByTable};
 
 use crate::seeds::seed_of_names;
 use crate::session::{Form, store_of};

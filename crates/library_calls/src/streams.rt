@@ -1,11 +1,7 @@
 //! The calls on streams: a file in pieces, and one answer at its end.
 
 ghost use Rattle.std.specs.Prelude.{◌≡◌, ◌++◌, ℕ, List, None, IfSome, MatchOption};
-ghost use Rattle.life_base.specs.declared.fault.Fault.{Fault as FaultValue};
-ghost use Rattle.library_calls.specs.Forms.{text_in};
-ghost use Rattle.library_calls.specs.InForm.{form_numbered};
-ghost use Rattle.library_calls.specs.Streams.{session_of, IsOpen, IsFed, HasText, HasFault, Opens, Takes, Ends, IsSpent, TellsPiece, TellsNothing, TellsEnd};
-ghost use Rattle.library_calls.specs.declared.session.Form.{Form as FormValue};
+ghost use Rattle.library_calls.specs.Words.{FaultValue, text_in, form_numbered, session_of, IsOpen, IsFed, HasText, HasFault, Opens, Takes, Ends, IsSpent, TellsPiece, TellsNothing, TellsEnd, FormValue};
 
 use crate::feeding::Feeding;
 use crate::in_form::{NO_FORM, form_of, text_in};

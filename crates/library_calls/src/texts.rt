@@ -1,11 +1,7 @@
 //! The text that a file gives in a form, and the calls that give one.
 
 ghost use Rattle.std.specs.Prelude.{IfOk, IfErr};
-ghost use Rattle.library_calls.specs.Told.{Answers};
-ghost use Rattle.library_calls.specs.Answers.{IsCanonicalText, IsRleText, RefusesWithin, RefusesRleWithin};
-ghost use Rattle.library_calls.specs.Forms.{IsTextOf, IsTextOfRead, RefusesTextOf, RefusesTextOfRead};
-ghost use Rattle.life_canon.specs.Store.{IsOfFile};
-ghost use Rattle.life_canon.specs.Texts.{IsShown};
+ghost use Rattle.library_calls.specs.Words.{Answers, IsCanonicalText, IsRleText, RefusesWithin, RefusesRleWithin, IsTextOf, IsTextOfRead, RefusesTextOf, RefusesTextOfRead, IsOfFile, IsShown};
 
 use crate::session::{Form, store_of};
 use crate::told::{Told, tell};

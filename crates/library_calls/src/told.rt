@@ -1,8 +1,7 @@
 //! What a call tells, with its text in memory of the caller.
 
 ghost use Rattle.std.specs.Prelude.{◌≡◌, IfOk, IfErr};
-ghost use Rattle.life_base.specs.Kinds.{kind_number};
-ghost use Rattle.library_calls.specs.Told.{Gives, Tells};
+ghost use Rattle.library_calls.specs.Words.{kind_number, Gives, Tells};
 
 use life_base::Fault;
 

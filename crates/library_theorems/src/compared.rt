@@ -1,10 +1,7 @@
 //! Two files, compared.
 
 ghost use Rattle.std.specs.Prelude.{◌≡◌, ◌≢◌, ◌⊎◌, ◌+◌, Err, IsOk};
-ghost use Rattle.life_base.specs.Kinds.{kind_number};
-ghost use Rattle.life_base.specs.declared.fault.Fault.{Fault};
-ghost use Rattle.claims.specs.Files.{Same, pattern_of};
-ghost use Rattle.library_theorems.specs.Answered.{IsWantBelow, room_for};
+ghost use Rattle.library_theorems.specs.Words.{kind_number, Fault, Same, pattern_of, IsWantBelow, room_for};
 
 use library_calls::{Compared, same};
 use life_canon::laws::files_are_on_plane;

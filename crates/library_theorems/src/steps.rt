@@ -1,13 +1,7 @@
 //! The next generation of a file.
 
 ghost use Rattle.std.specs.Prelude.{◌≡◌, ◌⊎◌, Ok, Err, IfOk};
-ghost use Rattle.life_base.specs.declared.fault.Fault.{Fault};
-ghost use Rattle.claims.specs.ByTable.{IsSteppedBy, IsUnsteppedBy};
-ghost use Rattle.claims.specs.Files.{fault_of};
-ghost use Rattle.claims.specs.Generation.{IsStepped, IsUnstepped};
-ghost use Rattle.claims.specs.Table.{Table, table_of};
-ghost use Rattle.library_calls.specs.Told.{Answers, Gives, Tells};
-ghost use Rattle.library_theorems.specs.Answered.{IsUnread};
+ghost use Rattle.library_theorems.specs.Words.{Fault, IsSteppedBy, IsUnsteppedBy, fault_of, IsStepped, IsUnstepped, Table, table_of, Answers, Gives, Tells, IsUnread};
 
 use library_calls::{Told, step, step_by_table};
 use life_base::{Fault, Kind};

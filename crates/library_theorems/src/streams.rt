@@ -1,19 +1,7 @@
 //! A file that comes in pieces, and one answer at its end.
 
 ghost use Rattle.std.specs.Prelude.{◌≡◌, ◌⊎◌, ℕ, List, [], Ok, IfOk};
-ghost use Rattle.life_base.specs.Kinds.{kind_number};
-ghost use Rattle.claims.specs.Counting.{node_lines, IsCanonicalText};
-ghost use Rattle.claims.specs.Files.{pattern_of};
-ghost use Rattle.claims.specs.Generation.{IsStepped, IsUnstepped};
-ghost use Rattle.claims.specs.Pattern.{Pattern};
-ghost use Rattle.claims.specs.Shown.{IsShown};
-ghost use Rattle.library_calls.specs.Forms.{IsTextOf};
-ghost use Rattle.library_calls.specs.Streams.{session_of, IsOpen, IsFed};
-ghost use Rattle.library_calls.specs.Told.{Answers, Gives};
-ghost use Rattle.library_calls.specs.declared.session.Form.{Form as FormValue};
-ghost use Rattle.library_theorems.specs.Answered.{IsRleText, AreFiveLines, IsUnread, IsUnreadWithin, IsUnwritten};
-ghost use Rattle.library_theorems.specs.Ending.{IsEndFault};
-ghost use Rattle.theorems.specs.Joined.{joined};
+ghost use Rattle.library_theorems.specs.Words.{kind_number, node_lines, IsCanonicalText, pattern_of, IsStepped, IsUnstepped, Pattern, IsShown, IsTextOf, session_of, IsOpen, IsFed, Answers, Gives, FormValue, IsRleText, AreFiveLines, IsUnread, IsUnreadWithin, IsUnwritten, IsEndFault, joined};
 
 use library_calls::{Form, Stream, Told, close, feed, finish, open};
 use life_base::{Fault, Kind};

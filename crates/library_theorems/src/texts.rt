@@ -1,12 +1,7 @@
 //! The texts of a file, put into memory of the caller.
 
 ghost use Rattle.std.specs.Prelude.{◌≡◌, ◌⊎◌, ℕ, List, Ok, IfOk};
-ghost use Rattle.claims.specs.Counting.{node_lines, IsCanonicalText};
-ghost use Rattle.claims.specs.Files.{pattern_of};
-ghost use Rattle.claims.specs.Pattern.{Pattern};
-ghost use Rattle.claims.specs.Shown.{IsShown};
-ghost use Rattle.library_calls.specs.Told.{Answers, Gives};
-ghost use Rattle.library_theorems.specs.Answered.{IsRleText, AreFiveLines, IsUnreadWithin, IsUnwritten};
+ghost use Rattle.library_theorems.specs.Words.{node_lines, IsCanonicalText, pattern_of, Pattern, IsShown, Answers, Gives, IsRleText, AreFiveLines, IsUnreadWithin, IsUnwritten};
 
 use library_calls::{Told, canon, show, to_rle};
 use life_base::Fault;

@@ -12,3 +12,4 @@ pub mod Inputs
 pub mod Writing
 pub mod Lines
 pub mod DeviceRuns
+pub mod Words

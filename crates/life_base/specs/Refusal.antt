@@ -69,6 +69,10 @@ is_placeless _ = false
 abbrev pub fault_at : ℕ → Kind → Fault
 fault_at line kind = record { place = record { line = cond (is_placeless kind) 0 line }; kind = kind }
 
+-- memory was refused
+abbrev pub IsMemory : Kind → Type 0
+IsMemory kind = kind ≡ Memory
+
 -- the fact, unless memory was refused
 abbrev pub OrMemory : Fault → Type 0 → Type 0
 OrMemory fault P = (fault ≡ fault_of Memory) ⊎ P

@@ -1,6 +1,7 @@
 //! Bytes and numbers, added to a text.
 
 ghost use Rattle.std.specs.Prelude.{◌≡◌, ◌++◌, OnOk, OnErr, IfErr};
+ghost use Rattle.life_base.specs.Words.{IsMemory};
 
 use crate::kind::Kind;
 use itoa::{Buffer, Integer};
@@ -9,7 +10,7 @@ use itoa::{Buffer, Integer};
 pub fn append(out: &mut Vec<u8>, bytes: &[u8]) -> Result<(), Kind>
     ensures ok { OnOk result (out.new.items ≡ out.old.items ++ bytes.now) }
     ensures err { OnErr result (out.new.items ≡ out.old.items) }
-    ensures kind { IfErr result (λ kind. kind ≡ Kind.Memory) }
+    ensures kind { IfErr result IsMemory }
 {
     out.extend_from_slice(bytes)?;
     Ok(())
@@ -19,7 +20,7 @@ pub fn append(out: &mut Vec<u8>, bytes: &[u8]) -> Result<(), Kind>
 pub fn append_number<N: Integer>(out: &mut Vec<u8>, number: N) -> Result<(), Kind>
     ensures ok { OnOk result (out.new.items ≡ out.old.items ++ N.text number) }
     ensures err { OnErr result (out.new.items ≡ out.old.items) }
-    ensures kind { IfErr result (λ kind. kind ≡ Kind.Memory) }
+    ensures kind { IfErr result IsMemory }
 {
     let mut buffer = Buffer::new();
     append(out, buffer.format(number).as_bytes())

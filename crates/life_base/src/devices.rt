@@ -1,9 +1,7 @@
 //! Devices: what bytes are read from and written to.
 ghost use Rattle.std.specs.Prelude.{◌≡◌, ℕ, ◌≤◌, ◌↔◌, ◌||◌, List, Option, None, IsTrue, Bool, true, false, OnOk};
-ghost use Rattle.std.specs.Io.{ReadsAtMost, WritesAtMost};
-ghost use Rattle.std.specs.Io.KnownBytes.{ReadConsumes, WriteAppends, Keeps};
+ghost use Rattle.life_base.specs.Words.{ReadsAtMost, WritesAtMost, ReadConsumes, WriteAppends, Keeps, CountsFailure, count_of, takes_none};
 ghost use Rattle.std.proofs.Common.{rules};
-ghost use Rattle.life_base.specs.Devices.{CountsFailure, count_of, takes_none};
 
 use crate::kind::Kind;
 use std::io::{Read, Write};

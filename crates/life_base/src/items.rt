@@ -1,6 +1,7 @@
 //! A vector that contracts see as a list.
 
-ghost use Rattle.std.specs.Prelude.{◌≡◌, [], ◌∷◌, ◌++◌, length, OnOk, OnErr, IfErr};
+ghost use Rattle.std.specs.Prelude.{◌≡◌, [], ◌∷◌, ◌++◌, OnOk, OnErr, IfErr};
+ghost use Rattle.life_base.specs.Words.{IsMemory};
 
 use crate::kind::Kind;
 use std::alloc::Global;
@@ -58,7 +59,7 @@ impl<T: Drop> Items<T> {
     pub fn push(&mut self, item: T) -> Result<(), Kind>
         ensures ok { OnOk result (self.new ≡ self.old ++ item ∷ []) }
         ensures err { OnErr result (self.new ≡ self.old) }
-        ensures kind { IfErr result (λ kind. kind ≡ Kind.Memory) }
+        ensures kind { IfErr result IsMemory }
     {
         self.items.push(item)?;
         Ok(())

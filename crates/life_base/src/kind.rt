@@ -1,7 +1,7 @@
 //! The kinds of fault, with their numbers and names.
 
 ghost use Rattle.std.specs.Prelude.{◌≡◌};
-ghost use Rattle.life_base.specs.declared.kind.Kind.TheVariants.{Memory};
+ghost use Rattle.life_base.specs.Words.{Memory};
 
 use std::alloc::{AllocError, AllocFailed};
 

@@ -1,10 +1,7 @@
 //! The digits in front of a text.
 
 ghost use Rattle.std.specs.Prelude.{◌≡◌, ◌+◌, ◌*◌, ◌≤◌, length, take_while};
-ghost use Rattle.std.specs.Char.{is_ascii_digit};
-ghost use Rattle.std.specs.List.{prefix_len};
-ghost use Rattle.life_base.specs.Numbers.{capped};
-ghost use Rattle.life_base.specs.Text.{value_of};
+ghost use Rattle.life_base.specs.Words.{is_ascii_digit, prefix_len, capped, value_of};
 
 /// A number with one digit more behind it, or the greatest of the type.
 fn with_digit(number: u64, digit: u8) -> u64

@@ -1,8 +1,7 @@
 //! Where lines end, and how long they may be.
 
-ghost use Rattle.std.specs.Str.{byte};
+ghost use Rattle.life_base.specs.Words.{byte, is_too_long};
 ghost use Rattle.std.specs.Prelude.{◌≡◌, ◌==◌, ◌+◌, ◌^◌, nat_le, position};
-ghost use Rattle.life_base.specs.Text.{is_too_long};
 
 use bstr::ByteSlice;
 

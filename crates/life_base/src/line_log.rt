@@ -1,8 +1,7 @@
 //! A list of lines that only contracts see. It takes no memory.
 
 ghost use Rattle.std.specs.Prelude.{◌≡◌, ℕ, List, [], ◌∷◌, ◌++◌};
-ghost use Rattle.std.specs.Borrow.{ftrue};
-ghost use Rattle.std.specs.Coded.{coded_list, coded_ℕ};
+ghost use Rattle.life_base.specs.Words.{ftrue, coded_list, coded_ℕ};
 
 use std::marker::Model;
 

@@ -1,7 +1,7 @@
 //! A source, read to its end.
 
 ghost use Rattle.std.specs.Prelude.{◌≡◌, ◌⊎◌, ◌≤◌, ◌^◌, IfOk, IfErr, OnOk, OnErr};
-ghost use Rattle.life_base.specs.Inputs.{ReadAll, CameBeyond};
+ghost use Rattle.life_base.specs.Words.{ReadAll, CameBeyond};
 
 use crate::devices::Source;
 use crate::kind::Kind;

@@ -84,11 +84,12 @@ impl LifeRule {
 
 impl Name {
     ghost use Rattle.std.specs.Prelude.{◌≡◌, IfOk, IfErr};
+    ghost use Rattle.life_base.specs.Refusal.{IsMemory};
 
     /// The same name, in memory of its own. `Memory` is the only refusal.
     pub fn copy(&self, alloc: Global) -> Result<Name, Kind>
         ensures ok { IfOk result (λ name. name ≡ self.now) }
-        ensures err { IfErr result (λ kind. kind ≡ Kind.Memory) }
+        ensures err { IfErr result IsMemory }
     {
         let text = Vec::from_slice(alloc, &self.text)?;
         Ok(Name { text })

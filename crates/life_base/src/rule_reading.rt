@@ -1,14 +1,7 @@
 //! Rules, read from texts.
 
-ghost use Rattle.std.specs.Prelude.{◌≡◌, ◌<◌, ◌^◌, ◌==◌, ◌+◌, map, take, codes, bytes_eq, if◌then◌else◌, nat_le, ◌&&◌, ◌∷◌, [], IfSome, IfOk, IfErr, MatchResult, Some, None, Ok, Err, false, true, is_some};
-ghost use Rattle.std.specs.List.{list_any, list_all};
-ghost use Rattle.std.specs.Char.{is_ascii_graphic, to_ascii_uppercase};
-ghost use Rattle.std.specs.Option.{option_map};
-ghost use Rattle.std.specs.Str.{byte};
-ghost use Rattle.life_base.specs.Sets.{DigitSets};
-ghost use Rattle.life_base.specs.Rules.{is_count_digit, digit_set, digit_groups, marks, life_form, life_sets, up_to_four, four_sets, most_neighbours, names_other_neighbours, is_bad_text, life_rule, other_rule, four_or_other, rule_of_trimmed, rule_of};
-ghost use Rattle.life_base.specs.Refusal.{Answers};
-ghost use Rattle.life_base.specs.declared.kind.Kind.TheVariants.{Memory};
+ghost use Rattle.std.specs.Prelude.{◌≡◌, ◌<◌, ◌^◌, ◌==◌, ◌+◌, map, take, codes, bytes_eq, if◌then◌else◌, ◌&&◌, ◌∷◌, [], IfSome, IfOk, IfErr, Some, None, Ok, Err, false, true, is_some};
+ghost use Rattle.life_base.specs.Words.{list_any, list_all, is_ascii_graphic, to_ascii_uppercase, option_map, byte, is_count_digit, digit_set, digit_groups, marks, life_form, life_sets, up_to_four, four_sets, most_neighbours, names_other_neighbours, is_bad_text, life_rule, other_rule, four_or_other, rule_of_trimmed, rule_of, Answers, IsMemory};
 
 use crate::kind::Kind;
 use crate::rule::{LifeRule, Name, Near, Rule};
@@ -112,7 +105,7 @@ fn life_sets(alloc: Global, text: &[u8]) -> Result<Option<(u16, u16)>, Kind>
     ensures ok { IfOk result (λ found. option_map (λ p. record { births = p.0; survivals = p.1 })
         found ≡ life_sets text.now) }
     ensures bounds { IfOk result (λ found. IfSome found (λ p. (p.0 < 512) × (p.1 < 512))) }
-    ensures err { IfErr result (λ kind. kind ≡ Memory) }
+    ensures err { IfErr result IsMemory }
 {
     let groups = digit_groups(alloc, text)?;
     let marks = marks(alloc, text)?;
@@ -146,7 +139,7 @@ fn four_sets(alloc: Global, text: &[u8]) -> Result<Option<(u16, u16)>, Kind>
     ensures ok { IfOk result (λ found. option_map (λ p. record { births = p.0; survivals = p.1 })
         found ≡ four_sets text.now) }
     ensures bounds { IfOk result (λ found. IfSome found (λ p. (p.0 < 32) × (p.1 < 32))) }
-    ensures err { IfErr result (λ kind. kind ≡ Memory) }
+    ensures err { IfErr result IsMemory }
 {
     match text {
         [front @ .., b'V' | b'v'] if begins_with_b(front) => Ok(up_to_four(life_sets(
@@ -159,7 +152,7 @@ fn four_sets(alloc: Global, text: &[u8]) -> Result<Option<(u16, u16)>, Kind>
 /// Whether a text is a B/S text followed by `V`, `v`, `H` or `h`.
 fn names_other_neighbours(alloc: Global, text: &[u8]) -> Result<bool, Kind>
     ensures ok { IfOk result (λ yes. yes ≡ names_other_neighbours text.now) }
-    ensures err { IfErr result (λ kind. kind ≡ Memory) }
+    ensures err { IfErr result IsMemory }
 {
     match text {
         [front @ .., b'V' | b'v' | b'H' | b'h'] => Ok(life_sets(alloc, front)?.is_some()),

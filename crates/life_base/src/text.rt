@@ -1,10 +1,7 @@
 //! Lines, whitespace and numbers.
 
-ghost use Rattle.std.specs.Prelude.{◌≡◌, ◌<◌, ◌^◌, ◌-◌, ◌≤◌, ℤ, pos, neg_ℤ, Ok, Err};
-ghost use Rattle.std.specs.Char.{is_ascii_digit};
-ghost use Rattle.std.specs.List.{list_all};
-ghost use Rattle.life_base.specs.Numbers.{number_up_to, u64_of, i64_of};
-ghost use Rattle.life_base.specs.Text.{lines_of, numbered_from, trim, trim_start, trim_end, begins_with, is_blank, is_digit_text, is_whitespace};
+ghost use Rattle.std.specs.Prelude.{◌≡◌, ◌<◌, ◌^◌, ◌-◌, ◌≤◌, pos, neg_ℤ, Ok, Err};
+ghost use Rattle.life_base.specs.Words.{is_ascii_digit, list_all, number_up_to, u64_of, i64_of, lines_of, numbered_from, trim, trim_start, trim_end, begins_with, is_blank, is_digit_text, is_whitespace};
 
 use crate::kind::Kind;
 use crate::line_iterator::Lines;

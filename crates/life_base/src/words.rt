@@ -1,7 +1,7 @@
 //! The words of a text, which whitespace separates.
 
 ghost use Rattle.std.specs.Prelude.{◌≡◌, ◌+◌, ◌≤◌, length, position};
-ghost use Rattle.life_base.specs.Text.{is_whitespace, words_of, with_word};
+ghost use Rattle.life_base.specs.Words.{is_whitespace, words_of, with_word};
 
 use crate::text::{is_whitespace, trimmed_start};
 

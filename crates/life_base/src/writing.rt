@@ -1,7 +1,6 @@
 //! Texts written to a sink.
 ghost use Rattle.std.specs.Prelude.{◌≡◌, true, OnOk};
-ghost use Rattle.std.specs.List.{flat_map};
-ghost use Rattle.life_base.specs.Writing.{WritesText, LeavesSink};
+ghost use Rattle.life_base.specs.Words.{flat_map, WritesText, LeavesSink};
 
 use crate::devices::Sink;
 use crate::kind::Kind;

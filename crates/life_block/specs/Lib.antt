@@ -2,3 +2,4 @@ pub mod Bits
 pub mod Needed
 pub mod Pieces
 pub mod Remembered
+pub mod Words

@@ -1,13 +1,6 @@
 //! The next states of squares.
 ghost use Rattle.std.specs.Prelude.{◌≡◌, ℕ, ℤ, suc, ◌+◌, ◌^◌, ◌<◌, ◌≤◌, false, IfOk, IfErr, OnErr};
-ghost use Rattle.life_base.specs.Rules.{has_digit};
-ghost use Rattle.life_base.specs.Tree.{depth, tree_cell};
-ghost use Rattle.life_quad.specs.Refused.{SomePart};
-ghost use Rattle.life_quad.specs.Keeping.{KeepsSquares, IsWantKind};
-ghost use Rattle.life_sweep.specs.Generation.{next_life};
-ghost use Rattle.life_block.specs.Needed.{HasClearEdge, square_from, next_plane, next_square};
-ghost use Rattle.life_block.specs.Remembered.{Remembers};
-ghost use Rattle.life_block.specs.Pieces.{IsPiece, IsBinary, IsAt, InNine, InSixteen, AreNine, AreSixteen};
+ghost use Rattle.life_block.specs.Words.{has_digit, depth, tree_cell, SomePart, next_life, HasClearEdge, square_from, next_plane, next_square, Remembers, IsPiece, IsBinary, IsAt, InNine, InSixteen, AreNine, AreSixteen, Keeps, IsWantOf};
 
 use crate::grid::{Corner, Nine, Sixteen, in_middle};
 use crate::leaf::{next_of_leaf, next_of_least};
@@ -37,8 +30,8 @@ fn next_of<S: Squares>(
         → IsPiece (next_life rule.now cells) x y (S.content squares.new r)) }
     ensures remembers { IfOk result
         (λ _. Remembers (S.knows squares.new) (S.content squares.new) rule.now memory.new) }
-    ensures keeps { KeepsSquares S.knows S.content S.stored S.most squares.old squares.new }
-    ensures refusals { IfErr result (IsWantKind (S.stored squares.new) (S.most squares.new)) }
+    ensures keeps { Keeps S.Squares squares.old squares.new }
+    ensures refusals { IfErr result (IsWantOf S.Squares squares.new) }
     ensures needed { OnErr result ((cells : ℤ → ℤ → ℕ) (x y : ℤ) → IsBinary cells
         → AreNine (S.content squares.old) cells (2 ^ level) x y nine.now
         → SomePart (S.needs_node squares.new) (square_from (next_life rule.now cells) level x y)) }
@@ -78,8 +71,8 @@ fn next_of_middle<S: Squares>(
         → IsPiece (next_life rule.now cells) x y (S.content squares.new r)) }
     ensures remembers { IfOk result
         (λ _. Remembers (S.knows squares.new) (S.content squares.new) rule.now memory.new) }
-    ensures keeps { KeepsSquares S.knows S.content S.stored S.most squares.old squares.new }
-    ensures refusals { IfErr result (IsWantKind (S.stored squares.new) (S.most squares.new)) }
+    ensures keeps { Keeps S.Squares squares.old squares.new }
+    ensures refusals { IfErr result (IsWantOf S.Squares squares.new) }
     ensures needed { OnErr result ((cells : ℤ → ℤ → ℕ) (x y : ℤ) → IsBinary cells
         → AreSixteen (S.content squares.old) cells (2 ^ level) x y sixteen.now
         → SomePart (S.needs_node squares.new)
@@ -117,8 +110,8 @@ pub fn next_life_square<S: SharedSquares>(
     ensures next { IfOk result (λ r. (x y : ℤ)
         → tree_cell (S.content squares.new r) x y
         ≡ next_life rule.now (tree_cell (S.content squares.old id)) x y) }
-    ensures keeps { KeepsSquares S.knows S.content S.stored S.most squares.old squares.new }
-    ensures refusals { IfErr result (IsWantKind (S.stored squares.new) (S.most squares.new)) }
+    ensures keeps { Keeps S.Squares squares.old squares.new }
+    ensures refusals { IfErr result (IsWantOf S.Squares squares.new) }
     ensures needed { OnErr result
         (SomePart (S.needs_node squares.new) (next_square rule.now (S.content squares.old id))) }
 {
@@ -166,8 +159,8 @@ pub(crate) fn next_life_plane<S: SharedSquares>(
     ensures next { IfOk result (λ r. (x y : ℤ)
         → tree_cell (S.content squares.new r) x y
         ≡ next_life rule.now (tree_cell (S.content squares.old id)) x y) }
-    ensures keeps { KeepsSquares S.knows S.content S.stored S.most squares.old squares.new }
-    ensures refusals { IfErr result (IsWantKind (S.stored squares.new) (S.most squares.new)) }
+    ensures keeps { Keeps S.Squares squares.old squares.new }
+    ensures refusals { IfErr result (IsWantOf S.Squares squares.new) }
     ensures needed { OnErr result
         (SomePart (S.needs_node squares.new) (next_plane rule.now (S.content squares.old id))) }
 {

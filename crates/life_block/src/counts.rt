@@ -1,9 +1,6 @@
 //! The live neighbours of the places of a word, counted at once: a number for each place, in four words, a binary digit a word.
 ghost use Rattle.std.specs.Prelude.{◌≡◌, ℕ, ◌+◌, ◌-◌, ◌*◌, ◌<◌, ◌≤◌, ◌^◌, ◌==◌, if◌then◌else◌};
-ghost use Rattle.std.specs.Int.{bit_at};
-ghost use Rattle.life_table.specs.Meaning.{count_of};
-ghost use Rattle.life_sweep.specs.Generation.{next_by_count};
-ghost use Rattle.life_block.specs.Bits.{count_at, neighbours_in, sides_in, counted_in};
+ghost use Rattle.life_block.specs.Words.{bit_at, count_of, next_by_count, count_at, neighbours_in, sides_in, counted_in};
 
 use life_base::{LifeRule, Near};
 use life_sweep::Column;

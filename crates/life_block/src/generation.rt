@@ -1,12 +1,6 @@
 //! The next generation of a pattern.
 ghost use Rattle.std.specs.Prelude.{◌≡◌, ◌⊎◌, ℤ, pos, neg_ℤ, ◌<ℤ◌, ◌^◌, ◌<◌, ◌≤◌, true, false, Err, Some, None, IfOk, IfErr};
-ghost use Rattle.life_base.specs.Refusal.{fault_of};
-ghost use Rattle.life_base.specs.declared.kind.Kind.TheVariants.{Memory};
-ghost use Rattle.life_base.specs.Tree.{depth, tree_cell};
-ghost use Rattle.life_quad.specs.Keeping.{KeepsSquares, IsWantFault};
-ghost use Rattle.life_sweep.specs.Generation.{after, next_life, LifeAnswers};
-ghost use Rattle.life_sweep.specs.Refused.{GenerationRefusal};
-ghost use Rattle.life_block.specs.Needed.{HasClearEdge, SomeOfNext, level_behind};
+ghost use Rattle.life_block.specs.Words.{fault_of, depth, tree_cell, IsWantFault, after, next_life, LifeAnswers, GenerationRefusal, HasClearEdge, SomeOfNext, level_behind, IsMemory, Keeps};
 
 use crate::blocks::{next_life_plane, next_life_square};
 use life_base::{Bounds, Fault, Kind, LifeRule, MAX_LEVEL};
@@ -45,7 +39,7 @@ fn reaches_edge<S: SharedSquares>(alloc: Global, squares: &S, id: Id) -> Result<
         (λ reaches. reaches ≡ true → depth (S.content squares.now id) ≡ MAX_LEVEL) }
     ensures clear { IfOk result (λ reaches. reaches ≡ false
         → depth (S.content squares.now id) ≡ MAX_LEVEL → HasClearEdge (S.content squares.now id)) }
-    ensures refusals { IfErr result (λ e. e ≡ Memory) }
+    ensures refusals { IfErr result IsMemory }
 {
     if squares.level(id) != MAX_LEVEL {
         return Ok(false);
@@ -88,7 +82,7 @@ pub fn next_life_generation<S: SharedSquares>(
         f ⊎ GenerationRefusal (LifeAnswers rule.now) 2 most (S.content squares.old id) (Some f)) }
     ensures needed { result ≡ Err (fault_of Kind.Full)
         → SomeOfNext (S.needs_node squares.new) rule.now (S.content squares.old id) }
-    ensures keeps { KeepsSquares S.knows S.content S.stored S.most squares.old squares.new }
+    ensures keeps { Keeps S.Squares squares.old squares.new }
 {
     life_answers_at();
     if reaches_edge(alloc, squares, id)? {

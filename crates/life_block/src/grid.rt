@@ -1,7 +1,6 @@
 //! Squares of one level side by side.
 ghost use Rattle.std.specs.Prelude.{◌≡◌, ℕ, ℤ, ◌+◌, ◌^◌, true};
-ghost use Rattle.life_block.specs.Pieces.{IsAt, InThree, InNine, InFour, InSixteen, AreThree, AreNine, AreFour, AreSixteen, ahead, four_of, front, rear, western, eastern, at_corner, in_middle};
-ghost use Rattle.life_block.specs.Remembered.{ids_of};
+ghost use Rattle.life_block.specs.Words.{IsAt, InThree, InNine, InFour, InSixteen, AreThree, AreNine, AreFour, AreSixteen, ahead, four_of, front, rear, western, eastern, at_corner, in_middle, ids_of};
 
 use life_quad::{Id, Quarters, Squares, divide};
 

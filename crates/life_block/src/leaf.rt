@@ -1,13 +1,6 @@
 //! The next states of four squares of level 2 amid twelve others, by words of their cells.
 ghost use Rattle.std.specs.Prelude.{◌≡◌, ℕ, ℤ, pos, neg_ℤ, ◌<◌, IfOk, IfErr, OnErr};
-ghost use Rattle.life_base.specs.Tree.{point, tree_cell};
-ghost use Rattle.life_quad.specs.Keeping.{KeepsSquares, IsWantKind};
-ghost use Rattle.life_quad.specs.Refused.{SomePart};
-ghost use Rattle.life_quad.specs.Store.{two, four};
-ghost use Rattle.life_sweep.specs.Generation.{next_life};
-ghost use Rattle.life_block.specs.Bits.{HasBand, AreBands};
-ghost use Rattle.life_block.specs.Needed.{square_from};
-ghost use Rattle.life_block.specs.Pieces.{IsPiece, IsBinary, IsWhereBinary, IsAt, InFour, InSixteen, AreFour, AreSixteen, back};
+ghost use Rattle.life_block.specs.Words.{point, tree_cell, SomePart, two, four, next_life, HasBand, AreBands, square_from, IsPiece, IsBinary, IsWhereBinary, IsAt, InFour, InSixteen, AreFour, AreSixteen, back, Keeps, IsWantOf};
 
 use crate::grid::{Four, Sixteen};
 use crate::words::{next_squares, rows_of_squares};
@@ -86,8 +79,8 @@ fn next_of_bands<S: Squares>(
     ensures at { IfOk result (IsAt (S.knows squares.new) (S.content squares.new) 3) }
     ensures next { IfOk result (λ r. (cells : ℤ → ℤ → ℕ) (x y : ℤ) → AreBands cells x y bands.now
         → IsPiece (next_life rule.now cells) x y (S.content squares.new r)) }
-    ensures keeps { KeepsSquares S.knows S.content S.stored S.most squares.old squares.new }
-    ensures refusals { IfErr result (IsWantKind (S.stored squares.new) (S.most squares.new)) }
+    ensures keeps { Keeps S.Squares squares.old squares.new }
+    ensures refusals { IfErr result (IsWantOf S.Squares squares.new) }
     ensures needed { OnErr result ((cells : ℤ → ℤ → ℕ) (x y : ℤ) → AreBands cells x y bands.now
         → SomePart (S.needs_node squares.new) (square_from (next_life rule.now cells) 3 x y)) }
 {
@@ -111,8 +104,8 @@ pub(crate) fn next_of_leaf<S: Squares>(
     ensures next { IfOk result (λ r. (cells : ℤ → ℤ → ℕ) (x y : ℤ) → IsBinary cells
         → AreSixteen (S.content squares.old) cells 4 x y sixteen.now
         → IsPiece (next_life rule.now cells) x y (S.content squares.new r)) }
-    ensures keeps { KeepsSquares S.knows S.content S.stored S.most squares.old squares.new }
-    ensures refusals { IfErr result (IsWantKind (S.stored squares.new) (S.most squares.new)) }
+    ensures keeps { Keeps S.Squares squares.old squares.new }
+    ensures refusals { IfErr result (IsWantOf S.Squares squares.new) }
     ensures needed { OnErr result ((cells : ℤ → ℤ → ℕ) (x y : ℤ) → IsBinary cells
         → AreSixteen (S.content squares.old) cells 4 x y sixteen.now
         → SomePart (S.needs_node squares.new) (square_from (next_life rule.now cells) 3 x y)) }
@@ -138,8 +131,8 @@ pub(crate) fn next_of_least<S: Squares>(
     ensures next { IfOk result (λ r. let corner = neg_ℤ (pos 4) in IsPiece
         (next_life rule.now (tree_cell (S.content squares.old id))) corner corner
         (S.content squares.new r)) }
-    ensures keeps { KeepsSquares S.knows S.content S.stored S.most squares.old squares.new }
-    ensures refusals { IfErr result (IsWantKind (S.stored squares.new) (S.most squares.new)) }
+    ensures keeps { Keeps S.Squares squares.old squares.new }
+    ensures refusals { IfErr result (IsWantOf S.Squares squares.new) }
     ensures needed { OnErr result (let corner = neg_ℤ (pos 4) in SomePart
         (S.needs_node squares.new)
         (square_from (next_life rule.now (tree_cell (S.content squares.old id))) 3 corner corner)) }

@@ -1,9 +1,6 @@
 //! The next states of squares that were told before.
 ghost use Rattle.std.specs.Prelude.{◌≡◌, ◌⊎◌, IfSome};
-ghost use Rattle.life_quad.specs.Memory.{Recalls};
-ghost use Rattle.life_quad.specs.declared.id.Id.{Id as IdValue};
-ghost use Rattle.life_block.specs.Pieces.{Nine as NineValue};
-ghost use Rattle.life_block.specs.Remembered.{ids_of};
+ghost use Rattle.life_block.specs.Words.{Recalls, IdValue, NineValue, ids_of};
 
 use crate::grid::Nine;
 use life_quad::{Id, NeighbourhoodMemory};

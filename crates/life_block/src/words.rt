@@ -1,13 +1,7 @@
 //! Words of four rows of sixteen cells, and their next states. The highest bit is the north-western cell, then come the cells east of it, and
 //! then the rows south of it.
 ghost use Rattle.std.specs.Prelude.{◌≡◌, ℕ, ℤ, ◌+◌, ◌-◌, ◌*◌, ◌<◌, ◌^◌};
-ghost use Rattle.std.specs.Int.{bit_at};
-ghost use Rattle.std.specs.Int.Bits.{bit_and};
-ghost use Rattle.life_quad.specs.Store.{four};
-ghost use Rattle.life_sweep.specs.Generation.{before, after, next_life};
-ghost use Rattle.life_block.specs.Bits.{place_in, exchanged, HasBand};
-ghost use Rattle.life_block.specs.Needed.{square_from};
-ghost use Rattle.life_block.specs.Pieces.{back, ahead};
+ghost use Rattle.life_block.specs.Words.{bit_at, bit_and, four, before, after, next_life, place_in, exchanged, HasBand, square_from, back, ahead};
 
 use crate::counts::next_word;
 use life_base::LifeRule;

@@ -20,3 +20,4 @@ pub mod PieceLaws
 pub mod Walking
 pub mod Laws
 pub mod Rows
+pub mod Words

@@ -1,14 +1,7 @@
 //! How many node lines and cells a pattern has, counted by its node lines as they come.
 
 ghost use Rattle.std.specs.Prelude.{◌≡◌, ◌==◌, false, ℕ, List, ◌-◌, ◌<◌, ◌≤◌, ◌^◌, [], length, slice_index_or, IfOk, IfErr, refl};
-ghost use Rattle.life_base.specs.declared.kind.Kind.TheVariants.{Memory};
-ghost use Rattle.life_base.specs.Tree.{depth};
-ghost use Rattle.life_mc.specs.Macrocell.{largest_state};
-ghost use Rattle.life_mc.specs.Squares.{HasStatesUpTo, leaf_tree};
-ghost use Rattle.life_quad.specs.Cells.{population};
-ghost use Rattle.life_canon.specs.Counting.{CountsLines, line_count, number_count};
-ghost use Rattle.life_canon.specs.Listing.{listed};
-ghost use Rattle.life_canon.specs.Universe.{least_level};
+ghost use Rattle.life_canon.specs.Words.{Memory, depth, largest_state, HasStatesUpTo, leaf_tree, population, CountsLines, line_count, number_count, listed, least_level, IsMemory};
 
 use crate::line_sink::LineSink;
 use crate::node_walk::walk_pattern;
@@ -135,7 +128,7 @@ pub(crate) fn count_all<S: SharedSquares>(
         (listed (S.content squares.now pattern.now.root) (least_level pattern.now.rule))) }
     ensures cells { IfOk result
         (λ counts. counts.cells ≡ population (S.content squares.now pattern.now.root)) }
-    ensures kind { IfErr result (λ kind. kind ≡ Memory) }
+    ensures kind { IfErr result IsMemory }
 {
     let mut list = CellCounts {
         counts: Vec::new(alloc),

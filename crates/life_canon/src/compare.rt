@@ -1,9 +1,7 @@
 //! Two files, compared.
 
 ghost use Rattle.std.specs.Prelude.{◌≡◌, ◌↔◌, ◌⊎◌, IsTrue, IfOk, IfErr, OnOk};
-ghost use Rattle.life_canon.specs.Calls.{ReadsBothInto};
-ghost use Rattle.life_canon.specs.Files.{Accepted, Same, Refuses};
-ghost use Rattle.life_canon.specs.Store.{IsWant};
+ghost use Rattle.life_canon.specs.Words.{ReadsBothInto, Accepted, Same, Refuses, IsWant};
 
 use crate::files::read;
 use crate::pattern::Pattern;

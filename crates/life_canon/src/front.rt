@@ -1,18 +1,7 @@
 //! The front of a file, cut into lines.
 
 ghost use Rattle.std.specs.Prelude.{◌≡◌, ◌==◌, ◌⊎◌, ◌++◌, ◌<◌, ◌≤◌, ◌+◌, ◌-◌, ◌^◌, min, codes, true, ℕ, List, [], length, position, Some, None, IfSome, IfOk, IfErr, OnOk};
-ghost use Rattle.std.specs.Str.{byte};
-ghost use Rattle.life_base.specs.declared.kind.Kind.TheVariants.{Full, Memory};
-ghost use Rattle.life_base.specs.Lines.{has_no_feed};
-ghost use Rattle.life_base.specs.Refusal.{fault_at, fault_of};
-ghost use Rattle.life_quad.specs.Store.{Nodes};
-ghost use Rattle.life_canon.specs.Calls.{Stores, StoresFile, StoresLines};
-ghost use Rattle.life_canon.specs.Feeding.{RefusesFront};
-ghost use Rattle.life_canon.specs.Fronts.{HasBytes, IsFrontIn, IsOpenIn, TakesLine};
-ghost use Rattle.life_base.specs.Lines.{whole_lines};
-ghost use Rattle.life_canon.specs.Needs.{SomeOfLines};
-ghost use Rattle.life_canon.specs.Store.{IsKnown, IsRead, IsWant, RefusesIn, content};
-ghost use Rattle.life_canon.specs.Taking.{IsEnd, IsFrontOf, IsOpen, IsOver, StandsFor, bytes_of};
+ghost use Rattle.life_canon.specs.Words.{byte, Full, Memory, has_no_feed, fault_at, fault_of, Nodes, Stores, StoresFile, StoresLines, RefusesFront, HasBytes, IsFrontIn, IsOpenIn, TakesLine, whole_lines, SomeOfLines, IsKnown, IsRead, IsWant, RefusesIn, content, IsEnd, IsFrontOf, IsOpen, IsOver, StandsFor, bytes_of};
 
 use crate::pattern::Pattern;
 use crate::progress::Progress;

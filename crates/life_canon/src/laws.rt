@@ -1,15 +1,6 @@
 //! Laws over the definitions alone.
 
-ghost use Rattle.life_base.specs.declared.cell.TheConstants.{MAX_LEVEL};
-ghost use Rattle.life_quad.specs.Laws.{TrimmingIgnoresGrowth};
-ghost use Rattle.life_canon.specs.Laws.{FormatsDiffer, FilesAreUnique, FilesAreOnPlane, BlankOutside, FaultsAreUnique, RefusalsHaveKinds};
-ghost use Rattle.life_canon.specs.Laws.{TextsTellUniverses, TextsTellPatterns, TextsAreFiles, TextsKeepPatterns, TextsAreFixed};
-ghost use Rattle.life_canon.specs.Laws.{RleTextsAreFiles, RleTextsKeepPatterns};
-ghost use Rattle.life_canon.specs.Laws.{CanonicalIsLeast, SquaresHavePlaces, WiderPlaneKeepsTexts, WiderPlanesKeepFiles};
-ghost use Rattle.life_canon.specs.Laws.{SquaresAreCentred, CentredSquaresTellCells};
-ghost use Rattle.life_canon.specs.Laws.{PatternsFit, PatternsStay, PatternsTellFiles, ReadersStand};
-ghost use Rattle.life_canon.specs.Laws.{FaultsStay, LengthsStay, LengthHidesNoFault};
-ghost use Rattle.life_canon.specs.Room.{FewSquares, RoomSuffices, FrontsHold};
+ghost use Rattle.life_canon.specs.Words.{MAX_LEVEL, TrimmingIgnoresGrowth, FormatsDiffer, FilesAreUnique, FilesAreOnPlane, BlankOutside, FaultsAreUnique, RefusalsHaveKinds, TextsTellUniverses, TextsTellPatterns, TextsAreFiles, TextsKeepPatterns, TextsAreFixed, RleTextsAreFiles, RleTextsKeepPatterns, CanonicalIsLeast, SquaresHavePlaces, WiderPlaneKeepsTexts, WiderPlanesKeepFiles, SquaresAreCentred, CentredSquaresTellCells, PatternsFit, PatternsStay, PatternsTellFiles, ReadersStand, FaultsStay, LengthsStay, LengthHidesNoFault, FewSquares, RoomSuffices, FrontsHold};
 
 /// No lines are a file of both formats.
 pub fn formats_differ()

@@ -1,11 +1,7 @@
 //! The rows of a leaf's cells, each cell looked up once.
 
 ghost use Rattle.std.specs.Prelude.{◌≡◌, ◌+◌, ◌*◌, ◌<◌, ◌∷◌, [], ℕ, slice_index};
-ghost use Rattle.life_base.specs.Tree.{depth, state_at};
-ghost use Rattle.life_mc.specs.Squares.{HasStatesUpTo};
-ghost use Rattle.life_canon.specs.Listing.{rows_of};
-ghost use Rattle.life_quad.specs.Store.{four};
-ghost use Rattle.life_canon.specs.Rows.{row_of_two, row_of_four, rows_side_by_side};
+ghost use Rattle.life_canon.specs.Words.{depth, state_at, HasStatesUpTo, rows_of, four, row_of_two, row_of_four, rows_side_by_side};
 
 use life_quad::{Id, Quarters, Squares, divide};
 

@@ -1,13 +1,8 @@
 //! What takes the node lines of a walk.
 
 ghost use Rattle.std.specs.Prelude.{◌≡◌, [], List, OnOk, OnErr, IfErr};
-ghost use Rattle.life_base.specs.declared.kind.Kind.{Kind as KindValue};
-ghost use Rattle.life_mc.specs.declared.line.Line.{Line as LineValue};
-ghost use Rattle.life_mc.specs.declared.line.Line.TheVariants.{Leaf};
-ghost use Rattle.life_mc.specs.Squares.{HasStatesUpTo};
-ghost use Rattle.life_base.specs.Tree.{depth};
-ghost use Rattle.life_canon.specs.Listing.{rows_of};
-ghost use Rattle.life_canon.specs.Walking.{TakesLine, BreaksOff};
+ghost use Rattle.life_canon.specs.Words.{KindValue, LineValue, Leaf, HasStatesUpTo, depth, rows_of, BreaksOff};
+ghost use Rattle.life_canon.specs.Walking.{TakesLine};
 
 use crate::leaf_rows::eight_rows;
 use life_base::Kind;

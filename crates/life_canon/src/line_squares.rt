@@ -1,18 +1,8 @@
 //! Squares of a store, made from node lines.
 
 ghost use Rattle.std.specs.Prelude.{◌≡◌, ◌+◌, ◌-◌, ◌/◌, ◌%◌, ◌^◌, ◌<◌, ◌≤◌, IfOk, max};
-ghost use Rattle.life_base.specs.declared.rule.Rule.{Rule as RuleValue};
-ghost use Rattle.life_base.specs.Tree.{depth, tree_cell};
-ghost use Rattle.life_mc.specs.Cells.{leaf_cell};
-ghost use Rattle.life_mc.specs.Macrocell.{level_of, IsSquare, is_quarter};
-ghost use Rattle.life_mc.specs.Squares.{tree_at, tree_of, line_tree, leaf_tree};
-ghost use Rattle.life_mc.specs.declared.line.Line.{Line as LineValue};
-ghost use Rattle.life_quad.specs.Store.{two, four};
-ghost use Rattle.life_quad.specs.Refused.{SomePart};
-ghost use Rattle.life_canon.specs.Filling.{AreSquaresIn, ForLines};
-ghost use Rattle.life_canon.specs.Needs.{SomeGrown, SomeOfLine};
+ghost use Rattle.life_canon.specs.Words.{RuleValue, depth, tree_cell, leaf_cell, level_of, IsSquare, is_quarter, tree_at, tree_of, line_tree, leaf_tree, LineValue, two, four, SomePart, AreSquaresIn, ForLines, SomeGrown, SomeOfLine, GrowsOnly};
 ghost use Rattle.std.specs.Prelude.{List, map, true, ℤ};
-ghost use Rattle.life_quad.specs.Grows.{GrowsOnly};
 
 use life_base::{Kind, MAX_LEVEL};
 use life_mc::Line;

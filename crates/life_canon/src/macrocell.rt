@@ -3,13 +3,7 @@
 ghost use Rattle.std.proofs.Common.{sym};
 ghost use Rattle.std.proofs.lemmas.List.{append-nil};
 ghost use Rattle.std.specs.Prelude.{◌≡◌, ◌++◌, [], IfOk, IfErr};
-ghost use Rattle.life_base.specs.declared.kind.Kind.TheVariants.{Memory};
-ghost use Rattle.life_base.specs.Refusal.{fault_of};
-ghost use Rattle.life_mc.specs.Cells.{node_lines};
-ghost use Rattle.life_canon.specs.Listing.{square_file, canonical_file};
-ghost use Rattle.life_canon.specs.Least.{IsLeast};
-ghost use Rattle.life_canon.specs.Store.{IsTrimmed, universe_in};
-ghost use Rattle.life_canon.specs.Walking.{MayWalkPattern};
+ghost use Rattle.life_canon.specs.Words.{Memory, fault_of, node_lines, square_file, canonical_file, IsLeast, IsTrimmed, universe_in, MayWalkPattern, IsMemory};
 
 use crate::line_sink::LineSink;
 use crate::node_walk::walk_pattern;
@@ -56,7 +50,7 @@ fn numbered<S: SharedSquares>(
     requires none { numbers.ids ≡ [] }
     ensures file { IfOk result (λ file. file ≡ square_file pattern.now.rule
         pattern.now.generation (S.content squares.now pattern.now.root)) }
-    ensures kind { IfErr result (λ kind. kind ≡ Memory) }
+    ensures kind { IfErr result IsMemory }
 {
     let mut list = LineList {
         lines: Vec::new(alloc),

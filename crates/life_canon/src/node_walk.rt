@@ -1,10 +1,7 @@
 //! The walk that numbers the squares of a pattern and gives their lines.
 
 ghost use Rattle.std.specs.Prelude.{◌≡◌, ◌==◌, ◌&&◌, ◌⊎◌, ◌≤◌, [], true, false, map, All, OnOk, OnErr, IfErr, MatchOption};
-ghost use Rattle.life_base.specs.Tree.{depth, is_blank_tree};
-ghost use Rattle.life_canon.specs.Universe.{is_life, least_level};
-ghost use Rattle.life_canon.specs.Listing.{is_small, is_in, number_of, listed, lines_for};
-ghost use Rattle.life_canon.specs.Walking.{MayWalk, MayWalkPattern, Walked, RefusesWalk};
+ghost use Rattle.life_canon.specs.Words.{depth, is_blank_tree, is_life, least_level, is_small, is_in, number_of, listed, lines_for, MayWalk, MayWalkPattern, Walked, RefusesWalk};
 
 use crate::line_sink::LineSink;
 use crate::pattern::Pattern;

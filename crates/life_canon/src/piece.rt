@@ -1,11 +1,7 @@
 //! A piece of a text, which is written before it outgrows its room.
 
 ghost use Rattle.std.specs.Prelude.{refl, ◌≡◌, ◌⊎◌, ◌+◌, ◌++◌, ◌≤◌, [], true, vec_len, vec_capacity, OnOk, OnErr};
-ghost use Rattle.life_base.specs.declared.kind.Kind.TheVariants.{WriteFault};
-ghost use Rattle.life_base.specs.Writing.{WritesPrefix, LeavesSink};
-ghost use Rattle.life_mc.specs.Writing.{node_text};
-ghost use Rattle.life_canon.specs.Pieces.{WritesFront, PieceTakes, PieceBreaks};
-ghost use Rattle.life_canon.specs.PieceLaws.{piece-begins, piece-stops, unfailed};
+ghost use Rattle.life_canon.specs.Words.{WriteFault, WritesPrefix, LeavesSink, node_text, WritesFront, PieceTakes, PieceBreaks, piece-begins, piece-stops, unfailed};
 
 use crate::line_sink::LineSink;
 use life_base::{Kind, Sink, write_text};

@@ -1,28 +1,7 @@
 //! The lines of a file of either format, put into a store as they come.
 
 ghost use Rattle.std.specs.Prelude.{◌≡◌, ◌↔◌, ◌⊎◌, ◌++◌, ◌∷◌, [], ◌<◌, ◌≤◌, ℤ, Some, IsTrue, false, IfOk, IfErr, OnOk, max};
-ghost use Rattle.life_base.specs.declared.kind.Kind.TheVariants.{Full, NoHeader};
-ghost use Rattle.life_base.specs.Refusal.{Prefix};
-ghost use Rattle.life_base.specs.Tree.{depth, tree_cell};
-ghost use Rattle.life_mc.specs.Cells.{cell, root_level};
-ghost use Rattle.life_mc.specs.Macrocell.{Macrocell, IsValid};
-ghost use Rattle.life_mc.specs.Reading.{Accepts, squares_of, broken};
-ghost use Rattle.life_quad.specs.Store.{Nodes, held};
-ghost use Rattle.life_quad.specs.Grows.{Grows};
-ghost use Rattle.life_quad.specs.Keeping.{IsWantKind};
-ghost use Rattle.life_rle.specs.Decided.{LacksHeader};
-ghost use Rattle.life_rle.specs.File.{HasRuns};
-ghost use Rattle.life_rle.specs.Grammar.{Breaks as BreaksRle, IsSomeRle};
-ghost use Rattle.life_strip.specs.Filling.{IsFilling};
-ghost use Rattle.life_canon.specs.Building.{IsBuilt, AreNext};
-ghost use Rattle.life_canon.specs.Calls.{Stores, StoresIn};
-ghost use Rattle.life_canon.specs.Files.{Breaks, Says, is_macrocell};
-ghost use Rattle.life_canon.specs.Fronts.{IsOpenIn};
-ghost use Rattle.life_canon.specs.Store.{IsKnown, content, IsPatternOf};
-ghost use Rattle.life_canon.specs.Filling.{AreSquaresIn, ForMacrocell};
-ghost use Rattle.life_canon.specs.Needs.{SomeAtEnd, SomeOfLines, SomeOfRuns, SomeRoot};
-ghost use Rattle.life_canon.specs.Taking.{IsOpen, IsOver, IsReady, StandsFor, taken};
-ghost use Rattle.life_canon.specs.Universe.{Universe};
+ghost use Rattle.life_canon.specs.Words.{Full, NoHeader, Prefix, depth, tree_cell, cell, root_level, Macrocell, IsValid, Accepts, squares_of, broken, Nodes, held, Grows, IsWantKind, LacksHeader, HasRuns, BreaksRle, IsSomeRle, IsFilling, IsBuilt, AreNext, Stores, StoresIn, Breaks, Says, is_macrocell, IsOpenIn, IsKnown, content, IsPatternOf, AreSquaresIn, ForMacrocell, SomeAtEnd, SomeOfLines, SomeOfRuns, SomeRoot, IsOpen, IsOver, IsReady, StandsFor, taken, Universe};
 
 use crate::line_squares::{grow_to, line_square};
 use crate::pattern::{Pattern, least_level};

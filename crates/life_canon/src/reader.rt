@@ -1,13 +1,7 @@
 //! A file of either format that comes in pieces.
 
 ghost use Rattle.std.specs.Prelude.{◌≡◌, ◌⊎◌, ◌++◌, [], true, false, IfOk, IfErr, OnOk, OnErr};
-ghost use Rattle.life_base.specs.declared.kind.Kind.TheVariants.{Spent};
-ghost use Rattle.life_base.specs.declared.fault.Fault.{Fault as FaultValue};
-ghost use Rattle.life_base.specs.Refusal.{fault_of};
-ghost use Rattle.life_quad.specs.Store.{Nodes};
-ghost use Rattle.life_canon.specs.Calls.{FeedsInto, EndsInto};
-ghost use Rattle.life_canon.specs.Feeding.{RefusesFront, IsOverAt, Stands};
-ghost use Rattle.life_canon.specs.Store.{IsRead, IsWant, RefusesIn};
+ghost use Rattle.life_canon.specs.Words.{Spent, FaultValue, fault_of, Nodes, FeedsInto, EndsInto, RefusesFront, IsOverAt, Stands, IsRead, IsWant, RefusesIn};
 
 use crate::front::Front;
 use crate::pattern::Pattern;

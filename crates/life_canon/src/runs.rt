@@ -1,15 +1,7 @@
 //! From a source to a sink.
 
 ghost use Rattle.std.specs.Prelude.{◌≡◌, ◌≢◌, ◌⊎◌, ◌+◌, ◌<◌, ◌≤◌, ◌^◌, ℕ, List, length, true, false, IsTrue, ◌↔◌, IfOk, IfErr, OnOk, IfSome, Some, None, Err, ◌++◌};
-ghost use Rattle.life_base.specs.DeviceRuns.{source_run, sink_run};
-ghost use Rattle.life_base.specs.Refusal.{fault_of};
-ghost use Rattle.life_canon.specs.Running.{ReadsPattern, RunsCanon};
-ghost use Rattle.life_canon.specs.Feeding.{RefusesFront, Stands};
-ghost use Rattle.life_base.specs.Lines.{whole_lines};
-ghost use Rattle.life_base.specs.Tree.{Tree};
-ghost use Rattle.life_canon.specs.Needs.{LacksForFront};
-ghost use Rattle.life_canon.specs.Room.{AddsLines, HoldsFront, room_for};
-ghost use Rattle.life_canon.specs.Store.{Keeps, IsWant};
+ghost use Rattle.life_canon.specs.Words.{source_run, sink_run, fault_of, ReadsPattern, RunsCanon, RefusesFront, Stands, whole_lines, Tree, LacksForFront, AddsLines, HoldsFront, room_for, Keeps, IsWant};
 
 use crate::pattern::Pattern;
 use crate::piece::PIECE;

@@ -1,20 +1,8 @@
 //! What a pattern is, in five lines.
 
 ghost use Rattle.std.specs.Prelude.{◌≡◌, ◌++◌, ◌≤◌, codes, decimal, IfOk, IfErr, IfSome, OnOk, MatchOption};
-ghost use Rattle.std.specs.Fmt.{signed_decimal};
-ghost use Rattle.life_base.specs.Refusal.{fault_of};
-ghost use Rattle.life_base.specs.Rules.{rule_text};
-ghost use Rattle.life_base.specs.declared.kind.Kind.TheVariants.{Memory};
-ghost use Rattle.life_base.specs.Tree.{depth, is_blank_tree};
-ghost use Rattle.life_quad.specs.Cells.{population, IsLeastBox};
-ghost use Rattle.life_base.specs.declared.bounds.Bounds.{Bounds as BoundsValue};
+ghost use Rattle.life_canon.specs.Words.{signed_decimal, fault_of, rule_text, Memory, depth, is_blank_tree, population, IsLeastBox, BoundsValue, span, node_lines, canonical_file, ReadsInto, ForEachFile, RefusesIn, IsOfFile, IsTrimmed, universe_in, content, IsShown, IsOrdered, AreOrdered, box_text, show_text, IsMemory};
 ghost use Rattle.std.specs.Prelude.{Option, true};
-ghost use Rattle.life_rle.specs.Written.{span};
-ghost use Rattle.life_mc.specs.Cells.{node_lines};
-ghost use Rattle.life_canon.specs.Listing.{canonical_file};
-ghost use Rattle.life_canon.specs.Calls.{ReadsInto};
-ghost use Rattle.life_canon.specs.Store.{ForEachFile, RefusesIn, IsOfFile, IsTrimmed, universe_in, content};
-ghost use Rattle.life_canon.specs.Texts.{IsShown, IsOrdered, AreOrdered, box_text, show_text};
 
 use crate::cell_counts::{Counts, count_all};
 use crate::files::read;
@@ -28,7 +16,7 @@ use std::alloc::Global;
 fn append_line(out: &mut Vec<u8>, word: &[u8], number: u64) -> Result<(), Kind>
     ensures ok { OnOk result
         (out.new.items ≡ out.old.items ++ word.now ++ decimal number ++ codes "\n") }
-    ensures kind { IfErr result (λ kind. kind ≡ Memory) }
+    ensures kind { IfErr result IsMemory }
 {
     append(out, word)?;
     append_number(out, number)?;
@@ -39,7 +27,7 @@ fn append_line(out: &mut Vec<u8>, word: &[u8], number: u64) -> Result<(), Kind>
 fn append_population(out: &mut Vec<u8>, number: u128) -> Result<(), Kind>
     ensures ok { OnOk result
         (out.new.items ≡ out.old.items ++ codes "population " ++ decimal number ++ codes "\n") }
-    ensures kind { IfErr result (λ kind. kind ≡ Memory) }
+    ensures kind { IfErr result IsMemory }
 {
     append(out, b"population ")?;
     append_number(out, number)?;
@@ -49,7 +37,7 @@ fn append_population(out: &mut Vec<u8>, number: u128) -> Result<(), Kind>
 /// Adds a signed number and a space at the end.
 fn append_coordinate(out: &mut Vec<u8>, number: i64) -> Result<(), Kind>
     ensures ok { OnOk result (out.new.items ≡ out.old.items ++ signed_decimal number ++ codes " ") }
-    ensures kind { IfErr result (λ kind. kind ≡ Memory) }
+    ensures kind { IfErr result IsMemory }
 {
     append_number(out, number)?;
     append(out, b" ")
@@ -67,7 +55,7 @@ fn side(low: i64, high: i64) -> u64
 fn append_box(out: &mut Vec<u8>, found: Option<Bounds>) -> Result<(), Kind>
     requires { IfSome found AreOrdered }
     ensures ok { OnOk result (out.new.items ≡ out.old.items ++ box_text found) }
-    ensures kind { IfErr result (λ kind. kind ≡ Memory) }
+    ensures kind { IfErr result IsMemory }
 {
     let Some(found) = found else {
         return append(out, b"box none\n");
@@ -85,7 +73,7 @@ fn append_box(out: &mut Vec<u8>, found: Option<Bounds>) -> Result<(), Kind>
 fn append_rule(out: &mut Vec<u8>, pattern: &Pattern) -> Result<(), Kind>
     ensures ok { OnOk result (out.new.items ≡ out.old.items ++ codes "rule "
         ++ rule_text pattern.now.rule ++ codes "\n") }
-    ensures kind { IfErr result (λ kind. kind ≡ Memory) }
+    ensures kind { IfErr result IsMemory }
 {
     append(out, b"rule ")?;
     pattern.rule.write(out)?;
@@ -99,7 +87,7 @@ fn counts_of(alloc: Global, store: &Shared, pattern: &Pattern) -> Result<Counts,
         (canonical_file MAX_LEVEL (universe_in store.now pattern.now))) }
     ensures cells { IfOk result
         (λ counts. counts.cells ≡ population (content store.now pattern.now.root)) }
-    ensures kind { IfErr result (λ kind. kind ≡ Memory) }
+    ensures kind { IfErr result IsMemory }
 {
     let numbers = begin_numbers(alloc, store, pattern)?;
     count_all(alloc, store, pattern, numbers)
@@ -115,7 +103,7 @@ fn five_lines(alloc: Global, store: &Shared, pattern: &Pattern) -> Result<Vec<u8
         × (text.items ≡ show_text pattern.now.rule pattern.now.generation
         (population (content store.now pattern.now.root)) box
         (node_lines (canonical_file MAX_LEVEL (universe_in store.now pattern.now))))) }
-    ensures kind { IfErr result (λ kind. kind ≡ Memory) }
+    ensures kind { IfErr result IsMemory }
 {
     let counts = counts_of(alloc, store, pattern)?;
     let least = bounds(alloc, store, pattern.root)?;

@@ -1,13 +1,7 @@
 //! A file of either format as a text of one form.
 
 ghost use Rattle.std.specs.Prelude.{◌≡◌, ◌⊎◌, ◌^◌, IfOk, IfErr};
-ghost use Rattle.life_base.specs.declared.kind.Kind.TheVariants.{Memory, TooManyCells};
-ghost use Rattle.life_base.specs.Refusal.{fault_of};
-ghost use Rattle.life_canon.specs.Calls.{ReadsInto};
-ghost use Rattle.life_canon.specs.Files.{Same};
-ghost use Rattle.life_canon.specs.Least.{IsLeastText};
-ghost use Rattle.life_canon.specs.Store.{ForEachFile, RefusesIn, IsOfFile};
-ghost use Rattle.life_canon.specs.Texts.{IsCanonical, IsRleOf, HasMoreCells};
+ghost use Rattle.life_canon.specs.Words.{Memory, TooManyCells, fault_of, ReadsInto, Same, IsLeastText, ForEachFile, RefusesIn, IsOfFile, IsCanonical, IsRleOf, HasMoreCells};
 
 use crate::files::read;
 use crate::pattern::Pattern;

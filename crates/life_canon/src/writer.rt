@@ -3,18 +3,7 @@
 ghost use Rattle.std.proofs.Common.{sym};
 ghost use Rattle.std.specs.Prelude.{◌≡◌, ◌++◌, ◌≤◌, [], true, flat_map, vec_capacity, OnOk, IfOk, IfErr};
 ghost use Rattle.std.proofs.lemmas.List.{append-nil};
-ghost use Rattle.life_base.specs.declared.kind.Kind.TheVariants.{Memory};
-ghost use Rattle.life_base.specs.Refusal.{fault_of};
-ghost use Rattle.life_base.specs.Writing.{WritesText, LeavesSink};
-ghost use Rattle.life_base.specs.Tree.{depth};
-ghost use Rattle.life_quad.specs.Store.{Knows};
-ghost use Rattle.life_mc.specs.Macrocell.{largest_state};
-ghost use Rattle.life_mc.specs.Squares.{HasStatesUpTo};
-ghost use Rattle.life_mc.specs.Writing.{front_text, node_text};
-ghost use Rattle.life_canon.specs.Universe.{least_level};
-ghost use Rattle.life_canon.specs.Listing.{listed, lines_for, canon_text};
-ghost use Rattle.life_canon.specs.Store.{IsTrimmed, universe_in, content};
-ghost use Rattle.life_canon.specs.Walking.{HasRoomFrom};
+ghost use Rattle.life_canon.specs.Words.{Memory, fault_of, WritesText, LeavesSink, depth, Knows, largest_state, HasStatesUpTo, front_text, node_text, least_level, listed, lines_for, canon_text, IsTrimmed, universe_in, content, HasRoomFrom, IsMemory};
 
 use crate::line_sink::LineSink;
 use crate::node_walk::walk_pattern;
@@ -81,7 +70,7 @@ pub fn text_of(alloc: Global, store: &Shared, pattern: &Pattern) -> Result<Vec<u
 fn front_with_room(alloc: Global, pattern: &Pattern, room: usize) -> Result<Vec<u8>, Kind>
     ensures front { IfOk result
         (λ front. front.items ≡ front_text pattern.now.rule pattern.now.generation) }
-    ensures kind { IfErr result (λ kind. kind ≡ Memory) }
+    ensures kind { IfErr result IsMemory }
 {
     let mut front = Vec::with_capacity(alloc, room)?;
     append_front(&mut front, &pattern.rule, pattern.generation)?;
@@ -93,7 +82,7 @@ fn begin_front(alloc: Global, pattern: &Pattern) -> Result<Vec<u8>, Kind>
     ensures front { IfOk result
         (λ front. front.items ≡ front_text pattern.now.rule pattern.now.generation) }
     ensures room { IfOk result (λ front. 65536 ≤ vec_capacity front) }
-    ensures kind { IfErr result (λ kind. kind ≡ Memory) }
+    ensures kind { IfErr result IsMemory }
 {
     let mut front = front_with_room(alloc, pattern, PIECE + SHORT_FRONT)?;
     front.reserve(PIECE)?;
@@ -108,7 +97,7 @@ pub(crate) fn begin_numbers(
     pattern: &Pattern,
 ) -> Result<IdNumbers, Kind>
     ensures none { IfOk result (λ numbers. numbers.ids ≡ []) }
-    ensures kind { IfErr result (λ kind. kind ≡ Memory) }
+    ensures kind { IfErr result IsMemory }
 {
     match pattern.rule {
         Rule::Life(_) if store.nodes() <= FEW_NODES => IdNumbers::new(alloc, store, 3),
@@ -128,7 +117,7 @@ pub(crate) fn begin_text(
     ensures front { IfOk result
         (λ p. p.1.items ≡ front_text pattern.now.rule pattern.now.generation) }
     ensures room { IfOk result (λ p. 65536 ≤ vec_capacity p.1) }
-    ensures kind { IfErr result (λ kind. kind ≡ Memory) }
+    ensures kind { IfErr result IsMemory }
 {
     let numbers = IdNumbers::new(alloc, store, least_level(&pattern.rule))?;
     let front = begin_front(alloc, pattern)?;

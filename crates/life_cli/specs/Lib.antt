@@ -8,3 +8,4 @@ pub mod Usages
 pub mod Sentences
 pub mod Keys
 pub mod KeyRuns
+pub mod Words

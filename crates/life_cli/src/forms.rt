@@ -1,13 +1,7 @@
 //! The work of the jobs that take a pattern in a form.
 
 ghost use Rattle.std.specs.Prelude.{◌≡◌, ◌⊎◌, ◌↔◌, ◌^◌, ◌<◌, ◌≤◌, Err, IfOk, IfErr, OnOk, IsTrue, List, ℕ};
-ghost use Rattle.life_base.specs.DeviceRuns.{source_run};
-ghost use Rattle.life_base.specs.Refusal.{fault_of};
-ghost use Rattle.life_quad.specs.Cells.{population};
-ghost use Rattle.life_canon.specs.Store.{IsOfFile, IsRead, IsTrimmed, IsWant, Keeps, content, universe_in};
-ghost use Rattle.life_forms.specs.Needed.{LacksForMoved};
-ghost use Rattle.life_cli.specs.Forms.{AreSameIn, HasTooMany, IsMovedText, IsTextIn};
-ghost use Rattle.life_cli.specs.Jobs.{ComesOf, RefusesInForm, RefusesSame};
+ghost use Rattle.life_cli.specs.Words.{source_run, fault_of, population, IsOfFile, IsRead, IsTrimmed, IsWant, Keeps, content, universe_in, LacksForMoved, AreSameIn, HasTooMany, IsMovedText, IsTextIn, ComesOf, RefusesInForm, RefusesSame};
 
 use crate::jobs::MOST_SQUARES;
 use crate::plans::Form;

@@ -1,15 +1,7 @@
 //! The work of a job.
 
 ghost use Rattle.std.specs.Prelude.{◌≡◌, ◌≢◌, ◌⊎◌, ◌<◌, ◌↔◌, ◌^◌, IsSome, IfSome, IfOk, IfErr, OnOk, IsErrAnd, IsTrue, Ok, Err, true, false};
-ghost use Rattle.std.specs.Io.KnownBytes.{Appends};
-ghost use Rattle.life_base.specs.DeviceRuns.{SourceRun, source_run, optional_source_run, sink_run};
-ghost use Rattle.life_cli.specs.declared.refusals.Refusal.{Refusal};
-ghost use Rattle.life_canon.specs.Files.{Refuses};
-ghost use Rattle.life_canon.specs.Store.{Keeps};
-ghost use Rattle.life_canon.specs.Texts.{IsRleOf, IsShown};
-ghost use Rattle.life_cli.specs.Faults.{fault_line, refusal_of, status_of, Tells};
-ghost use Rattle.life_cli.specs.Jobs.{made_status, made_text, MadeOf, Makes, Worked, OfFile, InputRefuses, BreaksOff, ComesOf, AreUncompared, CanonRefuses, IsPatternIn, IsWantFor, JobRan, JobRefuses, RefusesMany};
-ghost use Rattle.life_cli.specs.Plans.{HasSecond, WritesPlacedText};
+ghost use Rattle.life_cli.specs.Words.{Appends, SourceRun, source_run, optional_source_run, sink_run, Refusal, Refuses, Keeps, IsRleOf, IsShown, fault_line, refusal_of, status_of, Tells, made_status, made_text, MadeOf, Makes, Worked, OfFile, InputRefuses, BreaksOff, ComesOf, AreUncompared, CanonRefuses, IsPatternIn, IsWantFor, JobRan, JobRefuses, RefusesMany, HasSecond, WritesPlacedText};
 
 use crate::forms::{are_same_in, text_of_source};
 use crate::plans::{Form, Job, Target};

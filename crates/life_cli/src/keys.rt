@@ -1,9 +1,7 @@
 //! The key of a pattern: the SHA-256 of its canonical text in a form.
 
 ghost use Rattle.std.specs.Prelude.{◌≡◌};
-ghost use Rattle.life_base.specs.DeviceRuns.{source_run};
-ghost use Rattle.life_cli.specs.Jobs.{ComesOf, RefusesInForm};
-ghost use Rattle.life_cli.specs.Keys.{IsKeyIn};
+ghost use Rattle.life_cli.specs.Words.{source_run, ComesOf, RefusesInForm, IsKeyIn};
 
 use crate::forms::text_of_source;
 use crate::jobs::MOST_SQUARES;

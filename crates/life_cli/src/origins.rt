@@ -1,8 +1,7 @@
 //! The files that the words name, and the order in which they are opened.
 
 ghost use Rattle.std.specs.Prelude.{◌≡◌, ◌↔◌, IsSome, IfOk, IfErr, IfSome, OnErr, false};
-ghost use Rattle.life_base.specs.DeviceState.{has_failed};
-ghost use Rattle.life_cli.specs.Origins.{IsOriginOf, OpensFiles, FailsToOpen};
+ghost use Rattle.life_cli.specs.Words.{has_failed, IsOriginOf, OpensFiles, FailsToOpen};
 
 use crate::plans::Plan;
 use life_base::{Device, Kind};

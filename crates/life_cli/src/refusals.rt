@@ -1,9 +1,7 @@
 //! Fault lines and statuses.
 
 ghost use Rattle.std.specs.Prelude.{◌≡◌, ◌⊎◌, true, IfErr, OnErr};
-ghost use Rattle.life_base.specs.DeviceRuns.{sink_run};
-ghost use Rattle.life_base.specs.Writing.{WritesText};
-ghost use Rattle.life_cli.specs.Faults.{fault_line, is_of_table, line_word, status_of, Tells};
+ghost use Rattle.life_cli.specs.Words.{sink_run, WritesText, fault_line, is_of_table, line_word, status_of, Tells};
 
 use itoa::Buffer;
 use life_base::{Fault, Kind, Sink, write_texts};

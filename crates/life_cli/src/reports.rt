@@ -1,10 +1,7 @@
 //! What is said of words that ask for nothing that can be done.
 
 ghost use Rattle.std.specs.Prelude.{◌≡◌};
-ghost use Rattle.life_base.specs.DeviceRuns.{sink_run};
-ghost use Rattle.life_base.specs.Refusal.{fault_of};
-ghost use Rattle.life_cli.specs.Faults.{fault_line, refusal_of, status_of, Tells};
-ghost use Rattle.life_cli.specs.Usages.{is_asked, usage_line, usage_status, words_line, words_status};
+ghost use Rattle.life_cli.specs.Words.{sink_run, fault_of, fault_line, refusal_of, status_of, Tells, is_asked, usage_line, usage_status, words_line, words_status};
 
 use crate::plans::Usage;
 use crate::refusals::{Refusal, status, tell};

@@ -1,7 +1,7 @@
 //! What each kind of fault means, in a sentence.
 
 ghost use Rattle.std.specs.Prelude.{◌≡◌};
-ghost use Rattle.life_cli.specs.Sentences.{sentence_of};
+ghost use Rattle.life_cli.specs.Words.{sentence_of};
 
 use life_base::Kind;
 

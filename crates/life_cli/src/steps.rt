@@ -1,11 +1,7 @@
 //! The work of the jobs that step a pattern.
 
 ghost use Rattle.std.specs.Prelude.{◌≡◌, ◌⊎◌, ◌^◌, IfOk, IfErr, IsErrAnd};
-ghost use Rattle.life_base.specs.DeviceRuns.{source_run};
-ghost use Rattle.life_base.specs.Inputs.{ReadAll};
-ghost use Rattle.life_base.specs.Refusal.{fault_of};
-ghost use Rattle.life_step.specs.Stepped.{IsStepped, IsSteppedBy};
-ghost use Rattle.life_cli.specs.Jobs.{InputRefuses, OfTable, ComesOf, RefusesStep, RefusesStepBy, HasTable, HasNoTable, HasTextByTable, HasNoTextByTable};
+ghost use Rattle.life_cli.specs.Words.{source_run, ReadAll, fault_of, IsStepped, IsSteppedBy, InputRefuses, OfTable, ComesOf, RefusesStep, RefusesStepBy, HasTable, HasNoTable, HasTextByTable, HasNoTextByTable};
 
 use crate::jobs::MOST_SQUARES;
 use crate::refusals::Refusal;

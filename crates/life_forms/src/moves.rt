@@ -1,7 +1,7 @@
 //! Cells, moved, as a square.
 
 ghost use Rattle.std.specs.Prelude.{◌≡◌, ◌⊎◌, ◌^◌, ◌<◌, ◌≤◌, ◌+ℤ◌, ℕ, ℤ, All, AllPairs, Err, IfOk, IfErr, OnOk};
-ghost use Rattle.life_forms.specs.Words.{MAX_LEVEL, Full, Memory, TooManyCells, Rule, IsOrdered, square_universe, IsInPlace, IsMoved, depth, tree_cell, RunValue, IsBefore, population, IsWantKind, state_by, moved_run, moved_runs, LiesOnPlane, IsWay, SomeOfPlane, SomeOfMoved};
+ghost use Rattle.life_forms.specs.Words.{MAX_LEVEL, Full, TooManyCells, Rule, IsOrdered, square_universe, IsInPlace, IsMoved, depth, tree_cell, IsBefore, population, IsWantKind, state_by, moved_run, moved_runs, LiesOnPlane, IsWay, SomeOfPlane, SomeOfMoved, IsMemory, IsWantOf};
 ghost use Rattle.life_quad.specs.Grows.{Keeps};
 
 use life_base::{Cell, Kind, MAX_LEVEL, Run};
@@ -38,7 +38,7 @@ fn way_of<S: SharedSquares>(alloc: Global, squares: &S, root: Id) -> Result<Way,
     requires high { 1 ≤ depth (S.content squares.now root) }
     ensures place { IfOk result
         (λ way. IsWay (tree_cell (S.content squares.now root)) way.columns way.rows) }
-    ensures memory { IfErr result (λ kind. kind ≡ Memory) }
+    ensures memory { IfErr result IsMemory }
 {
     match bounds(alloc, squares, root)? {
         None => Ok(Way {
@@ -85,7 +85,7 @@ fn moved_square<S: Squares>(
         → tree_cell (S.content squares.new id) x y
         ≡ state_by (moved_runs columns rows cells.now) x y) }
     ensures keeps { Keeps S.Squares squares.old squares.new }
-    ensures refusals { IfErr result (IsWantKind (S.stored squares.new) (S.most squares.new)) }
+    ensures refusals { IfErr result (IsWantOf S.Squares squares.new) }
     ensures needed { result ≡ Err Full
         → SomeOfPlane (S.needs_node squares.new) (moved_runs columns rows cells.now) }
 {

@@ -1,13 +1,6 @@
 //! Laws of the macrocell format, over the definitions alone.
 
-ghost use Rattle.life_base.specs.declared.cell.TheConstants.{MAX_LEVEL};
-ghost use Rattle.life_mc.specs.Accepted.{FilesAreValid, LinesAreValid, IsBlankOutside, NodeLinesCounted};
-ghost use Rattle.life_mc.specs.Grammar.{GrammarsAgree};
-ghost use Rattle.life_mc.specs.Laws.{FilesAreUnique, FaultsAreUnique, FrontsAreUnbroken, FrontsAreFiles, KindsNameLines, LongLinesBreak};
-ghost use Rattle.life_mc.specs.Laws.{RefusalsHaveKinds, WiderPlanesKeepFiles};
-ghost use Rattle.life_mc.specs.Reading.{LinesBreakByKinds};
-ghost use Rattle.life_mc.specs.Squares.{LinesStandForSquares};
-ghost use Rattle.life_mc.specs.Writing.{TextsReadBack};
+ghost use Rattle.life_mc.specs.Words.{MAX_LEVEL, FilesAreValid, LinesAreValid, IsBlankOutside, NodeLinesCounted, GrammarsAgree, FilesAreUnique, FaultsAreUnique, FrontsAreUnbroken, FrontsAreFiles, KindsNameLines, LongLinesBreak, RefusalsHaveKinds, WiderPlanesKeepFiles, LinesBreakByKinds, LinesStandForSquares, TextsReadBack};
 
 /// The format told as a whole and the format told by the rule that a line breaks accept the same lines, with the same
 /// meaning.

@@ -1,12 +1,7 @@
 //! The rows of a leaf line.
 
 ghost use Rattle.std.specs.Prelude.{◌≡◌, ◌<◌, ◌≤◌, ◌+◌, ◌-◌, ◌%◌, ◌^◌, ◌==◌, ◌&&◌, take, map, true, false, nat_lt, drop, length, MatchOption, if◌then◌else◌};
-ghost use Rattle.std.specs.Simd.Lanes.{mask_l};
-ghost use Rattle.std.specs.Str.{byte};
-ghost use Rattle.life_base.specs.Text.{is_empty};
-ghost use Rattle.life_mc.specs.Reading.{is_leaf, leaf_bytes, row_byte};
-ghost use Rattle.life_mc.specs.Grammar.{is_cell, is_row};
-ghost use Rattle.life_mc.specs.Standing.{first_row, front_cells};
+ghost use Rattle.life_mc.specs.Words.{mask_l, byte, is_empty, is_leaf, leaf_bytes, row_byte, is_cell, first_row, front_cells, TellsRow};
 
 use std::simd::prelude::*;
 
@@ -73,9 +68,7 @@ fn first_columns(row: u8, column: usize) -> u8
 /// The same as `cells_row`, of a text of more than eight bytes, which are looked at together.
 fn whole_row(text: &[u8]) -> Option<(u8, usize)>
     requires { 8 < length text.now }
-    ensures { MatchOption result (is_row (first_row text.now) ≡ false)
-        (λ p. (is_row (first_row text.now) ≡ true) × (p.0 ≡ row_byte (first_row text.now))
-        × (p.1 ≡ length (first_row text.now))) }
+    ensures { TellsRow (first_row text.now) result }
 {
     let end = cells_in_front(text);
     if text[end] != b'$' {
@@ -87,9 +80,7 @@ fn whole_row(text: &[u8]) -> Option<(u8, usize)>
 /// The first row of a text, if it is one of a leaf, and how many bytes it has. The loop has a fixed number of turns, so that it is laid out
 /// turn by turn.
 fn cells_row(text: &[u8]) -> Option<(u8, usize)>
-    ensures { MatchOption result (is_row (first_row text.now) ≡ false)
-        (λ p. (is_row (first_row text.now) ≡ true) × (p.0 ≡ row_byte (first_row text.now))
-        × (p.1 ≡ length (first_row text.now))) }
+    ensures { TellsRow (first_row text.now) result }
 {
     let mut row = 0u8;
     let mut bit = 128u8;
@@ -109,9 +100,7 @@ fn cells_row(text: &[u8]) -> Option<(u8, usize)>
 
 /// The first row of a text, if it is one of a leaf, and how many bytes it has.
 fn read_row(text: &[u8]) -> Option<(u8, usize)>
-    ensures { MatchOption result (is_row (first_row text.now) ≡ false)
-        (λ p. (is_row (first_row text.now) ≡ true) × (p.0 ≡ row_byte (first_row text.now))
-        × (p.1 ≡ length (first_row text.now))) }
+    ensures { TellsRow (first_row text.now) result }
 {
     if text.len() > 8 {
         whole_row(text)

@@ -1,12 +1,7 @@
 //! The lines of a macrocell file: what one is, and the square that a node line writes.
 
-ghost use Rattle.std.specs.Prelude.{◌≡◌, ◌<◌, ◌-◌, ◌^◌, length, true, None, Some, Err, MatchResult, ◌⊎◌, drop, IfErr};
-ghost use Rattle.life_base.specs.Text.{trim, value_of};
-ghost use Rattle.life_base.specs.Numbers.{u64_of};
-ghost use Rattle.life_base.specs.declared.kind.Kind.TheVariants.{Memory};
-ghost use Rattle.std.specs.Result.{result_err};
-ghost use Rattle.life_mc.specs.Reading.{is_command, is_node_line, broken_after};
-ghost use Rattle.life_mc.specs.Standing.{IsCommandRead, IsParsed};
+ghost use Rattle.std.specs.Prelude.{◌≡◌, ◌<◌, ◌-◌, ◌^◌, length, true, None, Some, Err, MatchResult, ◌⊎◌};
+ghost use Rattle.life_mc.specs.Words.{trim, value_of, u64_of, Memory, result_err, is_command, is_node_line, broken_after, IsCommandRead, IsParsed};
 
 use crate::node::read_node;
 use life_base::{Kind, MAX_LEVEL, Rule, begins_with, is_blank, is_whitespace, read_u64, trimmed};

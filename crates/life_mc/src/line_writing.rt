@@ -1,9 +1,7 @@
 //! Node lines as texts, made in a room of a fixed size.
 
 ghost use Rattle.std.specs.Prelude.{◌≡◌, ◌++◌, ◌∷◌, ◌+◌, ◌<◌, ◌≤◌, take, drop, length, flat_map, decimal, codes, vec_len, vec_capacity, OnOk, OnErr, IfErr};
-ghost use Rattle.life_base.specs.declared.kind.Kind.TheVariants.{Memory};
-ghost use Rattle.life_mc.specs.declared.line.Line.TheVariants.{Quad};
-ghost use Rattle.life_mc.specs.Writing.{node_text, row_text};
+ghost use Rattle.life_mc.specs.Words.{Quad, node_text, row_text, IsMemory};
 
 use crate::line::Line;
 use itoa::write_digits;
@@ -136,7 +134,7 @@ fn write_quad(
 pub fn append_line(out: &mut Vec<u8>, line: &Line) -> Result<(), Kind>
     ensures ok { OnOk result (out.new.items ≡ out.old.items ++ node_text line.now) }
     ensures err { OnErr result (out.new.items ≡ out.old.items) }
-    ensures kind { IfErr result (λ kind. kind ≡ Memory) }
+    ensures kind { IfErr result IsMemory }
     ensures full { OnErr result (vec_capacity out.old < vec_len out.old + 105) }
     ensures capacity { vec_capacity out.old ≤ vec_capacity out.new }
 {

@@ -1,7 +1,7 @@
 //! Macrocell files line by line.
 
 ghost use Rattle.std.specs.Prelude.{◌≡◌};
-ghost use Rattle.life_mc.specs.Macrocell.{level_of};
+ghost use Rattle.life_mc.specs.Words.{level_of, IsMemory};
 
 use crate::line::{Directive, Line, parse_line};
 use life_base::{Kind, LineLog, MAX_LEVEL, Rule, begins_with, is_too_long};
@@ -90,7 +90,7 @@ impl Kept {
         ensures levels { OnOk result
             (self.new.levels ≡ self.old.levels ++ level_in (form_square (form_of directive))) }
         ensures started { self.new.started ≡ self.old.started }
-        ensures err { IfErr result (λ kind. kind ≡ Memory) }
+        ensures err { IfErr result IsMemory }
     {
         match directive {
             Directive::Nothing => Ok(None),

@@ -1,11 +1,7 @@
 //! One node line.
 
-ghost use Rattle.std.specs.Prelude.{◌≡◌, ◌<◌, ◌≤◌, ◌-◌, ◌^◌, ◌∷◌, [], ℕ, length, Some, None, MatchResult, slice_index, true};
-ghost use Rattle.life_mc.specs.Macrocell.{largest_state, is_child, is_quarter};
-ghost use Rattle.life_mc.specs.Reading.{broken_by_square, broken_by_node, is_leaf_byte, square_of};
-ghost use Rattle.life_mc.specs.declared.line.Line.TheVariants.{Quad};
-ghost use Rattle.std.specs.List.{list_all};
-ghost use Rattle.life_base.specs.Text.{trim};
+ghost use Rattle.std.specs.Prelude.{◌≡◌, ◌<◌, ◌≤◌, ◌-◌, ◌^◌, ◌∷◌, [], length, Some, None, MatchResult, slice_index, true};
+ghost use Rattle.life_mc.specs.Words.{largest_state, is_child, is_quarter, broken_by_square, broken_by_node, is_leaf_byte, square_of, Quad, list_all, trim};
 
 use crate::leaf::read_leaf;
 use crate::line::Line;

@@ -1,13 +1,7 @@
 //! The numbers of a quarter line, of any length.
 
 ghost use Rattle.std.specs.Prelude.{◌≡◌, ◌∷◌, ◌<◌, ◌≤◌, ◌+◌, ◌-◌, ◌^◌, List, ℕ, Some, true, false, length, take, drop, IfSome, MatchOption};
-ghost use Rattle.std.specs.Char.{is_ascii_digit};
-ghost use Rattle.std.specs.List.{list_all};
-ghost use Rattle.life_base.specs.Numbers.{capped};
-ghost use Rattle.life_base.specs.Text.{is_blank, is_digit_text, value_of, words_of, is_empty};
-ghost use Rattle.life_mc.specs.Standing.{begins_with_number, quad_words};
-ghost use Rattle.std.specs.Option.{option_map};
-ghost use Rattle.life_mc.specs.declared.line.Line.TheVariants.{Quad};
+ghost use Rattle.life_mc.specs.Words.{is_ascii_digit, list_all, capped, is_blank, is_digit_text, value_of, words_of, is_empty, begins_with_number, quad_words, option_map, Quad};
 
 use life_base::{is_whitespace, leading_number, trimmed_start};
 

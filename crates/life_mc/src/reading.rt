@@ -1,12 +1,7 @@
 //! Macrocell files, read whole.
 
 ghost use Rattle.std.specs.Prelude.{◌≡◌, ◌⊎◌, ◌++◌, ◌∷◌, [], OnOk, IfOk, IfErr, Some, false, true};
-ghost use Rattle.life_base.specs.Refusal.{OrMemory};
-ghost use Rattle.life_base.specs.Text.{lines_of};
-ghost use Rattle.life_base.specs.declared.kind.Kind.TheVariants.{Memory};
-ghost use Rattle.life_mc.specs.Grammar.{IsFile};
-ghost use Rattle.life_mc.specs.Laws.{AreUnbroken};
-ghost use Rattle.life_mc.specs.Reading.{Refuses, broken, squares_of, is_macrocell_kind};
+ghost use Rattle.life_mc.specs.Words.{OrMemory, lines_of, Memory, IsFile, AreUnbroken, Refuses, broken, squares_of, is_macrocell_kind};
 
 use crate::file::McFile;
 use crate::line::Line;

@@ -1,9 +1,7 @@
 //! Macrocell files as texts.
 
 ghost use Rattle.std.specs.Prelude.{◌≡◌, ◌++◌, flat_map, OnOk, IfOk, IfErr};
-ghost use Rattle.life_base.specs.Refusal.{fault_of};
-ghost use Rattle.life_base.specs.declared.kind.Kind.TheVariants.{Memory};
-ghost use Rattle.life_mc.specs.Writing.{mc_text, file_text, front_text, node_text, generation_text};
+ghost use Rattle.life_mc.specs.Words.{fault_of, Memory, mc_text, file_text, front_text, node_text, generation_text, IsMemory};
 
 use crate::file::McFile;
 use crate::line::Line;
@@ -14,7 +12,7 @@ use std::alloc::Global;
 /// Adds the lines of squares at the end, each ended by a line feed.
 fn append_lines(out: &mut Vec<u8>, lines: &[Line]) -> Result<(), Kind>
     ensures ok { OnOk result (out.new.items ≡ out.old.items ++ flat_map node_text lines.now) }
-    ensures err { IfErr result (λ kind. kind ≡ Memory) }
+    ensures err { IfErr result IsMemory }
 {
     for line in lines {
         append_line(out, line)?;
@@ -25,7 +23,7 @@ fn append_lines(out: &mut Vec<u8>, lines: &[Line]) -> Result<(), Kind>
 /// Adds the line that tells a generation.
 fn append_generation(out: &mut Vec<u8>, generation: u64) -> Result<(), Kind>
     ensures ok { OnOk result (out.new.items ≡ out.old.items ++ generation_text generation) }
-    ensures err { IfErr result (λ kind. kind ≡ Memory) }
+    ensures err { IfErr result IsMemory }
 {
     if generation == 0 {
         return Ok(());
@@ -42,7 +40,7 @@ fn append_generation(out: &mut Vec<u8>, generation: u64) -> Result<(), Kind>
 /// `Memory`, and nothing else. What `out` holds then is not promised: drop it.
 pub fn append_front(out: &mut Vec<u8>, rule: &Rule, generation: u64) -> Result<(), Kind>
     ensures ok { OnOk result (out.new.items ≡ out.old.items ++ front_text rule.now generation) }
-    ensures kind { IfErr result (λ kind. kind ≡ Memory) }
+    ensures kind { IfErr result IsMemory }
 {
     append(out, b"[M2] (canonical 1)\n#R ")?;
     rule.write(out)?;
@@ -54,7 +52,7 @@ pub fn append_front(out: &mut Vec<u8>, rule: &Rule, generation: u64) -> Result<(
 fn append_parts(out: &mut Vec<u8>, rule: &Rule, generation: u64, lines: &[Line]) -> Result<(), Kind>
     ensures ok { OnOk result
         (out.new.items ≡ out.old.items ++ file_text rule.now generation lines.now) }
-    ensures err { IfErr result (λ kind. kind ≡ Memory) }
+    ensures err { IfErr result IsMemory }
 {
     append_front(out, rule, generation)?;
     append_lines(out, lines)

@@ -10,6 +10,10 @@ use Rattle.life_quad.specs.Keeping.{KeepsSquares, AddsOnly, IsWantKind}
 abbrev pub Keeps : {X : Type 0} → Ghosts X → X → X → Type 0
 Keeps S old new = KeepsSquares S.knows S.content S.stored S.most old new
 
+-- a growth of memory was refused, or the store holds its limit
+abbrev pub IsWantOf : {X : Type 0} → Ghosts X → X → Kind → Type 0
+IsWantOf S store kind = IsWantKind (S.stored store) (S.most store) kind
+
 -- The store is kept so, and gets no square but such as the call needs. `Needs` says of a property that a square which the call needs has it. The
 -- call is refused only where a growth of memory was refused, or where the store holds its limit and lacks such a square.
 pub record Grows {X A : Type 0} (S : Ghosts X) (old new : X) (r : Result A Kind) (Needs : (Tree → Type 0) → Type 0) : Type 0 where

@@ -15,3 +15,4 @@ pub mod IdMap
 pub mod IdNumbers
 pub mod Lanes
 pub mod Memory
+pub mod Words

@@ -1,11 +1,6 @@
 //! How far from the sides of a square its nonzero cells lie.
 ghost use Rattle.std.specs.Prelude.{◌≡◌, ◌≤◌, Option, IfOk, IfErr};
-ghost use Rattle.life_base.specs.declared.kind.Kind.TheVariants.{Memory};
-ghost use Rattle.life_quad.specs.declared.id.Id.{Id as IdValue};
-ghost use Rattle.life_base.specs.Tree.{depth};
-ghost use Rattle.life_quad.specs.Distances.{HasCellAt, HasCellInTwo, IsLeastOf, AreLeast, Faces, lesser_of};
-ghost use Rattle.life_quad.specs.Moves.{AreQuarters};
-ghost use Rattle.life_quad.specs.IdMap.{value_of};
+ghost use Rattle.life_quad.specs.Words.{depth, HasCellAt, HasCellInTwo, IsLeastOf, AreLeast, Faces, lesser_of, AreQuarters, value_of, IsMemory};
 
 use crate::id_map::IdMap;
 use crate::moves::{Quarters, divide, is_blank_at};
@@ -36,7 +31,7 @@ pub(crate) fn least_distance<S: SharedSquares>(
 ) -> Result<Option<u64>, Kind>
     requires known { S.knows squares.now id }
     ensures least { IfOk result (IsLeastOf (HasCellAt side (S.content squares.now id))) }
-    ensures refusals { IfErr result (λ e. e ≡ Memory) }
+    ensures refusals { IfErr result IsMemory }
 {
     let mut known = IdMap::new(alloc, UNKNOWN);
     find(squares, side, squares.level(id), id, &mut known)
@@ -101,7 +96,7 @@ fn find<S: Squares>(
     requires right { AreLeast side (S.content squares.now) (value_of known.old) }
     ensures least { IfOk result (IsLeastOf (HasCellAt side (S.content squares.now id))) }
     ensures right { AreLeast side (S.content squares.now) (value_of known.new) }
-    ensures refusals { IfErr result (λ e. e ≡ Memory) }
+    ensures refusals { IfErr result IsMemory }
 {
     if is_blank_at(squares, level, id) {
         return Ok(None);
@@ -144,7 +139,7 @@ fn find_in_two<S: Squares>(
     ensures least { IfOk result (IsLeastOf
         (HasCellInTwo side (S.content squares.now first) (S.content squares.now second))) }
     ensures right { AreLeast side (S.content squares.now) (value_of known.new) }
-    ensures refusals { IfErr result (λ e. e ≡ Memory) }
+    ensures refusals { IfErr result IsMemory }
 {
     let nearest = find(squares, side, level, first, known)?;
     if let Some(0) = nearest {

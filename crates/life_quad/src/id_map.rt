@@ -1,9 +1,6 @@
 //! A value for each square.
 ghost use Rattle.std.specs.Prelude.{◌≡◌, ◌≢◌, ◌⊎◌, ◌+◌, ◌<◌, ◌≤◌, ◌++◌, ℕ, length, replicate, slice_index_or, vec_len, OnOk, OnErr, IfErr};
-ghost use Rattle.life_base.specs.declared.kind.Kind.TheVariants.{Memory};
-ghost use Rattle.life_quad.specs.declared.id.Id.{Id as IdValue};
-ghost use Rattle.life_quad.specs.IdMap.{value_of, HasRoom};
-ghost use Rattle.life_quad.specs.Pages.{index_in, place_of};
+ghost use Rattle.life_quad.specs.Words.{Memory, IdValue, value_of, HasRoom, index_in, place_of, IsMemory};
 
 use crate::Id;
 use crate::id::FIRST_NODE;
@@ -81,7 +78,7 @@ fn make_place(starts: &mut Vec<u32>, place: u64) -> Result<(), Kind>
     ensures room { OnOk result (place < vec_len starts.new) }
     ensures same { (n : ℕ) → slice_index_or starts.new.items n 4294967295
         ≡ slice_index_or starts.old.items n 4294967295 }
-    ensures kind { IfErr result (λ kind. kind ≡ Memory) }
+    ensures kind { IfErr result IsMemory }
 {
     if place < starts.len() as u64 {
         return Ok(());
@@ -101,7 +98,7 @@ fn add_page<T: Copy>(values: &mut Vec<T>, value: T) -> Result<(), Kind>
     requires { length values.old.items + 256 ≤ 4294967295 }
     ensures page { OnOk result (values.new.items ≡ values.old.items ++ replicate 256 value) }
     ensures same { OnErr result (values.new.items ≡ values.old.items) }
-    ensures kind { IfErr result (λ kind. kind ≡ Memory) }
+    ensures kind { IfErr result IsMemory }
 {
     let start = values.len();
     if start == 0 {
@@ -139,7 +136,7 @@ impl<T: Copy> IdMap<T> {
     pub(crate) fn make_room(&mut self, id: Id) -> Result<(), Kind>
         ensures room { OnOk result (HasRoom self.new id) }
         ensures same { (q : IdValue) → value_of self.new q ≡ value_of self.old q }
-        ensures refusals { IfErr result (λ e. e ≡ Memory) }
+        ensures refusals { IfErr result IsMemory }
     {
         let start = self.values.len();
         if index_of(&self.starts, id.0) < start {
@@ -172,7 +169,7 @@ impl<T: Copy> IdMap<T> {
         ensures set { OnOk result (value_of self.new id ≡ value) }
         ensures others { (q : IdValue) → q ≢ id → value_of self.new q ≡ value_of self.old q }
         ensures same { OnErr result ((q : IdValue) → value_of self.new q ≡ value_of self.old q) }
-        ensures refusals { IfErr result (λ e. e ≡ Memory) }
+        ensures refusals { IfErr result IsMemory }
     {
         let index = index_of(&self.starts, id.0);
         if index < self.values.len() {
@@ -190,7 +187,7 @@ impl<T: Copy> IdMap<T> {
         ensures set { OnOk result (value_of self.new id ≡ value) }
         ensures others { (q : IdValue) → q ≢ id → value_of self.new q ≡ value_of self.old q }
         ensures same { OnErr result ((q : IdValue) → value_of self.new q ≡ value_of self.old q) }
-        ensures refusals { IfErr result (λ e. e ≡ Memory) }
+        ensures refusals { IfErr result IsMemory }
     {
         self.make_room(id)?;
         self.put(id, value);

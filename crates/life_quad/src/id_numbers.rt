@@ -1,11 +1,6 @@
 //! Numbers for the Ids of a store.
 ghost use Rattle.std.specs.Prelude.{◌≡◌, ◌≢◌, ◌^◌, false, ◌++◌, ◌∷◌, ◌-◌, ◌<◌, ◌≤◌, [], length, slice_get, AllPairs, Contains, IfOk, IfErr, OnOk, OnErr, IfSome, MatchOption, Some};
-ghost use Rattle.life_base.specs.declared.kind.Kind.TheVariants.{Memory};
-ghost use Rattle.life_quad.specs.declared.id.Id.{Id as IdValue};
-ghost use Rattle.life_base.specs.Tree.{depth, is_blank_tree};
-ghost use Rattle.life_quad.specs.Store.{Knows, content};
-ghost use Rattle.life_quad.specs.IdMap.{value_of};
-ghost use Rattle.life_quad.specs.IdNumbers.{HasNumberRoom, first_of, number_by};
+ghost use Rattle.life_quad.specs.Words.{Memory, IdValue, depth, is_blank_tree, Knows, content, value_of, HasNumberRoom, first_of, number_by, IsMemory};
 
 use crate::id::FIRST_NODE;
 use crate::id_map::IdMap;
@@ -86,7 +81,7 @@ impl IdNumbers {
         ensures room { IfOk result (λ numbers. (id : IdValue) → Knows store.now id
             → level ≤ depth (content store.now id) → is_blank_tree (content store.now id) ≡ false
             → HasNumberRoom numbers.room id) }
-        ensures kind { IfErr result (λ kind. kind ≡ Memory) }
+        ensures kind { IfErr result IsMemory }
     {
         let first = first_of(level);
         let size = store.nodes().saturating_add((FIRST_NODE - first) as usize);
@@ -155,7 +150,7 @@ impl IdNumbers {
         ensures number { IfOk result (λ number. number ≡ length self.new.ids) }
         ensures room { OnOk result (self.new.room ≡ self.old.room) }
         ensures same { OnErr result (self.new ≡ self.old) }
-        ensures kind { IfErr result (λ kind. kind ≡ Memory) }
+        ensures kind { IfErr result IsMemory }
         ensures needed { OnErr result (¬ HasNumberRoom self.old.room id) }
     {
         let index = index_from(self.first, id);
@@ -177,7 +172,7 @@ impl IdNumbers {
         ensures number { IfOk result (λ number. number ≡ length self.new.ids) }
         ensures room { OnOk result (self.new.room ≡ self.old.room) }
         ensures same { OnErr result (self.new ≡ self.old) }
-        ensures kind { IfErr result (λ kind. kind ≡ Memory) }
+        ensures kind { IfErr result IsMemory }
     {
         if !self.numbers.is_empty() {
             return Err(Kind::Memory);

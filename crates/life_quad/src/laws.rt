@@ -1,6 +1,6 @@
 //! Laws over the definitions alone.
 
-ghost use Rattle.life_quad.specs.Laws.{BlankByCells, EqualByCells, EqualByPlane, CellsLieInside, GrowingKeepsCells, TrimmingKeepsCells, TrimmingIgnoresGrowth, TrimmedIsFixed, TrimmingStops, TrimmedByCells, TrimmedIsLowest, CellsAreListed, ListIsPopulation, KnownSquaresAreFull, EqualSquaresHaveOneId};
+ghost use Rattle.life_quad.specs.Words.{BlankByCells, EqualByCells, EqualByPlane, CellsLieInside, GrowingKeepsCells, TrimmingKeepsCells, TrimmingIgnoresGrowth, TrimmedIsFixed, TrimmingStops, TrimmedByCells, TrimmedIsLowest, CellsAreListed, ListIsPopulation, KnownSquaresAreFull, EqualSquaresHaveOneId};
 
 /// A square is blank exactly if each of its cells has state 0.
 pub fn blank_by_cells()

@@ -5,11 +5,7 @@
 //! entered, and each band has at most as many squares as there are cells. Where the list has room for all cells that a band of level 2
 //! may have, its four rows are taken from its squares at once.
 ghost use Rattle.std.specs.Prelude.{◌≡◌, ◌⊎◌, ◌+◌, ◌-◌, ◌^◌, ◌<◌, ◌≤◌, ◌+ℤ◌, ◌≤ℤ◌, pos, neg_ℤ, [], ◌∷◌, ◌++◌, length, All, Err, OnOk, IfOk, IfErr};
-ghost use Rattle.life_base.specs.declared.kind.Kind.TheVariants.{Memory, TooManyCells};
-ghost use Rattle.life_base.specs.Tree.{depth, state_at};
-ghost use Rattle.life_quad.specs.Cells.{IsCellList, population};
-ghost use Rattle.life_quad.specs.Bands.{InBand, IsPlaced, pieces, kept, northern, southern, upper, lower, row_cells, band_cells, pair_of, row_of, live_cells, part_cells};
-ghost use Rattle.life_quad.specs.Store.{two, four};
+ghost use Rattle.life_quad.specs.Words.{Memory, TooManyCells, depth, state_at, IsCellList, population, InBand, IsPlaced, pieces, kept, northern, southern, upper, lower, row_cells, band_cells, pair_of, row_of, live_cells, part_cells, two, four, IsMemory};
 
 use crate::moves::{Quarters, divide, is_blank_at};
 use crate::runs::half_side;
@@ -74,7 +70,7 @@ fn further(coordinate: i64, level: u8) -> i64
 fn place(band: &mut Vec<Placed>, square: Id, column: i64) -> Result<(), Kind>
     ensures ok { OnOk result
         (band.new.items ≡ band.old.items ++ (record { square = square; column = column }) ∷ []) }
-    ensures refusals { IfErr result (λ e. e ≡ Memory) }
+    ensures refusals { IfErr result IsMemory }
 {
     band.push(Placed { square, column })?;
     Ok(())
@@ -99,7 +95,7 @@ fn keep<S: Squares>(
     ensures pieces { OnOk result (pieces (S.content squares.now) band.new.items
         ≡ pieces (S.content squares.now) band.old.items
         ++ kept (S.content squares.now square) column) }
-    ensures refusals { IfErr result (λ e. e ≡ Memory) }
+    ensures refusals { IfErr result IsMemory }
 {
     if is_blank_at(squares, level, square) {
         return Ok(());
@@ -131,7 +127,7 @@ fn split<S: Squares>(
     ensures southern { OnOk result (pieces (S.content squares.now) south.new.items
         ≡ pieces (S.content squares.now) south.old.items
         ++ southern (2 ^ (level - 1)) (S.content squares.now placed.square) placed.column) }
-    ensures refusals { IfErr result (λ e. e ≡ Memory) }
+    ensures refusals { IfErr result IsMemory }
 {
     let Quarters { nw, ne, sw, se } = divide(squares, placed.square);
     let west = placed.column;
@@ -159,7 +155,7 @@ fn halves<S: Squares>(
         ≡ upper (2 ^ (level - 1)) (pieces (S.content squares.now) band.now)) }
     ensures lower { IfOk result (λ r. pieces (S.content squares.now) r.1.items
         ≡ lower (2 ^ (level - 1)) (pieces (S.content squares.now) band.now)) }
-    ensures refusals { IfErr result (λ e. e ≡ Memory) }
+    ensures refusals { IfErr result IsMemory }
 {
     let mut north = Vec::new(alloc);
     let mut south = Vec::new(alloc);
@@ -179,7 +175,7 @@ fn append_row<S: Squares>(
     requires each { All (IsPlaced (S.knows squares.now) (S.content squares.now) 0) band.now }
     ensures cells { OnOk result (list.new.items ≡ list.old.items ++ row_cells row
         (pieces (S.content squares.now) band.now)) }
-    ensures refusals { IfErr result (λ e. e ≡ Memory) }
+    ensures refusals { IfErr result IsMemory }
 {
     for placed in band {
         let Some(state) = squares.state(placed.square) else {
@@ -269,7 +265,7 @@ fn row_of<S: Squares>(squares: &S, id: Id, south: bool, low: bool) -> (State, St
 #[inline(always)]
 fn append_cell(list: &mut Vec<Cell>, x: i64, y: i64, state: State) -> Result<(), Kind>
     ensures cells { OnOk result (list.new.items ≡ list.old.items ++ live_cells x y (state ∷ [])) }
-    ensures refusals { IfErr result (λ e. e ≡ Memory) }
+    ensures refusals { IfErr result IsMemory }
 {
     if state == 0 {
         return Ok(());
@@ -290,7 +286,7 @@ fn append_states(
     requires east { (x +ℤ pos 4) ≤ℤ pos (2 ^ 61) }
     ensures cells { OnOk result (list.new.items ≡ list.old.items ++ live_cells x y
         (states.0 ∷ states.1 ∷ states.2 ∷ states.3 ∷ [])) }
-    ensures refusals { IfErr result (λ e. e ≡ Memory) }
+    ensures refusals { IfErr result IsMemory }
 {
     append_cell(list, x, y, states.0)?;
     append_cell(list, x + 1, y, states.1)?;
@@ -312,7 +308,7 @@ fn append_part<S: Squares>(
     requires each { All (IsPlaced (S.knows squares.now) (S.content squares.now) 2) band.now }
     ensures cells { OnOk result (list.new.items ≡ list.old.items ++ part_cells south low y
         (pieces (S.content squares.now) band.now)) }
-    ensures refusals { IfErr result (λ e. e ≡ Memory) }
+    ensures refusals { IfErr result IsMemory }
 {
     for placed in band {
         let states = row_of(squares, placed.square, south, low);
@@ -334,7 +330,7 @@ fn append_rows<S: Squares>(
     requires south { (row +ℤ pos 4) ≤ℤ pos (2 ^ 61) }
     ensures cells { OnOk result (list.new.items ≡ list.old.items ++ band_cells 2 row
         (pieces (S.content squares.now) band.now)) }
-    ensures refusals { IfErr result (λ e. e ≡ Memory) }
+    ensures refusals { IfErr result IsMemory }
 {
     append_part(squares, band, false, false, row, list)?;
     append_part(squares, band, false, true, row + 1, list)?;

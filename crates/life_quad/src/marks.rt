@@ -1,9 +1,6 @@
 //! Which small squares were joined.
 ghost use Rattle.std.specs.Prelude.{◌≡◌, ◌≢◌, ◌≤◌, ◌<◌, ℕ, true, false, OnOk, OnErr, IfErr};
-ghost use Rattle.life_base.specs.declared.kind.Kind.TheVariants.{Memory};
-ghost use Rattle.life_quad.specs.declared.id.Id.{Id as IdValue};
-ghost use Rattle.life_quad.specs.IdMap.{value_of};
-ghost use Rattle.life_quad.specs.Store.{id_of, HasQuarters};
+ghost use Rattle.life_quad.specs.Words.{IdValue, value_of, id_of, HasQuarters, IsMemory};
 
 use crate::Id;
 use crate::id::{FIRST_SMALL, LEVEL_TWO};
@@ -77,7 +74,7 @@ impl Marks {
         ensures marked { OnOk result (value_of self.new id ≡ true) }
         ensures others { (q : IdValue) → q ≢ id → value_of self.new q ≡ value_of self.old q }
         ensures same { OnErr result ((q : IdValue) → value_of self.new q ≡ value_of self.old q) }
-        ensures kind { IfErr result (λ kind. kind ≡ Memory) }
+        ensures kind { IfErr result IsMemory }
     {
         self.seen.set(id, true)?;
         if id.0 < LEVEL_TWO {

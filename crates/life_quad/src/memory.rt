@@ -1,8 +1,6 @@
 //! What was answered for squares amid their neighbours.
-ghost use Rattle.std.specs.Prelude.{◌≡◌, ◌⊎◌, List, map, IfSome, vec_len};
-ghost use Rattle.life_quad.specs.declared.id.Id.{Id as IdValue};
-ghost use Rattle.life_quad.specs.declared.memory.Place.{Place as PlaceValue};
-ghost use Rattle.life_quad.specs.Memory.{Recalls, Holds, number};
+ghost use Rattle.std.specs.Prelude.{◌≡◌, ◌⊎◌, List, map, IfSome};
+ghost use Rattle.life_quad.specs.Words.{IdValue, PlaceValue, Recalls, Holds, number};
 
 use crate::{Id, Seed};
 use std::alloc::Global;

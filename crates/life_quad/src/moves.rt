@@ -1,10 +1,6 @@
 //! Squares made of other squares.
 ghost use Rattle.std.specs.Prelude.{◌≡◌, ◌&&◌, ◌+◌, ◌<◌, ◌≤◌, length, is_some, Err, IfOk, IfErr, OnErr, IfSome};
-ghost use Rattle.life_base.specs.declared.kind.Kind.TheVariants.{Full, Memory};
-ghost use Rattle.life_base.specs.Tree.{quad, depth, is_blank_tree};
-ghost use Rattle.life_quad.specs.Moves.{AreQuarters, quad_of, grown, trimmed, inner, can_trim};
-ghost use Rattle.life_quad.specs.Refused.{SomePart, TrimmedTo};
-ghost use Rattle.life_quad.specs.Keeping.{KeepsSquares, AddsOnly, IsWantKind};
+ghost use Rattle.life_quad.specs.Words.{Memory, quad, depth, is_blank_tree, AreQuarters, quad_of, grown, trimmed, inner, can_trim, SomePart, TrimmedTo, AddsOnly, Keeps, IsWantOf};
 
 use crate::{Id, Squares};
 use life_base::{Kind, MAX_LEVEL};
@@ -50,10 +46,10 @@ pub fn grow<S: Squares>(squares: &mut S, id: Id) -> Result<Id, Kind>
     requires high { depth (S.content squares.old id) < MAX_LEVEL }
     ensures known { IfOk result (S.knows squares.new) }
     ensures square { IfOk result (λ r. S.content squares.new r ≡ grown (S.content squares.old id)) }
-    ensures keeps { KeepsSquares S.knows S.content S.stored S.most squares.old squares.new }
+    ensures keeps { Keeps S.Squares squares.old squares.new }
     ensures adds { AddsOnly S.stored (λ P. SomePart P (grown (S.content squares.old id)))
         squares.old squares.new }
-    ensures refusals { IfErr result (IsWantKind (S.stored squares.new) (S.most squares.new)) }
+    ensures refusals { IfErr result (IsWantOf S.Squares squares.new) }
     ensures room { result ≡ Err Memory → length (S.stored squares.new) < S.most squares.new }
     ensures needed { OnErr result
         (SomePart (S.needs_node squares.new) (grown (S.content squares.old id))) }
@@ -166,10 +162,10 @@ pub fn trim<S: Squares>(squares: &mut S, id: Id, least: u8) -> Result<Id, Kind>
     ensures known { IfOk result (S.knows squares.new) }
     ensures square { IfOk result
         (λ r. S.content squares.new r ≡ trimmed (S.content squares.old id) least) }
-    ensures keeps { KeepsSquares S.knows S.content S.stored S.most squares.old squares.new }
+    ensures keeps { Keeps S.Squares squares.old squares.new }
     ensures adds { AddsOnly S.stored (λ P. TrimmedTo P (S.content squares.old id) least)
         squares.old squares.new }
-    ensures refusals { IfErr result (IsWantKind (S.stored squares.new) (S.most squares.new)) }
+    ensures refusals { IfErr result (IsWantOf S.Squares squares.new) }
     ensures room { result ≡ Err Memory → length (S.stored squares.new) < S.most squares.new }
     ensures needed { OnErr result
         (TrimmedTo (S.needs_node squares.new) (S.content squares.old id) least) }

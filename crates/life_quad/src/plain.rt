@@ -1,9 +1,6 @@
 //! A store that keeps each join as a node of its own.
 ghost use Rattle.std.specs.Prelude.{◌≡◌, ◌<◌, ◌≤◌, ◌^◌, ◌+◌, [], ◌∷◌, ◌++◌, length, false, ◌↔◌, ◌⊎◌, Err, OnOk, OnErr, IfOk, IfErr};
-ghost use Rattle.life_base.specs.declared.kind.Kind.TheVariants.{Full, Memory};
-ghost use Rattle.life_base.specs.Tree.{depth, is_blank_tree};
-ghost use Rattle.life_quad.specs.StoreLaws.{full_content, low_content};
-ghost use Rattle.life_quad.specs.Store.{squares, content, node_square, Knows, IsNode, IsSound};
+ghost use Rattle.life_quad.specs.Words.{Full, Memory, depth, is_blank_tree, full_content, low_content, squares, content, node_square, Knows, IsNode, IsSound};
 
 use crate::id::{FIRST_NODE, Node, are_blank, no_room};
 use crate::{Id, Squares};

@@ -1,10 +1,6 @@
 //! What a square has: the number of its nonzero cells, and their least box.
 ghost use Rattle.std.specs.Prelude.{◌≡◌, ◌+◌, ◌^◌, ◌+ℤ◌, pos, ◌<◌, ◌≤◌, true, IfOk, IfErr, IfSome, MatchOption};
-ghost use Rattle.life_base.specs.declared.kind.Kind.TheVariants.{Memory};
-ghost use Rattle.life_quad.specs.declared.id.Id.{Id as IdValue};
-ghost use Rattle.life_base.specs.Tree.{depth, is_blank_tree};
-ghost use Rattle.life_quad.specs.Cells.{population, IsLeastBox};
-ghost use Rattle.life_quad.specs.IdMap.{value_of};
+ghost use Rattle.life_quad.specs.Words.{IdValue, depth, is_blank_tree, population, IsLeastBox, value_of, IsMemory};
 
 use crate::distances::{Side, least_distance};
 use crate::id_map::IdMap;
@@ -23,7 +19,7 @@ pub fn population<S: SharedSquares>(alloc: Global, squares: &S, id: Id) -> Resul
     requires known { S.knows squares.now id }
     requires high { 1 ≤ depth (S.content squares.now id) }
     ensures number { IfOk result (λ n. n ≡ population (S.content squares.now id)) }
-    ensures refusals { IfErr result (λ e. e ≡ Memory) }
+    ensures refusals { IfErr result IsMemory }
 {
     let mut known = IdMap::new(alloc, 0);
     count(squares, squares.level(id), id, &mut known)
@@ -90,7 +86,7 @@ fn count<S: Squares>(squares: &S, level: u8, id: Id, known: &mut IdMap<u128>) ->
     ensures number { IfOk result (λ n. n ≡ population (S.content squares.now id)) }
     ensures right { (q : IdValue) → 0 < value_of known.new q
         → value_of known.new q ≡ population (S.content squares.now q) }
-    ensures refusals { IfErr result (λ e. e ≡ Memory) }
+    ensures refusals { IfErr result IsMemory }
 {
     if let Some(cells) = squares.small_cells(id) {
         return Ok(u128::from(cells.count_ones()));
@@ -130,7 +126,7 @@ pub fn bounds<S: SharedSquares>(alloc: Global, squares: &S, id: Id) -> Result<Op
     ensures least { IfOk result (λ o. MatchOption o
         (is_blank_tree (S.content squares.now id) ≡ true)
         (λ b. IsLeastBox (S.content squares.now id) b)) }
-    ensures refusals { IfErr result (λ e. e ≡ Memory) }
+    ensures refusals { IfErr result IsMemory }
 {
     let Some(west) = least_distance(alloc, squares, Side::West, id)? else {
         return Ok(None);

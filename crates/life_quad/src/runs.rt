@@ -1,11 +1,6 @@
 //! Runs of cells.
 ghost use Rattle.std.specs.Prelude.{◌≡◌, ◌⊎◌, ℤ, pos, neg_ℤ, ◌≤ℤ◌, ◌<ℤ◌, ◌+ℤ◌, ◌-◌, ◌+◌, ◌^◌, ◌<◌, ◌≤◌, length, Err, IfOk, IfErr, OnErr};
-ghost use Rattle.life_base.specs.declared.kind.Kind.TheVariants.{Full, Memory};
-ghost use Rattle.life_base.specs.Tree.{Tree, depth};
-ghost use Rattle.life_quad.specs.Span.{SetsSpan, SetsHalves};
-ghost use Rattle.life_quad.specs.Cells.{IsRunInside, SetsRun};
-ghost use Rattle.life_quad.specs.Refused.{SomePart};
-ghost use Rattle.life_quad.specs.Keeping.{KeepsSquares, IsWantKind};
+ghost use Rattle.life_quad.specs.Words.{Memory, Tree, depth, SetsSpan, SetsHalves, IsRunInside, SetsRun, SomePart, Keeps, IsWantOf};
 
 use crate::moves::{Quarters, divide};
 use crate::{Id, Squares};
@@ -51,8 +46,8 @@ fn set_span<S: Squares>(squares: &mut S, id: Id, span: Span) -> Result<Id, Kind>
     ensures known { IfOk result (S.knows squares.new) }
     ensures square { IfOk result
         (λ r. SetsSpan (S.content squares.old id) (S.content squares.new r) span) }
-    ensures keeps { KeepsSquares S.knows S.content S.stored S.most squares.old squares.new }
-    ensures refusals { IfErr result (IsWantKind (S.stored squares.new) (S.most squares.new)) }
+    ensures keeps { Keeps S.Squares squares.old squares.new }
+    ensures refusals { IfErr result (IsWantOf S.Squares squares.new) }
     ensures room { result ≡ Err Memory → length (S.stored squares.new) < S.most squares.new }
     ensures needed { OnErr result ((t : Tree) × SetsSpan (S.content squares.old id) t span
         × SomePart (S.needs_node squares.new) t) }
@@ -94,8 +89,8 @@ fn set_halves<S: Squares>(
     ensures square { IfOk result (λ r. SetsHalves (S.content squares.old left)
         (S.content squares.old right) (S.content squares.new r.0) (S.content squares.new r.1)
         span) }
-    ensures keeps { KeepsSquares S.knows S.content S.stored S.most squares.old squares.new }
-    ensures refusals { IfErr result (IsWantKind (S.stored squares.new) (S.most squares.new)) }
+    ensures keeps { Keeps S.Squares squares.old squares.new }
+    ensures refusals { IfErr result (IsWantOf S.Squares squares.new) }
     ensures room { result ≡ Err Memory → length (S.stored squares.new) < S.most squares.new }
     ensures needed { OnErr result ((a b : Tree)
         × SetsHalves (S.content squares.old left) (S.content squares.old right) a b span
@@ -139,8 +134,8 @@ pub fn put_run<S: Squares>(squares: &mut S, root: Id, run: Run) -> Result<Id, Ki
     ensures known { IfOk result (S.knows squares.new) }
     ensures square { IfOk result
         (λ r. SetsRun (S.content squares.old root) (S.content squares.new r) run) }
-    ensures keeps { KeepsSquares S.knows S.content S.stored S.most squares.old squares.new }
-    ensures refusals { IfErr result (IsWantKind (S.stored squares.new) (S.most squares.new)) }
+    ensures keeps { Keeps S.Squares squares.old squares.new }
+    ensures refusals { IfErr result (IsWantOf S.Squares squares.new) }
     ensures room { result ≡ Err Memory → length (S.stored squares.new) < S.most squares.new }
     ensures needed { OnErr result ((t : Tree) × SetsRun (S.content squares.old root) t run
         × SomePart (S.needs_node squares.new) t) }

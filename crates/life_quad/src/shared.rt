@@ -1,8 +1,6 @@
 //! A store that keeps each square once.
-ghost use Rattle.std.specs.Prelude.{◌≡◌, ◌≢◌, ◌↔◌, ◌⊎◌, ◌+◌, AllPairs, ◌<◌, ◌≤◌, ◌^◌, [], length, vec_len, vec_capacity, Contains, true, false, None, MatchOption, OnOk, OnErr, IfErr};
-ghost use Rattle.life_base.specs.declared.kind.Kind.TheVariants.{Full, Memory};
-ghost use Rattle.life_quad.specs.declared.id.Id.{Id as IdValue};
-ghost use Rattle.life_base.specs.Tree.{Tree, depth, is_blank_tree};
+ghost use Rattle.std.specs.Prelude.{◌≡◌, ◌≢◌, ◌↔◌, ◌⊎◌, ◌+◌, AllPairs, ◌<◌, ◌≤◌, ◌^◌, [], length, vec_len, vec_capacity, Contains, false, None, MatchOption};
+ghost use Rattle.life_quad.specs.Words.{Full, Memory, IdValue, Tree, depth, is_blank_tree, FIRST_NODE, value_of, full_content, low_content, same_id, squares, content, held, node_square, number_of, small_square, Knows, IsShared, IsNode, IsSmall, Answers};
 
 use crate::id::{FIRST_NODE, FIRST_SMALL, LEVEL_TWO, Node, are_blank, no_room, small_number};
 use crate::join_log::JoinLog;
@@ -41,10 +39,6 @@ impl Model for Shared {
     ghost invariant = { λ s. IsSound (record { nodes = s.nodes.keys; log = s.log.ids; limit = s.limit }) × IsShared (record { nodes = s.nodes.keys; log = s.log.ids; limit = s.limit }) × HasSeen (value_of s.seen) s.log.ids × (length s.log.ids ≡ length s.nodes.keys + s.small) × (s.levels.items ≡ levels_of s.nodes.keys) };
 }
 
-ghost use Rattle.life_quad.specs.declared.id.TheConstants.{FIRST_NODE};
-ghost use Rattle.life_quad.specs.IdMap.{value_of};
-ghost use Rattle.life_quad.specs.StoreLaws.{full_content, low_content, same_id};
-ghost use Rattle.life_quad.specs.Store.{squares, content, held, node_square, number_of, small_square, Knows, IsShared, IsNode, IsSmall, Answers};
 
 /// Makes room for the level of one more node, unless a store with so many squares and nodes takes no more of them: then it answers why.
 fn make_room(levels: &mut Vec<u8>, len: u64, nodes: u64, limit: u64) -> Option<Kind>

@@ -1,8 +1,7 @@
 //! Boxes around cells.
 
 ghost use Rattle.std.specs.Prelude.{◌≡◌};
-ghost use Rattle.std.specs.Int.{int_min, int_max};
-ghost use Rattle.life_rle.specs.Written.{box_of, box_of_cell};
+ghost use Rattle.life_rle.specs.Words.{int_min, int_max, box_of, box_of_cell};
 
 use life_base::{Bounds, Cell};
 

@@ -1,10 +1,7 @@
 //! The place where the next item stands.
 
 ghost use Rattle.std.specs.Prelude.{◌≡◌, ◌≤◌, Some, None};
-ghost use Rattle.life_rle.specs.Plane.{most_count};
-ghost use Rattle.life_rle.specs.Pattern.{item_fault};
-ghost use Rattle.life_rle.specs.Cursor.{IsNear, start_of, moved, item_count, row_limit};
-ghost use Rattle.life_rle.specs.declared.item.Item.TheVariants.{Cells};
+ghost use Rattle.life_rle.specs.Words.{most_count, item_fault, IsNear, start_of, moved, item_count, row_limit, Cells};
 
 use crate::item::Item;
 use crate::plane::{EDGE, is_state_of};

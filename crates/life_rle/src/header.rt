@@ -1,9 +1,7 @@
 //! The header line.
 
-ghost use Rattle.std.specs.Prelude.{◌≡◌, Option, Some, None, codes};
-ghost use Rattle.std.specs.Option.{option_map};
-ghost use Rattle.life_base.specs.Refusal.{Answers};
-ghost use Rattle.life_rle.specs.Header.{after_word, after_number, rule_part, header_form, header_of};
+ghost use Rattle.std.specs.Prelude.{◌≡◌, Option, Some, None};
+ghost use Rattle.life_rle.specs.Words.{option_map, Answers, after_word, after_number, rule_part, header_form, header_of};
 
 use life_base::{Kind, Rule, begins_with, leading_number, trimmed_start};
 use std::alloc::Global;

@@ -1,13 +1,7 @@
 //! The items of a line.
 
 ghost use Rattle.std.specs.Prelude.{◌≡◌, ◌≢◌, ◌<◌, None, true, false, ℕ, List, drop, length, slice_index, OnOk, IfOk, IfErr};
-ghost use Rattle.std.specs.Char.{is_ascii_digit};
-ghost use Rattle.std.specs.Str.{byte};
-ghost use Rattle.life_base.specs.Numbers.{capped};
-ghost use Rattle.life_base.specs.Text.{is_digit_text, value_of};
-ghost use Rattle.life_rle.specs.States.{single_state, prefixed_state};
-ghost use Rattle.life_rle.specs.Items.{Broken, item_behind, counted, next_of};
-ghost use Rattle.life_rle.specs.Reading.{IsCount, IsItemAt, IsTokenAt};
+ghost use Rattle.life_rle.specs.Words.{is_ascii_digit, byte, capped, is_digit_text, value_of, single_state, prefixed_state, Broken, item_behind, counted, next_of, IsCount, IsItemAt, IsTokenAt};
 
 use crate::plane::MOST_COUNT;
 use life_base::{Kind, MAX_LEVEL, State, is_whitespace, leading_number};

@@ -1,8 +1,7 @@
 //! What a line is, before the header and behind it.
 
 ghost use Rattle.std.specs.Prelude.{◌≡◌};
-ghost use Rattle.life_base.specs.Refusal.{Answers};
-ghost use Rattle.life_rle.specs.Grammar.{opening_of, later_of};
+ghost use Rattle.life_rle.specs.Words.{Answers, opening_of, later_of};
 
 use crate::header::header_of;
 use crate::position::{Position, is_position_line, position_of};

@@ -1,14 +1,7 @@
 //! The items of a line, read one after another.
 
 ghost use Rattle.std.specs.Prelude.{◌≡◌, ◌≤◌, ◌+◌, ◌⊎◌, ◌∷◌, ◌++◌, ◌==◌, not, [], Some, None, IfOk, IfErr, OnOk, OnErr, length, filter, position, take_while};
-ghost use Rattle.std.specs.Vec.{vec_len, vec_capacity};
-ghost use Rattle.std.specs.Str.{byte};
-ghost use Rattle.life_rle.specs.Plane.{most_count};
-ghost use Rattle.life_rle.specs.Pattern.{item_fault};
-ghost use Rattle.life_rle.specs.Runs.{with_run, is_run_end};
-ghost use Rattle.life_rle.specs.Cursor.{IsNear, moved, item_count, row_limit};
-ghost use Rattle.life_rle.specs.File.{IsFrontOf};
-ghost use Rattle.life_rle.specs.Reading.{ReadsItems, last_of, ItemsBreak};
+ghost use Rattle.life_rle.specs.Words.{vec_len, vec_capacity, byte, most_count, item_fault, with_run, is_run_end, IsNear, moved, item_count, row_limit, IsFrontOf, ReadsItems, last_of, ItemsBreak, IsMemory};
 
 use crate::cursor::{Cursor, item_fault, moved, row_limit};
 use crate::item::{Item, Token, token_at};
@@ -77,7 +70,7 @@ fn reserve_runs(line: &[u8], runs: &mut Vec<Run>) -> Result<(), Kind>
     ensures room { OnOk result (vec_len runs.old
         + length (filter is_run_end (take_while (λ b. not (b == byte "!")) line.now))
         ≤ vec_capacity runs.new) }
-    ensures memory { IfErr result (λ kind. kind ≡ Kind.Memory) }
+    ensures memory { IfErr result IsMemory }
 {
     if runs.capacity() - runs.len() < line.len() {
         runs.reserve(most_runs(line))?;
@@ -91,7 +84,7 @@ fn reserve_runs(line: &[u8], runs: &mut Vec<Run>) -> Result<(), Kind>
 fn push_growing(run: Run, runs: &mut Vec<Run>) -> Result<(), Kind>
     ensures runs { OnOk result (runs.new.items ≡ runs.old.items ++ run ∷ []) }
     ensures kept { OnErr result (runs.new.items ≡ runs.old.items) }
-    ensures memory { IfErr result (λ kind. kind ≡ Kind.Memory) }
+    ensures memory { IfErr result IsMemory }
 {
     runs.push(run)?;
     Ok(())
@@ -103,7 +96,7 @@ fn push_run(cursor: Cursor, item: Item, runs: &mut Vec<Run>) -> Result<(), Kind>
     ensures runs { OnOk result
         (runs.new.items ≡ runs.old.items ++ with_run cursor.y cursor.x item []) }
     ensures kept { OnErr result (runs.new.items ≡ runs.old.items) }
-    ensures memory { IfErr result (λ kind. kind ≡ Kind.Memory) }
+    ensures memory { IfErr result IsMemory }
 {
     let Item::Cells { count, state } = item else {
         return Ok(());

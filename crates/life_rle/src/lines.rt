@@ -1,13 +1,7 @@
 //! An RLE file that comes line by line.
 
 ghost use Rattle.std.specs.Prelude.{◌≡◌, ◌⊎◌, List, [], ℕ, Err, Ok, false, true, IfOk, IfErr, OnErr, IsErrOf, IsOkAnd};
-ghost use Rattle.life_rle.specs.Cursor.{IsNear};
-ghost use Rattle.life_rle.specs.File.{IsFrontOf};
-ghost use Rattle.life_rle.specs.Grammar.{opening_of, later_of, Breaks};
-ghost use Rattle.life_rle.specs.Reading.{ItemsBreak};
-ghost use Rattle.life_rle.specs.Standing.{is_refused, is_over, Advances, TakesLine, IsPlaced, StandsAt};
-ghost use Rattle.life_rle.specs.declared.line.Later.TheVariants.{Data};
-ghost use Rattle.life_rle.specs.declared.position.Position.{Position};
+ghost use Rattle.life_rle.specs.Words.{IsNear, IsFrontOf, opening_of, later_of, Breaks, ItemsBreak, is_refused, is_over, Advances, TakesLine, IsPlaced, StandsAt, Data, Position};
 
 use crate::cursor::{Cursor, start_of};
 use crate::line::{Later, Opening, later_of, opening_of};

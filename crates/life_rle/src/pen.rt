@@ -1,9 +1,7 @@
 //! Cells as items.
 
-ghost use Rattle.std.specs.Prelude.{◌≡◌, ◌++◌, ◌∷◌, [], pos, neg_ℤ, ◌+ℤ◌, ◌-ℤ◌, ◌≤ℤ◌, nat_abs, OnOk, IfOk, IfErr};
-ghost use Rattle.life_rle.specs.Plane.{edge};
-ghost use Rattle.life_rle.specs.Written.{items_from, way_to};
-ghost use Rattle.life_rle.specs.Writing.{Puts, IsLiveRun, IsPen, IsGoodCell, IsAhead, Follow, run_of, longer, column_behind, joins, item_of, pen_text, items_text, WritesCell};
+ghost use Rattle.std.specs.Prelude.{◌≡◌, ◌++◌, ◌∷◌, [], neg_ℤ, ◌+ℤ◌, ◌-ℤ◌, ◌≤ℤ◌, nat_abs, OnOk, IfOk, IfErr};
+ghost use Rattle.life_rle.specs.Words.{edge, items_from, way_to, Puts, IsLiveRun, IsPen, IsGoodCell, IsAhead, Follow, run_of, longer, column_behind, joins, item_of, pen_text, items_text, WritesCell, IsMemory};
 
 use crate::item::Item;
 use crate::wrapping::ItemLines;
@@ -76,7 +74,7 @@ fn put_way(lines: &mut ItemLines, rule: &Rule, left: i64, run: Run, cell: &Cell)
     requires ahead { IsAhead left (column_behind run) run.y cell.now }
     ensures way { OnOk result
         (Puts rule.now lines.old (way_to left (column_behind run) run.y cell.now []) lines.new) }
-    ensures memory { IfErr result (λ kind. kind ≡ Kind.Memory) }
+    ensures memory { IfErr result IsMemory }
 {
     let count = distance(run.y, cell.y);
     if count == 0 {
@@ -96,7 +94,7 @@ fn take(lines: &mut ItemLines, rule: &Rule, left: i64, run: Run, cell: &Cell) ->
     ensures cell { IfOk result (λ next. WritesCell rule.now
         (record { lines = lines.old; left = left; run = run }) cell.now
         (record { lines = lines.new; left = left; run = next })) }
-    ensures memory { IfErr result (λ kind. kind ≡ Kind.Memory) }
+    ensures memory { IfErr result IsMemory }
 {
     if joins(run, cell) {
         return Ok(longer(run));
@@ -131,7 +129,7 @@ impl Pen {
         requires pen { IsPen self }
         requires cells { Follow rule.now self.left (column_behind self.run) self.run.y cells.now }
         ensures text { IfOk result (λ text. text.items ≡ pen_text rule.now self cells.now) }
-        ensures memory { IfErr result (λ kind. kind ≡ Kind.Memory) }
+        ensures memory { IfErr result IsMemory }
     {
         let Pen {
             mut lines,
@@ -159,7 +157,7 @@ pub(crate) fn write_cells(
     requires cells { Follow rule.now bounds.left bounds.left bounds.top (first.now ∷ cells.now) }
     ensures text { IfOk result (λ whole. whole.items ≡ text.items ++ items_text rule.now 0
         (items_from bounds.left bounds.left bounds.top (first.now ∷ cells.now))) }
-    ensures memory { IfErr result (λ kind. kind ≡ Kind.Memory) }
+    ensures memory { IfErr result IsMemory }
 {
     let mut lines = ItemLines::behind(text);
     lines.put_gap(rule, distance(bounds.left, first.x))?;

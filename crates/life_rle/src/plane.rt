@@ -1,8 +1,7 @@
 //! The plane, and the states of a rule.
 
-ghost use Rattle.std.specs.Prelude.{◌≡◌, pos, ◌≤◌};
-ghost use Rattle.life_rle.specs.Plane.{edge, is_coordinate, most_count};
-ghost use Rattle.life_rle.specs.States.{is_state_of};
+ghost use Rattle.std.specs.Prelude.{◌≡◌, ◌≤◌};
+ghost use Rattle.life_rle.specs.Words.{is_coordinate, is_state_of};
 
 use life_base::{MAX_LEVEL, Rule, State};
 

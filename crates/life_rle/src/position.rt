@@ -1,11 +1,7 @@
 //! Position lines.
 
-ghost use Rattle.std.specs.Prelude.{◌≡◌, ◌==◌, ℕ, true, ◌≤◌, ◌<◌, ◌^◌, ◌-◌, Option, Ok, position, IfSome, pos, neg_ℤ, ◌≤ℤ◌};
-ghost use Rattle.std.specs.List.{before_first, after_first};
-ghost use Rattle.life_base.specs.Numbers.{u64_of};
-ghost use Rattle.life_base.specs.Text.{words_of};
-ghost use Rattle.life_rle.specs.Position.{is_position_line, signed_number, corner_in, field_of, with_field, and_then, position_with, position_of, Generation};
-ghost use Rattle.life_rle.specs.Reading.{IsNumberRead};
+ghost use Rattle.std.specs.Prelude.{◌≡◌, ◌==◌, true, ◌≤◌, ◌<◌, ◌^◌, ◌-◌, Option, Ok, position, IfSome, pos, neg_ℤ, ◌≤ℤ◌};
+ghost use Rattle.life_rle.specs.Words.{before_first, after_first, u64_of, words_of, is_position_line, signed_number, corner_in, field_of, with_field, and_then, position_with, position_of, Generation, IsNumberRead};
 
 use crate::plane::is_coordinate;
 use bstr::ByteSlice;

@@ -1,12 +1,7 @@
 //! RLE files, read whole.
 
 ghost use Rattle.std.specs.Prelude.{◌≡◌, ◌⊎◌, ◌++◌, ◌∷◌, [], true, false, IfOk, IfErr, OnOk};
-ghost use Rattle.life_base.specs.Refusal.{OrMemory};
-ghost use Rattle.life_base.specs.Text.{lines_of};
-ghost use Rattle.life_rle.specs.File.{HasRuns, Shows, Refuses};
-ghost use Rattle.life_rle.specs.Grammar.{Breaks, is_rle_kind};
-ghost use Rattle.life_rle.specs.Pattern.{Rle};
-ghost use Rattle.life_rle.specs.PlainFile.{IsPlainRle};
+ghost use Rattle.life_rle.specs.Words.{OrMemory, lines_of, HasRuns, Shows, Refuses, Breaks, is_rle_kind, Rle, IsPlainRle};
 
 use crate::file::RleFile;
 use crate::lines::RleLines;

@@ -1,7 +1,7 @@
 //! Cells that can be written.
 
 ghost use Rattle.std.specs.Prelude.{◌≡◌};
-ghost use Rattle.life_rle.specs.Sorted.{are_sorted_cells, is_live_cell, rises};
+ghost use Rattle.life_rle.specs.Words.{are_sorted_cells, is_live_cell, rises};
 
 use crate::plane::{is_coordinate, is_state_of};
 use life_base::{Cell, MAX_LEVEL, Rule};

@@ -1,12 +1,7 @@
 //! Texts of items, on lines of at most 70 bytes.
 
 ghost use Rattle.std.specs.Prelude.{◌≡◌, ◌+◌, ◌<◌, ◌≤◌, ◌++◌, ◌∷◌, [], length, drop, OnOk, IfOk, IfErr, IfSome, MatchOption};
-ghost use Rattle.life_base.specs.declared.rule.Rule.{Rule};
-ghost use Rattle.life_rle.specs.States.{state_text, lettered};
-ghost use Rattle.life_rle.specs.Cursor.{item_count};
-ghost use Rattle.life_rle.specs.declared.item.Item.TheVariants.{Cells, RowEnds};
-ghost use Rattle.life_rle.specs.Written.{count_text, item_text, with_gap};
-ghost use Rattle.life_rle.specs.Writing.{tag_text, Puts, text_with};
+ghost use Rattle.life_rle.specs.Words.{Rule, state_text, lettered, item_count, Cells, RowEnds, count_text, item_text, with_gap, tag_text, Puts, text_with, IsMemory};
 
 use crate::item::Item;
 use itoa::write_digits;
@@ -144,7 +139,7 @@ impl ItemLines {
             (self.new.text.items ≡ self.old.text.items ++ (count_text count ++ letter ∷ [])) }
         ensures used { OnOk result
             (self.new.used ≡ self.old.used + length (count_text count ++ letter ∷ [])) }
-        ensures memory { IfErr result (λ kind. kind ≡ Kind.Memory) }
+        ensures memory { IfErr result IsMemory }
     {
         if count != 1 {
             self.text.push(b'0' + count as u8)?;
@@ -162,7 +157,7 @@ impl ItemLines {
     pub(crate) fn put_item(&mut self, rule: &Rule, item: Item) -> Result<(), Kind>
         requires { self.old.used ≤ 70 }
         ensures item { OnOk result (Puts rule.now self.old (item ∷ []) self.new) }
-        ensures memory { IfErr result (λ kind. kind ≡ Kind.Memory) }
+        ensures memory { IfErr result IsMemory }
     {
         let count = item_count(item);
         if count >= 10 || self.used + 2 > LINE_WIDTH {
@@ -179,7 +174,7 @@ impl ItemLines {
     fn put_long_cells(&mut self, rule: &Rule, count: u64, state: State) -> Result<(), Kind>
         requires { self.old.used ≤ 70 }
         ensures item { OnOk result (Puts rule.now self.old (Cells count state ∷ []) self.new) }
-        ensures memory { IfErr result (λ kind. kind ≡ Kind.Memory) }
+        ensures memory { IfErr result IsMemory }
     {
         self.put_text(rule, Item::Cells { count, state })
     }
@@ -189,7 +184,7 @@ impl ItemLines {
     fn put_long_row_ends(&mut self, rule: &Rule, count: u64) -> Result<(), Kind>
         requires { self.old.used ≤ 70 }
         ensures item { OnOk result (Puts rule.now self.old (RowEnds count ∷ []) self.new) }
-        ensures memory { IfErr result (λ kind. kind ≡ Kind.Memory) }
+        ensures memory { IfErr result IsMemory }
     {
         self.put_text(rule, Item::RowEnds { count })
     }
@@ -199,7 +194,7 @@ impl ItemLines {
     fn put_long(&mut self, rule: &Rule, item: Item) -> Result<(), Kind>
         requires { self.old.used ≤ 70 }
         ensures item { OnOk result (Puts rule.now self.old (item ∷ []) self.new) }
-        ensures memory { IfErr result (λ kind. kind ≡ Kind.Memory) }
+        ensures memory { IfErr result IsMemory }
     {
         match item {
             Item::Cells { count, state } => self.put_long_cells(rule, count, state),
@@ -211,7 +206,7 @@ impl ItemLines {
     fn put_text(&mut self, rule: &Rule, item: Item) -> Result<(), Kind>
         requires { self.old.used ≤ 70 }
         ensures item { OnOk result (Puts rule.now self.old (item ∷ []) self.new) }
-        ensures memory { IfErr result (λ kind. kind ≡ Kind.Memory) }
+        ensures memory { IfErr result IsMemory }
     {
         let mut room = [0; ITEM_ROOM];
         let start = write_item(&mut room, rule, item);
@@ -232,7 +227,7 @@ impl ItemLines {
     pub(crate) fn put_gap(&mut self, rule: &Rule, count: u64) -> Result<(), Kind>
         requires { self.old.used ≤ 70 }
         ensures gap { OnOk result (Puts rule.now self.old (with_gap count []) self.new) }
-        ensures memory { IfErr result (λ kind. kind ≡ Kind.Memory) }
+        ensures memory { IfErr result IsMemory }
     {
         if count == 0 {
             return Ok(());
@@ -244,7 +239,7 @@ impl ItemLines {
     pub(crate) fn finish(mut self) -> Result<Vec<u8>, Kind>
         requires { self.used ≤ 70 }
         ensures text { (rule : Rule) → IfOk result (λ text. text.items ≡ text_with rule self []) }
-        ensures memory { IfErr result (λ kind. kind ≡ Kind.Memory) }
+        ensures memory { IfErr result IsMemory }
     {
         if self.used >= LINE_WIDTH {
             append(&mut self.text, b"\n")?;

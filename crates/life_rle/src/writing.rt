@@ -1,11 +1,7 @@
 //! RLE files, written.
 
-ghost use Rattle.std.specs.Prelude.{◌≡◌, ◌++◌, ◌∷◌, [], true, codes, decimal, OnOk, IfOk, IfErr};
-ghost use Rattle.std.specs.Fmt.{signed_decimal};
-ghost use Rattle.life_base.specs.Refusal.{fault_of};
-ghost use Rattle.life_rle.specs.Sorted.{are_sorted_cells};
-ghost use Rattle.life_rle.specs.Written.{generation_text, position_text, header_text, rle_text, span};
-ghost use Rattle.life_rle.specs.Writing.{IsInPlane};
+ghost use Rattle.std.specs.Prelude.{◌≡◌, ◌++◌, ◌∷◌, [], true, codes, OnOk, IfOk, IfErr};
+ghost use Rattle.life_rle.specs.Words.{signed_decimal, fault_of, are_sorted_cells, generation_text, position_text, header_text, rle_text, span, IsInPlane, IsMemory};
 
 use crate::bounds::bounds_of;
 use crate::pen::write_cells;
@@ -17,7 +13,7 @@ use std::alloc::Global;
 /// Adds a generation at the end, if it isn't 0.
 fn append_generation(out: &mut Vec<u8>, generation: u64) -> Result<(), Kind>
     ensures ok { OnOk result (out.new.items ≡ out.old.items ++ generation_text generation) }
-    ensures memory { IfErr result (λ kind. kind ≡ Kind.Memory) }
+    ensures memory { IfErr result IsMemory }
 {
     if generation == 0 {
         return Ok(());
@@ -30,7 +26,7 @@ fn append_generation(out: &mut Vec<u8>, generation: u64) -> Result<(), Kind>
 fn append_corner(out: &mut Vec<u8>, position: Position) -> Result<(), Kind>
     ensures ok { OnOk result (out.new.items ≡ out.old.items ++ (signed_decimal position.x
         ++ (codes "," ++ signed_decimal position.y))) }
-    ensures memory { IfErr result (λ kind. kind ≡ Kind.Memory) }
+    ensures memory { IfErr result IsMemory }
 {
     append_number(out, position.x)?;
     append(out, b",")?;
@@ -41,7 +37,7 @@ fn append_corner(out: &mut Vec<u8>, position: Position) -> Result<(), Kind>
 fn append_position(out: &mut Vec<u8>, position: Position) -> Result<(), Kind>
     ensures ok { OnOk result (out.new.items ≡ out.old.items ++ (position_text position.x
         position.y position.generation ++ codes "\n")) }
-    ensures memory { IfErr result (λ kind. kind ≡ Kind.Memory) }
+    ensures memory { IfErr result IsMemory }
 {
     append(out, b"#CXRLE Pos=")?;
     append_corner(out, position)?;
@@ -53,7 +49,7 @@ fn append_position(out: &mut Vec<u8>, position: Position) -> Result<(), Kind>
 fn append_header(out: &mut Vec<u8>, width: u64, height: u64, rule: &Rule) -> Result<(), Kind>
     ensures ok { OnOk result
         (out.new.items ≡ out.old.items ++ (header_text width height rule.now ++ codes "\n")) }
-    ensures memory { IfErr result (λ kind. kind ≡ Kind.Memory) }
+    ensures memory { IfErr result IsMemory }
 {
     append(out, b"x = ")?;
     append_number(out, width)?;
@@ -94,7 +90,7 @@ fn corner_of(bounds: Bounds, generation: u64) -> Position
 /// The text of no cells.
 fn blank_text(alloc: Global, rule: &Rule, generation: u64) -> Result<Vec<u8>, Kind>
     ensures text { IfOk result (λ text. text.items ≡ rle_text rule.now generation []) }
-    ensures memory { IfErr result (λ kind. kind ≡ Kind.Memory) }
+    ensures memory { IfErr result IsMemory }
 {
     let corner = Position {
         x: 0,
@@ -118,7 +114,7 @@ fn cells_text(
     requires { are_sorted_cells MAX_LEVEL rule.now (first.now ∷ cells.now) ≡ true }
     ensures text { IfOk result
         (λ text. text.items ≡ rle_text rule.now generation (first.now ∷ cells.now)) }
-    ensures memory { IfErr result (λ kind. kind ≡ Kind.Memory) }
+    ensures memory { IfErr result IsMemory }
 {
     let bounds = bounds_of(first, cells);
     let mut text = Vec::new(alloc);

@@ -1,12 +1,6 @@
 //! Four rows of cells of the states 0 and 1, made into squares of level 2 at once, 64 columns at a time.
 ghost use Rattle.std.specs.Prelude.{◌≡◌, ℕ, ◌+◌, ◌-◌, ◌*◌, ◌^◌, ◌<◌, ◌≤◌, IfSome, IfOk, OnOk};
-ghost use Rattle.life_base.specs.Tree.{Tree};
-ghost use Rattle.life_quad.specs.Refused.{SomePart};
-ghost use Rattle.life_quad.specs.Store.{four};
-ghost use Rattle.life_quad.specs.Grows.{Grows};
-ghost use Rattle.life_strip.specs.Strip.{IsStrip, AreWithin, FilledTo, Rise, square_at};
-ghost use Rattle.life_strip.specs.Band.{four_at, cells_at};
-ghost use Rattle.life_strip.specs.Needed.{SomeColumn};
+ghost use Rattle.life_strip.specs.Words.{Tree, SomePart, four, Grows, IsStrip, AreWithin, FilledTo, Rise, square_at, four_at, cells_at, SomeColumn};
 
 use crate::spans::{Span, extend, find, nearer, stretch_at};
 use crate::spare::Spare;

@@ -1,10 +1,6 @@
 //! A builder that fills a store row by row.
 ghost use Rattle.std.specs.Prelude.{◌≡◌, ℤ, pos, nat_abs, ◌+ℤ◌, ◌^◌, ◌≤◌, ◌++◌, ◌∷◌, [], IfOk, OnOk};
-ghost use Rattle.life_base.specs.Tree.{depth, tree_cell};
-ghost use Rattle.life_quad.specs.Grows.{Grows};
-ghost use Rattle.life_strip.specs.Given.{IsBehind, IsNext, IsOnPlane, AreInOrder, state_by, by_columns, half_plane};
-ghost use Rattle.life_strip.specs.Needed.{SomeSquare};
-ghost use Rattle.life_strip.specs.Filling.{IsEmpty, IsFilling};
+ghost use Rattle.life_strip.specs.Words.{depth, tree_cell, Grows, IsBehind, IsNext, IsOnPlane, AreInOrder, state_by, by_columns, half_plane, SomeSquare, IsEmpty, IsFilling};
 
 use crate::plane::Plane;
 use crate::run_log::RunLog;

@@ -1,6 +1,5 @@
 //! Laws over the definitions alone.
-ghost use Rattle.life_strip.specs.Given.{RunsAreApart, RunsGrow};
-ghost use Rattle.life_strip.specs.Filling.{EmptyFills, FillingStays};
+ghost use Rattle.life_strip.specs.Words.{RunsAreApart, RunsGrow, EmptyFills, FillingStays};
 
 use life_quad::Squares;
 

@@ -1,10 +1,6 @@
 //! The rows of the plane that are over.
 ghost use Rattle.std.specs.Prelude.{◌≡◌, ℕ, ◌+◌, ◌^◌, ◌<◌, ◌≤◌, ◌++◌, ◌∷◌, [], All, length, IfOk, OnOk};
-ghost use Rattle.life_base.specs.Tree.{depth, state_at};
-ghost use Rattle.life_quad.specs.Grows.{Grows};
-ghost use Rattle.life_strip.specs.Picture.{picture, height, AreStacked, IsLowest, IsRow};
-ghost use Rattle.life_strip.specs.Needed.{SomeSquare};
-ghost use Rattle.life_strip.specs.Pile.{IsPile, IsClosed, SomeOfPile, strips_of};
+ghost use Rattle.life_strip.specs.Words.{depth, state_at, Grows, picture, height, AreStacked, IsLowest, IsRow, SomeSquare, IsPile, IsClosed, SomeOfPile, strips_of};
 
 use crate::rows::{band_strip, blank_level, push_strip, whole};
 use crate::spans::Strip;

@@ -1,10 +1,6 @@
 //! The plane as far as it is filled, row by row.
 ghost use Rattle.std.specs.Prelude.{◌≡◌, ℕ, ℤ, pos, neg_ℤ, nat_abs, ◌+ℤ◌, ◌<ℤ◌, ◌≤ℤ◌, ◌+◌, ◌^◌, ◌<◌, ◌≤◌, All, IfOk, OnOk};
-ghost use Rattle.life_base.specs.Tree.{depth, tree_cell};
-ghost use Rattle.life_quad.specs.Grows.{Grows};
-ghost use Rattle.life_strip.specs.Given.{IsOnPlane, half_plane};
-ghost use Rattle.life_strip.specs.Needed.{SomeSquare};
-ghost use Rattle.life_strip.specs.Plane.{IsFilled, IsUnfilled, IsFree, AddsRun, state_so_far, cell_so_far};
+ghost use Rattle.life_strip.specs.Words.{depth, tree_cell, Grows, IsOnPlane, half_plane, SomeSquare, IsFilled, IsUnfilled, IsFree, AddsRun, state_so_far, cell_so_far};
 
 use crate::pile::Pile;
 use crate::spans::{Strip, extend};

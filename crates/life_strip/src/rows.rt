@@ -1,10 +1,6 @@
 //! Strips one below the other.
 ghost use Rattle.std.specs.Prelude.{◌≡◌, ℕ, suc, ◌+◌, ◌-◌, ◌^◌, ◌<◌, ◌≤◌, ◌++◌, ◌∷◌, [], All, length, MatchOption, IfSome, IfOk, OnOk};
-ghost use Rattle.life_base.specs.Tree.{depth, state_at};
-ghost use Rattle.life_quad.specs.Grows.{Grows};
-ghost use Rattle.life_strip.specs.Strip.{quad_at};
-ghost use Rattle.life_strip.specs.Picture.{picture, height, AreFalling, AreStacked, IsLowest, IsNotLast, IsRow, IsSound, IsStack};
-ghost use Rattle.life_strip.specs.Needed.{SomeColumn, SomeSquare};
+ghost use Rattle.life_strip.specs.Words.{depth, state_at, Grows, quad_at, picture, height, AreFalling, AreStacked, IsLowest, IsNotLast, IsRow, IsSound, IsStack, SomeColumn, SomeSquare};
 
 use crate::bands::band_spans;
 use crate::spans::{Strip, find, pair};

@@ -1,8 +1,7 @@
 //! A list of runs that only contracts see. It takes no memory.
 
 ghost use Rattle.std.specs.Prelude.{◌≡◌, List, [], ◌∷◌, ◌++◌};
-ghost use Rattle.std.specs.Borrow.{ftrue};
-ghost use Rattle.life_base.specs.declared.cell.Run.{Run as RunValue};
+ghost use Rattle.life_strip.specs.Words.{ftrue, RunValue};
 
 use life_base::Run;
 use std::marker::Model;

@@ -1,11 +1,6 @@
 //! Strips of squares, and how two of them make one of the next level.
 ghost use Rattle.std.specs.Prelude.{◌≡◌, ℕ, ◌+◌, ◌-◌, ◌*◌, ◌^◌, ◌<◌, ◌≤◌, Some, None, MatchOption, length, slice_get, IfOk, IfErr, OnOk};
-ghost use Rattle.life_base.specs.declared.kind.Kind.TheVariants.{Memory};
-ghost use Rattle.life_strip.specs.declared.spans.Span.{Span as SpanValue};
-ghost use Rattle.life_base.specs.Tree.{blank};
-ghost use Rattle.life_quad.specs.Grows.{Grows, GrowsOnly};
-ghost use Rattle.life_strip.specs.Strip.{IsStrip, AreBefore, AreWithin, HaveColumns, IsPaired, EndsAfter, IsPast, IsFound, IsNearer, IsExtended, IsAt, Rise, quad_at, square_in, goes_to};
-ghost use Rattle.life_strip.specs.Needed.{SomeColumn};
+ghost use Rattle.life_strip.specs.Words.{SpanValue, blank, Grows, GrowsOnly, IsStrip, AreBefore, AreWithin, HaveColumns, IsPaired, EndsAfter, IsPast, IsFound, IsNearer, IsExtended, IsAt, Rise, quad_at, square_in, goes_to, SomeColumn, IsMemory};
 
 use crate::spare::Spare;
 use life_base::{Kind, MAX_LEVEL};
@@ -308,7 +303,7 @@ pub(crate) fn extend(spans: &mut Vec<Span>, column: u64, end: u64, square: Id) -
     requires { column < end }
     ensures columns { OnOk result (AreBefore column spans.old.items
         → IsExtended spans.old.items spans.new.items column end square) }
-    ensures refusals { IfErr result (λ e. e ≡ Memory) }
+    ensures refusals { IfErr result IsMemory }
 {
     if let Some(last) = spans.last_mut() {
         if last.end == column && last.square == square {

@@ -1,6 +1,6 @@
 //! Vectors of spans that are not used any more, and wait for the next strip.
 ghost use Rattle.std.specs.Prelude.{◌≡◌, [], IfOk, IfErr};
-ghost use Rattle.life_base.specs.declared.kind.Kind.TheVariants.{Memory};
+ghost use Rattle.life_strip.specs.Words.{IsMemory};
 
 use crate::spans::{Span, Strip};
 use life_base::Kind;
@@ -31,7 +31,7 @@ impl Spare {
     // A vector without spans, with room for so many.
     pub(crate) fn take(&mut self, room: usize) -> Result<Vec<Span>, Kind>
         ensures empty { IfOk result (λ spans. spans.items ≡ []) }
-        ensures refusals { IfErr result (λ e. e ≡ Memory) }
+        ensures refusals { IfErr result IsMemory }
     {
         if room <= MOST_ROOM {
             if let Some(vector) = self.vectors.pop() {

@@ -1,8 +1,6 @@
 //! Rows of cells of the states 0 and 1, 64 columns at a time: a word has a bit for each column, and that of the westernmost is the highest.
 ghost use Rattle.std.specs.Prelude.{◌≡◌, ℕ, ◌+◌, ◌-◌, ◌*◌, ◌/◌, ◌%◌, ◌^◌, ◌<◌, ◌≤◌, IfSome, bit_or};
-ghost use Rattle.life_base.specs.Tree.{point};
-ghost use Rattle.life_strip.specs.Strip.{IsStrip, HaveColumns, IsPast};
-ghost use Rattle.life_strip.specs.Band.{cell_in, IsWord, nibble_of, west_at, east_at, cells_at};
+ghost use Rattle.life_strip.specs.Words.{point, IsStrip, HaveColumns, IsPast, cell_in, IsWord, nibble_of, west_at, east_at, cells_at};
 
 use crate::spans::Span;
 use life_base::MAX_LEVEL;

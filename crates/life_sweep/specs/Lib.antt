@@ -4,3 +4,4 @@ pub mod Pen
 pub mod Refused
 pub mod Rows
 pub mod Sweep
+pub mod Words

@@ -1,6 +1,6 @@
 //! The rows of the plane beside which cells stand, from north to south.
 ghost use Rattle.std.specs.Prelude.{◌≡◌, ℕ, ℤ, ◌+◌, ◌<◌, ◌≤◌, ◌<ℤ◌, true, false, All, IfSome, None, IsTrue, ◌↔◌, length, take, drop};
-ghost use Rattle.life_sweep.specs.Rows.{IsBand, IsSoundBand, IsBandBelow, GoesSouth, IsFarRow, IsRestOf, IsBlankBefore, IsInside, IsSortedList, BeginsAt, IsOfSweep, IsNextRow, rows_left, start_of_sweep, first_coordinate};
+ghost use Rattle.life_sweep.specs.Words.{IsBand, IsSoundBand, IsBandBelow, GoesSouth, IsFarRow, IsRestOf, IsBlankBefore, IsInside, IsSortedList, BeginsAt, IsOfSweep, IsNextRow, rows_left, start_of_sweep, first_coordinate};
 
 use crate::column::Rows;
 use crate::plane::START;

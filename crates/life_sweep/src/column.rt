@@ -1,7 +1,6 @@
 //! Three rows of cells, column by column.
 ghost use Rattle.std.specs.Prelude.{◌≡◌, ◌⊎◌, ℕ, ℤ, ◌+◌, ◌<◌, ◌≤◌, ◌≤ℤ◌, ◌<ℤ◌, true, All, IfSome, None, length};
-ghost use Rattle.life_sweep.specs.Generation.{after};
-ghost use Rattle.life_sweep.specs.Rows.{IsRest, IsInside, StartsFrom, StartsAt, SomeStartsAt, InRows, AreInside, AreBelow, AreRows, IsColumn, column_at, is_blank_column, left_in, far, first_coordinate};
+ghost use Rattle.life_sweep.specs.Words.{after, IsRest, IsInside, StartsFrom, StartsAt, SomeStartsAt, InRows, AreInside, AreBelow, AreRows, IsColumn, column_at, is_blank_column, left_in, far, first_coordinate};
 
 use crate::plane::HALF_PLANE;
 use life_base::{Cell, State};

@@ -1,11 +1,6 @@
 //! The next generation of a square.
 ghost use Rattle.std.specs.Prelude.{◌≡◌, ◌⊎◌, ◌↔◌, ℤ, ◌<◌, ◌≤◌, All, IsTrue, Err, Some, None, IfOk, IfErr};
-ghost use Rattle.life_base.specs.Refusal.{fault_of};
-ghost use Rattle.life_base.specs.Tree.{depth, tree_cell};
-ghost use Rattle.life_quad.specs.Keeping.{KeepsSquares, IsWantFault};
-ghost use Rattle.life_table.specs.Meaning.{Becomes};
-ghost use Rattle.life_sweep.specs.Refused.{SomeNext, GenerationRefusal};
-ghost use Rattle.life_sweep.specs.Generation.{states_at};
+ghost use Rattle.life_sweep.specs.Words.{fault_of, depth, tree_cell, IsWantFault, Becomes, SomeNext, GenerationRefusal, states_at, Keeps};
 
 use crate::law::Law;
 use crate::sweep::next_square;
@@ -51,7 +46,7 @@ pub fn next_generation<S: Squares, L: Law>(
         → SomeNext (S.needs_node squares.new) (L.answers law.old)
         (tree_cell (S.content squares.old id)) }
     ensures same { law.new ≡ law.old }
-    ensures keeps { KeepsSquares S.knows S.content S.stored S.most squares.old squares.new }
+    ensures keeps { Keeps S.Squares squares.old squares.new }
 {
     let list = cells(alloc, squares, id, most)?;
     if !are_below(&list, law.n_states()) {

@@ -1,15 +1,9 @@
 //! What a cell becomes.
 ghost use Rattle.std.specs.Prelude.{◌≡◌, ℕ, ◌<◌, ◌≤◌, ◌↔◌, false, All, IfOk, IfErr, List, drop, length, slice_index};
-ghost use Rattle.std.specs.List.Sorted.{IsPermutation};
+ghost use Rattle.life_sweep.specs.Words.{IsPermutation, Answer, Becomes, Ambiguous, count_of, has_digit, most_neighbours, VonNeumann, Rotate4, neighborhood_of, LifeAnswers, TableAnswers, named, SameImages, two_positive, life_quiet, table_positive, table_quiet};
 ghost use Rattle.std.proofs.Common.{sym, ◌∙◌};
 ghost use Rattle.std.proofs.Props.{props};
-ghost use Rattle.life_table.specs.Meaning.{Answer, Becomes, Ambiguous, count_of};
-ghost use Rattle.life_base.specs.Rules.{has_digit, most_neighbours};
-ghost use Rattle.life_table.specs.declared.table.Neighborhood.TheVariants.{VonNeumann};
-ghost use Rattle.life_table.specs.declared.table.Symmetry.TheVariants.{Rotate4};
 ghost use Rattle.life_table.proofs.LawProofs.{one_law};
-ghost use Rattle.life_sweep.specs.Generation.{neighborhood_of, LifeAnswers, TableAnswers, named};
-ghost use Rattle.life_sweep.specs.LawFacts.{SameImages, two_positive, life_quiet, table_positive, table_quiet};
 
 use life_base::{Fault, Kind, LifeRule, Near, State};
 use life_table::{Index, Neighborhood, Neighbours, Symmetry, Table};
@@ -246,7 +240,7 @@ impl<'a> ByTable<'a> {
     /// `Memory`, and nothing else.
     pub fn new(alloc: Global, table: &'a Table) -> Result<ByTable<'a>, Kind>
         ensures table { IfOk result (λ law. law ≡ table.now) }
-        ensures refusals { IfErr result (λ kind. kind ≡ Kind.Memory) }
+        ensures refusals { IfErr result IsMemory }
     {
         let zeros = Known {
             around: [0; 9],

@@ -1,5 +1,5 @@
 //! Laws over the definitions alone.
-ghost use Rattle.life_sweep.specs.Generation.{LifeAnswersAt, TableAnswersAt};
+ghost use Rattle.life_sweep.specs.Words.{LifeAnswersAt, TableAnswersAt};
 
 /// The law of a B/S rule answers with the next state under the rule.
 pub fn life_answers_at()

@@ -1,11 +1,6 @@
 //! A builder that is given whole runs, though the sweep draws place by place.
 ghost use Rattle.std.specs.Prelude.{◌≡◌, ◌≢◌, ◌⊎◌, ℤ, pos, ◌+ℤ◌, IsTrue, ◌↔◌, [], Err, None, OnOk, IfOk, IfErr};
-ghost use Rattle.life_base.specs.Tree.{depth, tree_cell};
-ghost use Rattle.life_quad.specs.Keeping.{KeepsSquares, IsWantKind};
-ghost use Rattle.life_strip.specs.Filling.{IsEmpty, IsFilling};
-ghost use Rattle.life_strip.specs.Given.{IsBehind, IsNext, IsOnPlane, state_by};
-ghost use Rattle.life_sweep.specs.Refused.{SomeAbove, SomeOfAll};
-ghost use Rattle.life_sweep.specs.Pen.{IsHolding, drawn_runs, one_cell};
+ghost use Rattle.life_sweep.specs.Words.{depth, tree_cell, IsEmpty, IsFilling, IsBehind, IsNext, IsOnPlane, state_by, SomeAbove, SomeOfAll, IsHolding, drawn_runs, one_cell, Keeps, IsWantOf};
 
 use life_base::{Kind, MAX_LEVEL, Run, State};
 use life_quad::{Id, Squares};
@@ -48,8 +43,8 @@ impl Pen {
             (IsFilling (S.knows squares.new) (S.content squares.new) self.new.builder) }
         ensures drawn { OnOk result (self.new.builder.runs ≡ drawn_runs self.old) }
         ensures none { OnOk result (self.new.unclosed ≡ None) }
-        ensures keeps { KeepsSquares S.knows S.content S.stored S.most squares.old squares.new }
-        ensures refusals { IfErr result (IsWantKind (S.stored squares.new) (S.most squares.new)) }
+        ensures keeps { Keeps S.Squares squares.old squares.new }
+        ensures refusals { IfErr result (IsWantOf S.Squares squares.new) }
         ensures needed { result ≡ Err Kind.Full
             → SomeAbove (S.needs_node squares.new) (drawn_runs self.old) }
     {
@@ -80,8 +75,8 @@ impl Pen {
             → state_by (drawn_runs self.new) c r ≡ state_by (drawn_runs self.old) c r) }
         ensures next { OnOk result
             ((c r : ℤ) → IsBehind (one_cell x y state) c r → IsNext (drawn_runs self.new) c r) }
-        ensures keeps { KeepsSquares S.knows S.content S.stored S.most squares.old squares.new }
-        ensures refusals { IfErr result (IsWantKind (S.stored squares.new) (S.most squares.new)) }
+        ensures keeps { Keeps S.Squares squares.old squares.new }
+        ensures refusals { IfErr result (IsWantOf S.Squares squares.new) }
         ensures needed { result ≡ Err Kind.Full
             → SomeAbove (S.needs_node squares.new) (drawn_runs self.old) }
     {
@@ -109,8 +104,8 @@ impl Pen {
         ensures level { IfOk result (λ r. depth (S.content squares.new r) ≡ MAX_LEVEL) }
         ensures cells { IfOk result (λ r. (x y : ℤ)
             → tree_cell (S.content squares.new r) x y ≡ state_by (drawn_runs self) x y) }
-        ensures keeps { KeepsSquares S.knows S.content S.stored S.most squares.old squares.new }
-        ensures refusals { IfErr result (IsWantKind (S.stored squares.new) (S.most squares.new)) }
+        ensures keeps { Keeps S.Squares squares.old squares.new }
+        ensures refusals { IfErr result (IsWantOf S.Squares squares.new) }
         ensures needed { result ≡ Err Kind.Full
             → SomeAbove (S.needs_node squares.new) (drawn_runs self)
             ⊎ SomeOfAll (S.needs_node squares.new) (drawn_runs self) }

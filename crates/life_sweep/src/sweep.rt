@@ -1,15 +1,6 @@
 //! The next generation, place by place.
 ghost use Rattle.std.specs.Prelude.{◌≡◌, ◌⊎◌, ◌↔◌, ℕ, ℤ, ◌<◌, true, false, All, Err, IfOk, IfErr, OnOk, IsTrue};
-ghost use Rattle.life_base.specs.Refusal.{fault_of};
-ghost use Rattle.life_base.specs.Tree.{depth, tree_cell};
-ghost use Rattle.life_quad.specs.Keeping.{KeepsSquares, IsWantFault};
-ghost use Rattle.life_sweep.specs.Refused.{SomeAbove, SomeNext};
-ghost use Rattle.life_sweep.specs.Pen.{IsHolding, drawn_runs};
-ghost use Rattle.life_strip.specs.Given.{IsOnPlane, state_by};
-ghost use Rattle.life_table.specs.Meaning.{Becomes, Ambiguous};
-ghost use Rattle.life_sweep.specs.Generation.{after, states_at};
-ghost use Rattle.life_sweep.specs.Rows.{AreInside, AreSorted, IsSortedList, AreBelow, IsInside, IsSoundWindow, IsWindowBelow, states_of};
-ghost use Rattle.life_sweep.specs.Sweep.{IsScene, IsSorted, RefusesStep, IsPut, IsReady, IsReadyRow, IsSweptRows, IsFirstAmbiguous};
+ghost use Rattle.life_sweep.specs.Words.{fault_of, depth, tree_cell, IsWantFault, SomeAbove, SomeNext, IsHolding, drawn_runs, IsOnPlane, state_by, Becomes, Ambiguous, after, states_at, AreInside, AreSorted, IsSortedList, AreBelow, IsInside, IsSoundWindow, IsWindowBelow, states_of, IsScene, IsSorted, RefusesStep, IsPut, IsReady, IsReadyRow, IsSweptRows, IsFirstAmbiguous, Keeps};
 
 use crate::band::Band;
 use crate::column::Rows;
@@ -52,7 +43,7 @@ fn draw_place<S: Squares, L: Law>(
         all window.now.x y) }
     ensures others { OnOk result ((c r : ℤ) → (c ≡ window.now.x → r ≡ y → ⊥)
         → state_by (drawn_runs pen.new) c r ≡ state_by (drawn_runs pen.old) c r) }
-    ensures keeps { KeepsSquares S.knows S.content S.stored S.most squares.old squares.new }
+    ensures keeps { Keeps S.Squares squares.old squares.new }
     ensures refusals { IfErr result (λ f. IsWantFault (S.stored squares.new) (S.most squares.new)
         f ⊎ ((f.kind ≡ Kind.Ambiguous)
         × L.answers law.old (states_of window.now) (Ambiguous f.place.line))) }
@@ -92,7 +83,7 @@ fn draw_row<S: Squares, L: Law>(
     ensures swept { IfOk result (λ left. (cells : ℤ → ℤ → ℕ) → IsScene cells y rows.entry
         → IsSweptRows (L.answers law.old) cells (state_by (drawn_runs pen.old)) leaves y
         → IsSweptRows (L.answers law.old) cells (state_by (drawn_runs pen.new)) left (after y)) }
-    ensures keeps { KeepsSquares S.knows S.content S.stored S.most squares.old squares.new }
+    ensures keeps { Keeps S.Squares squares.old squares.new }
     ensures refusals { IfErr result (λ f. IsWantFault (S.stored squares.new) (S.most squares.new)
         f ⊎ ((f.kind ≡ Kind.Ambiguous) × ((cells : ℤ → ℤ → ℕ) → IsScene cells y rows.entry
         → IsSweptRows (L.answers law.old) cells (state_by (drawn_runs pen.old)) leaves y
@@ -126,7 +117,7 @@ pub(crate) fn next_square<S: Squares, L: Law>(
     ensures next { IfOk result (λ r. (plane : ℤ → ℤ → ℕ) → IsSorted plane cells.now → (x y : ℤ)
         → L.answers law.old (states_at plane x y)
         (Becomes (tree_cell (S.content squares.new r) x y))) }
-    ensures keeps { KeepsSquares S.knows S.content S.stored S.most squares.old squares.new }
+    ensures keeps { Keeps S.Squares squares.old squares.new }
     ensures refusals { IfErr result (λ f. IsWantFault (S.stored squares.new) (S.most squares.new)
         f ⊎ ((plane : ℤ → ℤ → ℕ) → IsSorted plane cells.now
         → RefusesStep (L.answers law.old) plane f)) }

@@ -1,6 +1,6 @@
 //! The places of a row beside which cells stand, from west to east.
 ghost use Rattle.std.specs.Prelude.{◌≡◌, ℕ, ℤ, ◌<◌, ◌<ℤ◌, ◌+ℤ◌, pos, true, false, IfSome, None};
-ghost use Rattle.life_sweep.specs.Rows.{IsOfSweep, IsNextPlace, IsWindow, IsSoundWindow, IsWindowBelow, GoesOn, IsFar, AreRows, AreInside, AreSorted, AreBelow, column_at, no_column, is_blank_column, left_in, steps_left, states_of, start_of_sweep};
+ghost use Rattle.life_sweep.specs.Words.{IsOfSweep, IsNextPlace, IsWindow, IsSoundWindow, IsWindowBelow, GoesOn, IsFar, AreRows, AreInside, AreSorted, AreBelow, column_at, no_column, is_blank_column, left_in, steps_left, states_of, start_of_sweep};
 
 use crate::column::{BLANK, Column, Rows};
 use crate::plane::START;

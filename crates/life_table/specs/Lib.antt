@@ -12,3 +12,4 @@ pub mod Seen
 pub mod Site
 pub mod Taking
 pub mod Index
+pub mod Words

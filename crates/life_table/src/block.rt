@@ -1,9 +1,6 @@
 //! 64 lines of a table as sets: which of them an input may be a state in, and which have two different inputs at two places.
-ghost use Rattle.std.specs.Prelude.{◌≡◌, ◌≢◌, ℕ, ◌+◌, ◌*◌, ◌<◌, ◌≤◌, ◌↔◌, [], take, length, slice_index, slice_index_or, All, IsTrue, true};
-ghost use Rattle.std.specs.Int.{bit_at};
-ghost use Rattle.life_table.specs.Meaning.{has_state};
-ghost use Rattle.life_table.specs.Valid.{IsEntry};
-ghost use Rattle.life_table.specs.Index.{Stay, entry_at, InSets, IsApart, HasLine, HasLines, MayFit};
+ghost use Rattle.std.specs.Prelude.{◌≡◌, ◌≢◌, ℕ, ◌+◌, ◌*◌, ◌<◌, ◌≤◌, ◌↔◌, [], take, length, slice_index, slice_index_or, All, IsTrue};
+ghost use Rattle.life_table.specs.Words.{bit_at, has_state, IsEntry, Stay, entry_at, InSets, IsApart, HasLine, HasLines, MayFit};
 
 use crate::choose::has_state;
 use crate::image_list::Images;

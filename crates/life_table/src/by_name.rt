@@ -1,8 +1,7 @@
 //! The variables of a rule table, looked up by their names.
 
 ghost use Rattle.std.specs.Prelude.{◌≡◌, ◌++◌, ◌∷◌, [], None, slice_get, option_map, OnOk, OnErr, IfOk, IfErr};
-ghost use Rattle.life_base.specs.declared.kind.Kind.TheVariants.{Memory};
-ghost use Rattle.life_table.specs.Reading.{variable_named};
+ghost use Rattle.life_table.specs.Words.{variable_named, IsMemory};
 
 use crate::seed::NameSeed;
 use crate::table::Var;
@@ -60,7 +59,7 @@ impl Variables {
         requires unnamed { variable_named self.old var.name ≡ None }
         ensures ok { OnOk result (self.new ≡ self.old ++ var ∷ []) }
         ensures err { OnErr result (self.new ≡ self.old) }
-        ensures kind { IfErr result (λ kind. kind ≡ Memory) }
+        ensures kind { IfErr result IsMemory }
     {
         let Var { name, states } = var;
         self.states.insert(name.into_vec(), states)?;
@@ -70,7 +69,7 @@ impl Variables {
     /// The variables as a list.
     pub(crate) fn into_items(self, alloc: Global) -> Result<Items<Var>, Kind>
         ensures ok { IfOk result (λ vars. vars ≡ self) }
-        ensures err { IfErr result (λ kind. kind ≡ Memory) }
+        ensures err { IfErr result IsMemory }
     {
         let Self { states: by_name } = self;
         let mut vars = Items::new(alloc);

@@ -1,11 +1,6 @@
 //! One line at one cell: which states it gives.
 ghost use Rattle.std.specs.Prelude.{◌≡◌, ℕ, ◌+◌, ◌<◌, ◌↔◌, ◌++◌, ◌∷◌, [], take, length, List, All, IsTrue};
-ghost use Rattle.std.specs.List.{list_any};
-ghost use Rattle.life_table.specs.Found.{Adds, Consistent, Tells};
-ghost use Rattle.life_table.specs.Meaning.{IsChoice, state_of, has_state, GivesAs, GivesByCounts};
-ghost use Rattle.life_table.specs.Site.{IsSite, IsLineAt, centre_of, others_of};
-ghost use Rattle.life_table.specs.Taking.{can_be_state};
-ghost use Rattle.life_table.specs.Valid.{IsEntry, is_variable};
+ghost use Rattle.life_table.specs.Words.{list_any, Adds, Consistent, Tells, IsChoice, state_of, has_state, GivesAs, GivesByCounts, IsSite, IsLineAt, centre_of, others_of, can_be_state, IsEntry, is_variable};
 
 use crate::complete::{can_complete, first_states};
 use crate::found::Found;

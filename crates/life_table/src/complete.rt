@@ -1,9 +1,6 @@
 //! The search for states of the open variables.
 ghost use Rattle.std.specs.Prelude.{◌≡◌, ◌^◌, ◌<◌, ◌≤◌, ◌↔◌, slice_get, length, drop, slice_index, IfSome, IsTrue};
-ghost use Rattle.std.specs.Int.{bit_at};
-ghost use Rattle.life_table.specs.Meaning.{HasState};
-ghost use Rattle.life_table.specs.Found.{Tells};
-ghost use Rattle.life_table.specs.Taking.{free_count, Takes, IsSearch, Completes, CompletesWith, AreFailed};
+ghost use Rattle.life_table.specs.Words.{bit_at, HasState, Tells, free_count, Takes, IsSearch, Completes, CompletesWith, AreFailed};
 
 use crate::choose::{has_state, with_state};
 use crate::found::Found;

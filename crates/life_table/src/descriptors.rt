@@ -1,7 +1,7 @@
 //! Descriptors: the number of states, the neighbourhood and the symmetry.
 
 ghost use Rattle.std.specs.Prelude.{◌≡◌, bytes_eq, find};
-ghost use Rattle.life_table.specs.Reading.{states_named, neighborhood_named, symmetry_named, agree, if_states, if_neighborhood, if_symmetry, parse_descriptor, is_neighborhood_key};
+ghost use Rattle.life_table.specs.Words.{states_named, neighborhood_named, symmetry_named, agree, if_states, if_neighborhood, if_symmetry, parse_descriptor, is_neighborhood_key};
 
 use crate::directive::{Directive, Parsed};
 use crate::table::{Neighborhood, Symmetry};

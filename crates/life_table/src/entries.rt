@@ -1,8 +1,7 @@
 //! Entries of variables and transitions.
 
 ghost use Rattle.std.specs.Prelude.{◌≡◌, ◌≤◌, map, IfOk, IfErr, option_map, option_and_then};
-ghost use Rattle.life_base.specs.declared.kind.Kind.TheVariants.{Memory};
-ghost use Rattle.life_table.specs.Reading.{entry_of, single, union, states_of_entry, states_listed, entries_of, all_some, between_commas, bytes_alone};
+ghost use Rattle.life_table.specs.Words.{entry_of, single, union, states_of_entry, states_listed, entries_of, all_some, between_commas, bytes_alone, IsMemory};
 
 use crate::by_name::Variables;
 use crate::table::Entry;
@@ -92,7 +91,7 @@ impl<'a> Scope<'a> {
         ensures ok { IfOk result (λ found. option_map (λ entries. entries.items) found
             ≡ all_some
             (map (entry_of self.now.n_states self.now.vars.now) (between_commas text.now))) }
-        ensures err { IfErr result (λ kind. kind ≡ Memory) }
+        ensures err { IfErr result IsMemory }
     {
         let mut entries = Vec::new(alloc);
         let mut rest = Some(text);
@@ -113,7 +112,7 @@ impl<'a> Scope<'a> {
         ensures ok { IfOk result (λ found. option_map (λ entries. entries.items) found
             ≡ all_some
             (map (entry_of self.now.n_states self.now.vars.now) (bytes_alone text.now))) }
-        ensures err { IfErr result (λ kind. kind ≡ Memory) }
+        ensures err { IfErr result IsMemory }
     {
         let mut entries = Vec::new(alloc);
         for byte in text {
@@ -133,7 +132,7 @@ impl<'a> Scope<'a> {
         requires most { self.now.n_states ≤ 256 }
         ensures ok { IfOk result (λ found. option_map (λ entries. entries.items) found
             ≡ entries_of self.now.n_states self.now.vars.now text.now) }
-        ensures err { IfErr result (λ kind. kind ≡ Memory) }
+        ensures err { IfErr result IsMemory }
     {
         if has_byte(text, b',') {
             self.between_commas(alloc, text)

@@ -1,10 +1,6 @@
 //! One line at the images of a cell's neighbours.
 ghost use Rattle.std.specs.Prelude.{◌≡◌, ℕ, ◌+◌, ◌-◌, ◌<◌, ◌≤◌, ◌∷◌, map, length, slice_index_or, if◌then◌else◌};
-ghost use Rattle.std.specs.Int.{bit_at};
-ghost use Rattle.life_table.specs.Found.{Adds, Tells, SomeGives};
-ghost use Rattle.life_table.specs.Orders.{turns, reflected_turns, family};
-ghost use Rattle.life_table.specs.Seen.{places};
-ghost use Rattle.life_table.specs.Site.{IsSite, IsLineAt, GoesRound, centre_of, others_of};
+ghost use Rattle.life_table.specs.Words.{bit_at, Adds, Tells, SomeGives, turns, reflected_turns, family, places, IsSite, IsLineAt, GoesRound, centre_of, others_of};
 
 use crate::choose::with_image;
 use crate::found::Found;

@@ -1,8 +1,6 @@
 //! What a line asks of the neighbours once its centre is known: settled inputs are one state, and the others are grouped by their variable.
 ghost use Rattle.std.specs.Prelude.{◌≡◌, ℕ, ◌+◌, ◌^◌, ◌<◌, ◌≤◌, length, take, All, IfSome};
-ghost use Rattle.std.specs.List.Sorted.{IsPermutation};
-ghost use Rattle.life_table.specs.Meaning.{count_of};
-ghost use Rattle.life_table.specs.Taking.{free_count, settled, settled_count, add_to, IsGrouped};
+ghost use Rattle.life_table.specs.Words.{IsPermutation, count_of, free_count, settled, settled_count, add_to, IsGrouped};
 
 use crate::places::{all_free, without_one};
 use crate::table::Entry;

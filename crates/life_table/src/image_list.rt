@@ -1,7 +1,6 @@
 //! The images of a cell's neighbours, one after another.
 ghost use Rattle.std.specs.Prelude.{◌≡◌, ℕ, ◌-◌, ◌/◌, ◌*◌, ◌<◌, ◌≤◌, ◌∷◌, [], List, Contains, take, drop, length, slice_index, slice_index_or};
-ghost use Rattle.life_table.specs.Orders.{family};
-ghost use Rattle.life_table.specs.Index.{IsImage};
+ghost use Rattle.life_table.specs.Words.{family, IsImage};
 
 use crate::turn::{Turns, image_of};
 use life_base::State;

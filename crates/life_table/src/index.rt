@@ -1,12 +1,6 @@
 //! A table with an index of its lines.
-ghost use Rattle.std.specs.Prelude.{◌≡◌, ℕ, ◌+◌, ◌*◌, ◌<◌, ◌≤◌, ◌∷◌, [], List, Contains, length, take, drop, All, Option, MatchOption, MatchResult, slice_index, slice_index_or};
-ghost use Rattle.std.specs.Int.{bit_at};
-ghost use Rattle.life_table.specs.Meaning.{Gives, GivesNothing, Decides, Becomes, Ambiguous};
-ghost use Rattle.life_table.specs.Valid.{neighbour_count};
-ghost use Rattle.life_table.specs.Around.{cells_of};
-ghost use Rattle.life_table.specs.Orders.{images};
-ghost use Rattle.life_table.specs.Index.{AnswersAmong, MayGive, MayFit, AreBlocks, IsQuery, Asks};
-ghost use Rattle.life_table.specs.Site.{IsSite, IsLineAt, GoesRound, TurnsAreImages, centre_of, others_of};
+ghost use Rattle.std.specs.Prelude.{◌≡◌, ℕ, ◌+◌, ◌*◌, ◌<◌, ◌≤◌, ◌∷◌, [], List, Contains, length, take, drop, All, Option, MatchResult, slice_index};
+ghost use Rattle.life_table.specs.Words.{bit_at, GivesNothing, Decides, Becomes, Ambiguous, neighbour_count, cells_of, images, AnswersAmong, MayGive, MayFit, AreBlocks, IsQuery, Asks, IsSite, IsLineAt, GoesRound, TurnsAreImages, centre_of, others_of};
 
 use crate::block::{Block, LINES};
 use crate::found::Found;

@@ -1,10 +1,7 @@
 //! What one line of a rule table's file says.
 
 ghost use Rattle.std.specs.Prelude.{◌≡◌, ◌≤◌, Ok, MatchOption, drop, true, false};
-ghost use Rattle.life_base.specs.Refusal.{Answers};
-ghost use Rattle.life_base.specs.Rules.{rule_of};
-ghost use Rattle.life_table.specs.Reading.{begins_rule_line, name_in, name_on, if_named, parse_line, parse_settled, parse_ahead, parse_in_table, parse_rest, is_described};
-ghost use Rattle.life_table.specs.Reader.{IsKept};
+ghost use Rattle.life_table.specs.Words.{Answers, rule_of, begins_rule_line, name_in, name_on, if_named, parse_line, parse_settled, parse_ahead, parse_in_table, parse_rest, is_described, IsKept};
 
 use crate::descriptors::parse_descriptor;
 use crate::directive::{Directive, Parsed, Section};

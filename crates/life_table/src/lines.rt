@@ -1,10 +1,7 @@
 //! The lines of a rule table's file, one after another.
 
 ghost use Rattle.std.specs.Prelude.{◌≡◌, OnOk, IfErr, None, Ok, Err, false};
-ghost use Rattle.life_base.specs.Refusal.{OrMemory};
-ghost use Rattle.life_base.specs.declared.kind.Kind.TheVariants.{Memory};
-ghost use Rattle.life_table.specs.Reading.{variable_named, parse_line};
-ghost use Rattle.life_table.specs.Reader.{IsKept, after, fits_after, nothing_parsed};
+ghost use Rattle.life_table.specs.Words.{OrMemory, variable_named, parse_line, IsKept, after, fits_after, nothing_parsed, IsMemory};
 
 use crate::by_name::Variables;
 use crate::directive::{Directive, Parsed, Section};
@@ -49,7 +46,7 @@ impl TableLines {
         ensures parsed { OnOk result (self.new.parsed ≡ after self.old.parsed directive) }
         ensures fits { OnOk result
             (self.new.fits ≡ fits_after self.old.fits self.old.parsed.vars directive) }
-        ensures err { IfErr result (λ kind. kind ≡ Memory) }
+        ensures err { IfErr result IsMemory }
     {
         match directive {
             Directive::Nothing => {}

@@ -1,10 +1,6 @@
 //! What a table makes of a cell and its neighbours.
 ghost use Rattle.std.specs.Prelude.{◌≡◌, ◌+◌, ◌<◌, length, drop, All, MatchResult, slice_index};
-ghost use Rattle.life_table.specs.Found.{Tells};
-ghost use Rattle.life_table.specs.Meaning.{Gives, Decides, Becomes, Ambiguous};
-ghost use Rattle.life_table.specs.Valid.{neighbour_count};
-ghost use Rattle.life_table.specs.Around.{cells_of};
-ghost use Rattle.life_table.specs.Site.{IsSite, IsLineAt, GoesRound, TurnsAreImages, centre_of, others_of};
+ghost use Rattle.life_table.specs.Words.{Tells, Gives, Decides, Becomes, Ambiguous, neighbour_count, cells_of, IsSite, IsLineAt, GoesRound, TurnsAreImages, centre_of, others_of};
 
 use crate::choose::{by_counts, can_be};
 use crate::fit::by_images;

@@ -1,6 +1,6 @@
 //! The neighbours that no input has taken yet: place `k` is free where bit `k` is set.
 ghost use Rattle.std.specs.Prelude.{◌≡◌, ℕ, ◌+◌, ◌-◌, ◌^◌, ◌<◌, ◌≤◌, length, IfSome};
-ghost use Rattle.life_table.specs.Taking.{free_count, of_state};
+ghost use Rattle.life_table.specs.Words.{free_count, of_state};
 
 use life_base::State;
 

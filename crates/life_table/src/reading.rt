@@ -1,11 +1,7 @@
 //! Rule tables, read.
 
 ghost use Rattle.std.specs.Prelude.{◌≡◌, IfOk, IfErr, Some, None, true};
-ghost use Rattle.life_base.specs.Refusal.{OrMemory};
-ghost use Rattle.life_base.specs.Text.{lines_of};
-ghost use Rattle.life_table.specs.Grammar.{IsFile};
-ghost use Rattle.life_table.specs.Reading.{lacking, is_table_kind, Refuses, Describes};
-ghost use Rattle.life_table.specs.Reader.{IsGood};
+ghost use Rattle.life_table.specs.Words.{OrMemory, lines_of, IsFile, lacking, is_table_kind, Refuses, Describes, IsGood};
 
 use crate::directive::{Parsed, Section};
 use crate::lines::TableLines;

@@ -1,8 +1,6 @@
 //! Which neighbours of a cell an entry may be. It is told once for a cell, since most lines fail by it.
 ghost use Rattle.std.specs.Prelude.{◌≡◌, ◌≢◌, ℕ, ◌%◌, ◌<◌, List, length, slice_index, slice_index_or, IsTrue};
-ghost use Rattle.std.specs.Int.{bit_at};
-ghost use Rattle.life_table.specs.Meaning.{has_state};
-ghost use Rattle.life_table.specs.Seen.{places, IsSeen};
+ghost use Rattle.life_table.specs.Words.{bit_at, has_state, places, IsSeen};
 
 use crate::choose::has_state;
 use crate::table::{Entry, Var};

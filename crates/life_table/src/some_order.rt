@@ -1,9 +1,7 @@
 //! The lines of a block that may give something in some order of the neighbours. However many of them have one of some states, as many inputs
 //! must be able to be one of these.
 ghost use Rattle.std.specs.Prelude.{◌≡◌, ℕ, ◌+◌, ◌*◌, ◌<◌, ◌≤◌, ◌∷◌, List, Contains, count_by, drop, length, slice_index};
-ghost use Rattle.std.specs.Int.{bit_at};
-ghost use Rattle.life_table.specs.Orders.{orders};
-ghost use Rattle.life_table.specs.Index.{Stay, is_among, AreCounts, KeepsOrders, MayBeBehind, MayFit, MayFitInSomeOrder};
+ghost use Rattle.life_table.specs.Words.{bit_at, orders, Stay, is_among, AreCounts, KeepsOrders, MayBeBehind, MayFit, MayFitInSomeOrder};
 
 use crate::block::Block;
 use life_base::State;

@@ -1,10 +1,7 @@
 //! Transitions of a rule table.
 
 ghost use Rattle.std.specs.Prelude.{◌≡◌, ◌≤◌, List, IfOk, IfErr, Some, true, not, ◌||◌};
-ghost use Rattle.std.specs.List.{list_any, list_all};
-ghost use Rattle.life_base.specs.declared.kind.Kind.TheVariants.{Memory};
-ghost use Rattle.life_table.specs.Reading.{transition_of, is_bound, if_transition};
-ghost use Rattle.life_table.specs.Valid.{neighbour_count, is_variable, allows_zero, fits_zero, is_quiet_output, is_quiet};
+ghost use Rattle.life_table.specs.Words.{list_any, list_all, transition_of, is_bound, if_transition, neighbour_count, is_variable, allows_zero, fits_zero, is_quiet_output, is_quiet, IsMemory};
 
 use crate::by_name::Variables;
 use crate::directive::Directive;
@@ -36,7 +33,7 @@ pub(crate) fn transition_of(
     requires most { n_states ≤ 256 }
     ensures ok { IfOk result (λ found. found ≡ transition_of n_states
         (neighbour_count neighborhood) vars.now number text.now) }
-    ensures err { IfErr result (λ kind. kind ≡ Memory) }
+    ensures err { IfErr result IsMemory }
 {
     let scope = Scope { n_states, vars };
     let Some(mut parts) = scope.entries_of(alloc, text)? else {

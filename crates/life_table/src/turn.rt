@@ -1,6 +1,6 @@
 //! The turned and reflected neighbours.
 ghost use Rattle.std.specs.Prelude.{◌≡◌, ◌≢◌, ℕ, ◌-◌, ◌/◌, ◌<◌, ◌≤◌, ◌∷◌, List, take, drop, length, slice_index, if◌then◌else◌};
-ghost use Rattle.life_table.specs.Orders.{turn, reflected_turn, images, family};
+ghost use Rattle.life_table.specs.Words.{turn, reflected_turn, images, family};
 
 use crate::table::Symmetry;
 use life_base::State;

@@ -1,9 +1,7 @@
 //! Variables of a rule table.
 
 ghost use Rattle.std.specs.Prelude.{◌≡◌, ◌≤◌, length, MatchOption, IfOk, IfErr, true, false};
-ghost use Rattle.std.specs.List.{list_all};
-ghost use Rattle.life_base.specs.declared.kind.Kind.TheVariants.{Memory};
-ghost use Rattle.life_table.specs.Reading.{is_variable_line, is_name_byte, is_variable_name, is_list, within_braces, variable_states, variable_of};
+ghost use Rattle.life_table.specs.Words.{list_all, is_variable_line, is_name_byte, is_variable_name, is_list, within_braces, variable_states, variable_of, IsMemory};
 
 use crate::by_name::Variables;
 use crate::entries::Scope;
@@ -83,7 +81,7 @@ pub(crate) fn variable_of(
     requires most { n_states ≤ 256 }
     requires long { 3 ≤ length text.now }
     ensures ok { IfOk result (λ found. found ≡ variable_of n_states vars.now text.now) }
-    ensures err { IfErr result (λ kind. kind ≡ Memory) }
+    ensures err { IfErr result IsMemory }
 {
     let (before, behind) = split_at_byte(&text[3..], b'=');
     let name = trimmed(before);

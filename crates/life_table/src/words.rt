@@ -1,10 +1,7 @@
 //! Parts of a line.
 
 ghost use Rattle.std.specs.Prelude.{◌≡◌, ◌<◌, ◌==◌, ◌∷◌, position, length, IfSome, bytes_eq};
-ghost use Rattle.std.specs.List.{list_any, before_first, after_first, slice_split};
-ghost use Rattle.std.specs.Str.{byte};
-ghost use Rattle.life_table.specs.Reading.{content, is_section_line, is_table_line, is_passed_over, number_below};
-ghost use Rattle.life_table.specs.Reader.{parts_left};
+ghost use Rattle.life_table.specs.Words.{list_any, before_first, after_first, slice_split, byte, content, is_section_line, is_table_line, is_passed_over, number_below, parts_left};
 
 use life_base::{begins_with, is_blank, is_whitespace, read_u64, trimmed};
 

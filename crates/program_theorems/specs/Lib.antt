@@ -2,3 +2,4 @@ pub mod Faults
 pub mod Forms
 pub mod Jobs
 pub mod Layers
+pub mod Words

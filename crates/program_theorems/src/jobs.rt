@@ -1,7 +1,7 @@
 //! The work of a job.
 
 ghost use Rattle.std.specs.Prelude.{◌≡◌, ◌⊎◌, ◌<◌, ◌++◌, ℕ, List, [], take, true, false, Some, IfSome, IsSomeAnd};
-ghost use Rattle.program_theorems.specs.Jobs.{HasSecond, IsGiven, Answers, IsShort, IsRefused, Holds};
+ghost use Rattle.program_theorems.specs.Words.{HasSecond, IsGiven, Answers, IsShort, IsRefused, Holds};
 
 use crate::laws::layers_agree;
 use life_base::{Sink, Source};

@@ -1,6 +1,6 @@
 //! What ties the definitions to those of the layers.
 
-ghost use Rattle.program_theorems.specs.Layers.{LayersAgree};
+ghost use Rattle.program_theorems.specs.Words.{LayersAgree};
 
 use life_canon::laws::{
     canonical_is_least, files_are_on_plane, files_are_unique, refusals_have_kinds,

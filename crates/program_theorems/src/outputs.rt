@@ -1,13 +1,7 @@
 //! What runs write.
 
 ghost use Rattle.std.specs.Prelude.{◌≡◌, ◌⊎◌, ◌↔◌, ◌<◌, ◌≤◌, ◌^◌, ◌++◌, ℕ, List, Some, Ok, IfOk};
-ghost use Rattle.claims.specs.Counting.{node_lines};
-ghost use Rattle.claims.specs.Files.{Same, pattern_of};
-ghost use Rattle.claims.specs.Pattern.{Pattern};
-ghost use Rattle.claims.specs.Shown.{IsShown};
-ghost use Rattle.program_theorems.specs.Jobs.{IsGiven, WritesCanonical};
-ghost use Rattle.life_cli.specs.declared.plans.Form.{Form as FormValue};
-ghost use Rattle.program_theorems.specs.Forms.{SameIn};
+ghost use Rattle.program_theorems.specs.Words.{node_lines, Same, pattern_of, Pattern, IsShown, IsGiven, WritesCanonical, FormValue, SameIn};
 
 use crate::laws::layers_agree;
 use life_base::{Fault, Sink, Source};

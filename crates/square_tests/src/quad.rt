@@ -2,7 +2,7 @@
 
 ghost use Rattle.std.specs.Prelude.{◌≡◌, ◌<◌, ◌≤◌, ◌-◌, ◌^◌, IfOk};
 ghost use Rattle.life_base.specs.Tree.{depth};
-ghost use Rattle.life_quad.specs.Keeping.{KeepsSquares};
+ghost use Rattle.life_quad.specs.Grows.{Keeps};
 
 use life_base::{Bounds, Cell, Kind, MAX_LEVEL, Run};
 use life_quad::{
@@ -36,7 +36,7 @@ fn put<S: Squares>(
     ensures level { IfOk result
         (λ r. depth (S.content squares.new r) ≡ depth (S.content squares.old root)) }
     ensures high { IfOk result (λ r. 1 ≤ depth (S.content squares.new r)) }
-    ensures keeps { KeepsSquares S.knows S.content S.stored S.most squares.old squares.new }
+    ensures keeps { Keeps S.Squares squares.old squares.new }
 {
     let level = squares.level(root);
     if level == 0 || len == 0 {
@@ -362,7 +362,7 @@ fn squares_have_quarters(rt: HostRuntime) {
 fn two<S: Squares>(squares: &mut S, bits: u8) -> Result<Id, Kind>
     ensures known { IfOk result (S.knows squares.new) }
     ensures level { IfOk result (λ r. depth (S.content squares.new r) ≡ 1) }
-    ensures keeps { KeepsSquares S.knows S.content S.stored S.most squares.old squares.new }
+    ensures keeps { Keeps S.Squares squares.old squares.new }
 {
     let nw = squares.cell(bits >> 3 & 1);
     let ne = squares.cell(bits >> 2 & 1);
@@ -375,7 +375,7 @@ fn two<S: Squares>(squares: &mut S, bits: u8) -> Result<Id, Kind>
 fn four<S: Squares>(squares: &mut S, bits: [u8; 4]) -> Result<Id, Kind>
     ensures known { IfOk result (S.knows squares.new) }
     ensures level { IfOk result (λ r. depth (S.content squares.new r) ≡ 2) }
-    ensures keeps { KeepsSquares S.knows S.content S.stored S.most squares.old squares.new }
+    ensures keeps { Keeps S.Squares squares.old squares.new }
 {
     let nw = two(squares, bits[0])?;
     let ne = two(squares, bits[1])?;

@@ -1,6 +1,6 @@
 //! Theorems that speak of no call.
 
-ghost use Rattle.theorems.specs.Patterns.{PatternsHaveFiles, PatternsOfFilesFit};
+ghost use Rattle.theorems.specs.Words.{PatternsHaveFiles, PatternsOfFilesFit};
 
 use life_canon::laws::{files_are_on_plane, texts_are_files};
 

@@ -1,8 +1,7 @@
 //! A file that comes from a source, and whose canonical text goes to a sink.
 
 ghost use Rattle.std.specs.Prelude.{◌≡◌, ◌≢◌, ◌⊎◌, ◌≤◌, ◌^◌, ◌++◌, ℕ, List, [], length, true, false, Some, IfOk, IfErr, IsErrAnd, OnOk};
-ghost use Rattle.claims.specs.Files.{Same};
-ghost use Rattle.theorems.specs.Streams.{IsStreamFault};
+ghost use Rattle.theorems.specs.Words.{Same, IsStreamFault};
 
 use crate::room::Room;
 use life_base::{Fault, Kind, Sink, Source};

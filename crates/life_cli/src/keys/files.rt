@@ -1,7 +1,7 @@
 //! What the files of the command `keys` come to.
 
 ghost use Rattle.std.specs.Prelude.{◌≡◌, IfErr, IfOk, Some, option_map};
-ghost use Rattle.life_cli.specs.KeyRuns.{Comes, LacksList, Listed, ReadsList, Takes};
+ghost use Rattle.life_cli.specs.Words.{Comes, LacksList, Listed, ReadsList, Takes};
 
 use super::key_of;
 use super::outcome::Outcome;

@@ -1,10 +1,7 @@
 //! The lines of the command `keys`.
 
-ghost use Rattle.std.specs.Prelude.{◌≡◌, ◌<◌, ◌≤◌, ◌⊎◌, [], ◌∷◌, ◌++◌, OnOk, IfErr, true, false, codes, length, drop, take, slice_index, nat_lt};
-ghost use Rattle.std.specs.List.{list_any};
-ghost use Rattle.life_base.specs.Writing.{LeavesSink, WritesText};
-ghost use Rattle.life_cli.specs.KeyRuns.{error_line};
-ghost use Rattle.life_cli.specs.Keys.{escaped, escaped_byte, fault_text, is_special, key_line, name_mark, reason_of, refused_line, unopened_line};
+ghost use Rattle.std.specs.Prelude.{◌≡◌, ◌<◌, ◌≤◌, ◌⊎◌, [], ◌∷◌, ◌++◌, OnOk, IfErr, true, codes, length, drop, take, slice_index, nat_lt};
+ghost use Rattle.life_cli.specs.Words.{list_any, LeavesSink, WritesText, error_line, escaped, escaped_byte, fault_text, is_special, key_line, name_mark, reason_of, refused_line, unopened_line, IsMemory};
 
 use super::outcome::Outcome;
 use crate::sentences::sentence;
@@ -53,7 +50,7 @@ fn first_piece(name: &[u8]) -> (&[u8], usize)
 /// Adds a name, with backslash, LF and CR escaped.
 fn append_escaped(line: &mut Vec<u8>, name: &[u8]) -> Result<(), Kind>
     ensures ok { OnOk result (line.new.items ≡ line.old.items ++ escaped name.now) }
-    ensures kind { IfErr result (λ kind. kind ≡ Kind.Memory) }
+    ensures kind { IfErr result IsMemory }
 {
     let mut rest = name;
     while !rest.is_empty() {
@@ -94,7 +91,7 @@ fn mark(name: &[u8]) -> &'static [u8]
 fn append_plain_line(line: &mut Vec<u8>, digits: &[u8], name: &[u8]) -> Result<(), Kind>
     ensures ok { OnOk result (line.new.items ≡ line.old.items ++ (name_mark name.now
         ++ (digits.now ++ (codes "  " ++ (escaped name.now ++ codes "\n"))))) }
-    ensures kind { IfErr result (λ kind. kind ≡ Kind.Memory) }
+    ensures kind { IfErr result IsMemory }
 {
     append(line, mark(name))?;
     append(line, digits)?;
@@ -107,7 +104,7 @@ fn append_plain_line(line: &mut Vec<u8>, digits: &[u8], name: &[u8]) -> Result<(
 fn append_zero_line(line: &mut Vec<u8>, digits: &[u8], name: &[u8]) -> Result<(), Kind>
     ensures ok { OnOk result (line.new.items
         ≡ line.old.items ++ (digits.now ++ (codes "  " ++ (name.now ++ 0 ∷ [])))) }
-    ensures kind { IfErr result (λ kind. kind ≡ Kind.Memory) }
+    ensures kind { IfErr result IsMemory }
 {
     append(line, digits)?;
     append(line, b"  ")?;
@@ -123,7 +120,7 @@ pub(super) fn append_key_line(
     zero: bool,
 ) -> Result<(), Kind>
     ensures ok { OnOk result (line.new.items ≡ line.old.items ++ key_line zero key.now name.now) }
-    ensures kind { IfErr result (λ kind. kind ≡ Kind.Memory) }
+    ensures kind { IfErr result IsMemory }
 {
     let mut digits = [0; 64];
     let _ = hex::encode_to_slice(key, &mut digits);

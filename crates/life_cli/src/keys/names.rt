@@ -1,7 +1,7 @@
 //! The names of a list.
 
 ghost use Rattle.std.specs.Prelude.{◌≡◌, ◌<◌, ◌∷◌, length};
-ghost use Rattle.life_cli.specs.Keys.{pieces_of};
+ghost use Rattle.life_cli.specs.Words.{pieces_of};
 
 use memchr::memchr;
 

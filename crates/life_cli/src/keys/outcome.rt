@@ -1,7 +1,7 @@
 //! What a file of the command `keys` comes to.
 
 ghost use Rattle.std.specs.Prelude.{◌≡◌};
-ghost use Rattle.life_cli.specs.KeyRuns.{outcome_status};
+ghost use Rattle.life_cli.specs.Words.{outcome_status};
 
 use crate::refusals::status;
 use life_base::Fault;

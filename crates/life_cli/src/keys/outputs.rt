@@ -1,11 +1,7 @@
 //! What a run of the command `keys` writes of its files.
 
 ghost use Rattle.std.specs.Prelude.{◌≡◌, true, false};
-ghost use Rattle.life_base.specs.Writing.{LeavesSink};
-ghost use Rattle.life_base.specs.DeviceRuns.{sink_run};
-ghost use Rattle.life_base.specs.Refusal.{fault_of};
-ghost use Rattle.life_cli.specs.Faults.{fault_line, refusal_of, status_of, Tells};
-ghost use Rattle.life_cli.specs.KeyRuns.{error_line, IsToldAs, outcome_status, output_line, TellsOn, Writes};
+ghost use Rattle.life_cli.specs.Words.{LeavesSink, sink_run, fault_of, fault_line, refusal_of, status_of, Tells, error_line, IsToldAs, outcome_status, output_line, TellsOn, Writes};
 
 use super::lines::{append_key_line, write_error_line};
 use super::outcome::Outcome;

@@ -1,10 +1,7 @@
 //! The command `keys`: its files, one after another.
 
 ghost use Rattle.std.specs.Prelude.{◌≡◌, OnOk, false, true, map};
-ghost use Rattle.life_base.specs.DeviceRuns.{sink_run};
-ghost use Rattle.life_base.specs.Writing.{LeavesSink};
-ghost use Rattle.life_cli.specs.Keys.{IsStatus, end_of};
-ghost use Rattle.life_cli.specs.KeyRuns.{Listed, names_among, names_in, Ran, TakesNames, Word};
+ghost use Rattle.life_cli.specs.Words.{sink_run, LeavesSink, IsStatus, end_of, Listed, names_among, names_in, Ran, TakesNames, Word};
 
 use super::files::Files;
 use super::names::first_name;

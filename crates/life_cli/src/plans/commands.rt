@@ -1,8 +1,8 @@
 //! The commands, as `clap` reads them.
 
 ghost use Rattle.std.specs.Prelude.{IfOk, codes, map};
-ghost use Rattle.clap.specs.Words.{App, Rule, HasMatchesOf, FailsBy, fault_of, new_app, with_rule, with_subcommand};
-ghost use Rattle.life_cli.specs.CommandLine.{required_file, option, required_option, one_file_line, two_files_line, canon_line, convert_line, same_line, step_line, files_rule, files_line, flag, keys_line, named, program, HasRule, ReadsAs};
+ghost use Rattle.clap.specs.Words.{fault_of};
+ghost use Rattle.life_cli.specs.Words.{App, Rule, HasMatchesOf, FailsBy, new_app, with_rule, with_subcommand, required_file, option, required_option, one_file_line, two_files_line, canon_line, convert_line, same_line, step_line, files_rule, files_line, flag, keys_line, named, program, HasRule, ReadsAs};
 
 use super::help::{CANON, CONVERT, Help, KEYS, PROGRAM, SAME, SHOW, STEP};
 use clap::{Arg, ArgAction, ArgMatches, Command, Error};

@@ -1,12 +1,8 @@
 //! The plan that the words ask for.
 
 ghost use Rattle.std.specs.Prelude.{◌≡◌, ◌≢◌, ◌↔◌, ◌<◌, ◌^◌, [], IfOk, IfErr, OnOk, Some, IsSome, IsTrue, MatchOption, map, option_map, string_bytes, codes, count_by};
-ghost use Rattle.std.specs.Str.{bytes_eq};
-ghost use Rattle.clap.specs.Words.{fault_of, found_of, first_of, rows_of, subcommand_of, subcommand_rows_of};
-ghost use Rattle.life_cli.specs.CommandLine.{program};
-ghost use Rattle.life_cli.specs.Plans.{AreOfJob, AreWhole, IfWork, IsFound, IsPlanOf, IsRequestOf, HasNoForm, HasNoFormat, HasSecond, HoldsFile, HoldsFiles, HoldsFlag, HoldsForm, HoldsKeys, NamesInputTwice, Explains, ExplainsPlan, RefusesAs, RefusesKeys, RefusesWord, form_word, input_count, input_count_under, target_word, values_of};
-ghost use Rattle.life_cli.specs.declared.plans.Form.{Form as FormValue};
-ghost use Rattle.life_cli.specs.declared.plans.Target.{Target as TargetValue};
+ghost use Rattle.life_cli.specs.Words.{bytes_eq, found_of, first_of, rows_of, subcommand_of, subcommand_rows_of, program, AreOfJob, AreWhole, IfWork, IsFound, IsPlanOf, IsRequestOf, HasNoForm, HasNoFormat, HasSecond, HoldsFile, HoldsFiles, HoldsFlag, HoldsForm, HoldsKeys, NamesInputTwice, Explains, ExplainsPlan, RefusesAs, RefusesKeys, RefusesWord, form_word, input_count, input_count_under, target_word, values_of, FormValue, TargetValue};
+ghost use Rattle.clap.specs.Words.{fault_of};
 
 use super::commands::parse;
 use super::{Form, Job, KeysPlan, Plan, Request, Target, Usage};

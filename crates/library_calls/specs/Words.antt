@@ -1,0 +1,22 @@
+-- The words of the contracts of this crate.
+pub use Rattle.library_calls.specs.Answers.{IsCanonicalText, IsFresh, IsRleText, RefusesRleWithin, RefusesWithin, room_of}
+pub use Rattle.library_calls.specs.Comparing.{compared, ComparesWithin, IsTooSmallForBoth}
+pub use Rattle.library_calls.specs.ComparingInForm.{AreOneInForm, ComparesInForm, ComparesInNone, HasTooMany, RefusesEitherInForm}
+pub use Rattle.library_calls.specs.Forms.{IsTextOf, IsTextOfRead, RefusesPiece, RefusesTextOf, RefusesTextOfRead, text_in}
+pub use Rattle.library_calls.specs.InForm.{form_numbered, IsKeyInForm, IsTextInForm, RefusesInForm, TellsNoForm}
+pub use Rattle.library_calls.specs.Stepping.{RefusesStepByWithin, RefusesStepWithin, StepsByTable}
+pub use Rattle.library_calls.specs.Streams.{Ends, HasFault, HasText, IsFed, IsOpen, IsSpent, Opens, session_of, Takes, TellsEnd, TellsNothing, TellsPiece}
+pub use Rattle.library_calls.specs.Told.{Answers, Gives, Tells, told}
+pub use Rattle.library_calls.specs.declared.session.Form.{Form as FormValue}
+pub use Rattle.library_calls.specs.declared.session.Session.{Session as SessionValue}
+pub use Rattle.life_base.specs.Kinds.{kind_number}
+pub use Rattle.life_base.specs.Refusal.{fault_of}
+pub use Rattle.life_base.specs.declared.cell.TheConstants.{MAX_LEVEL}
+pub use Rattle.life_base.specs.declared.fault.Fault.{Fault as FaultValue}
+pub use Rattle.life_base.specs.declared.kind.Kind.TheVariants.{Full}
+pub use Rattle.life_canon.specs.Feeding.{RefusesFront}
+pub use Rattle.life_canon.specs.Files.{Accepted, Refuses}
+pub use Rattle.life_canon.specs.Store.{IsOfFile, IsRead, IsWant}
+pub use Rattle.life_canon.specs.Texts.{IsShown}
+pub use Rattle.life_quad.specs.Store.{held}
+pub use Rattle.life_step.specs.Stepped.{IsStepped, IsSteppedBy}
