@@ -39,7 +39,6 @@ impl Model for Shared {
     ghost invariant = { λ s. IsSound (record { nodes = s.nodes.keys; log = s.log.ids; limit = s.limit }) × IsShared (record { nodes = s.nodes.keys; log = s.log.ids; limit = s.limit }) × HasSeen (value_of s.seen) s.log.ids × (length s.log.ids ≡ length s.nodes.keys + s.small) × (s.levels.items ≡ levels_of s.nodes.keys) };
 }
 
-
 /// Makes room for the level of one more node, unless a store with so many squares and nodes takes no more of them: then it answers why.
 fn make_room(levels: &mut Vec<u8>, len: u64, nodes: u64, limit: u64) -> Option<Kind>
     requires { len ≤ limit }
