@@ -1,6 +1,11 @@
 //! What a store of squares offers.
 ghost use Rattle.std.specs.Prelude.{◌≡◌, ◌↔◌, ℕ, ◌<◌, ◌≤◌, List, [], ◌∷◌, ◌++◌, length, map, All, Err, MatchOption, IfSome, IfOk, IfErr, OnOk, OnErr};
-ghost use Rattle.life_quad.specs.Words.{Full, Memory, IdValue, Tree, point, quad, depth, blank, quarters, IsFull, two, four, SomePart, KeepsSquares, AddsOnly, IsWantKind};
+ghost use Rattle.life_base.specs.Tree.{Tree, point, quad, depth, blank, quarters, IsFull};
+ghost use Rattle.life_base.specs.declared.kind.Kind.TheVariants.{Full, Memory};
+ghost use Rattle.life_quad.specs.Keeping.{KeepsSquares, AddsOnly, IsWantKind};
+ghost use Rattle.life_quad.specs.Refused.{SomePart};
+ghost use Rattle.life_quad.specs.Store.{two, four};
+ghost use Rattle.life_quad.specs.declared.id.Id.{Id as IdValue};
 
 use crate::{Id, Seed};
 use life_base::{Kind, MAX_LEVEL, State};

@@ -1,6 +1,6 @@
 //! The values of a rule table.
 ghost use Rattle.std.proofs.Props.{props};
-ghost use Rattle.life_table.specs.Words.{IsSound};
+ghost use Rattle.life_table.specs.Valid.{IsSound};
 
 use life_base::{Items, Name, State};
 
