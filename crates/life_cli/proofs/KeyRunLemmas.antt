@@ -198,28 +198,16 @@ module _ {F R W E : Type 0} (step : F → Origin → Result (Opened R) IoError �
       (subst (λ l. TakesFiles step remaining held contents failures stalled form l rest' g h v w y z b c result) (sym split)
       (takes_one step remaining held contents failures stalled form name told rest' g h v w y z b c result these lines))
 
-  -- what was taken, where the output has the same text by another result
-  takes_as : (form : Form) (names rest : List Name) (f g : F) (u v w : W) (x y : E) (a b : Outputs) (r r' : Result (Unit {0}) Kind)
-      → ((text : List ℕ) → WritesText (held u) (held v) text r → WritesText (held u) (held w) text r')
-      → TakesFiles step remaining held contents failures stalled form names rest f g u v x y a b r
-      → TakesFiles step remaining held contents failures stalled form names rest f g u w x y a b r'
-  takes_as form names rest f g u v w x y a b r r' same p = record {
-    taken = p.taken;
-    split = p.split;
-    takes = p.takes;
-    writes = record { written = same _ p.writes.written; told = p.writes.told; status = p.writes.status };
-  }
-
   -- which error it is doesn't count
   pub takes_err : (form : Form) (names rest : List Name) (f g : F) (u v : W) (x y : E) (a b : Outputs) (k k' : Kind)
       → TakesFiles step remaining held contents failures stalled form names rest f g u v x y a b (Err k)
       → TakesFiles step remaining held contents failures stalled form names rest f g u v x y a b (Err k')
-  takes_err form names rest f g u v x y a b k k' = takes_as form names rest f g u v v x y a b (Err k) (Err k') (λ text written. written)
-
-  pub takes_ok : (form : Form) (names rest : List Name) (f g : F) (u v : W) (x y : E) (a b : Outputs) (done done' : Unit {0})
-      → TakesFiles step remaining held contents failures stalled form names rest f g u v x y a b (Ok done)
-      → TakesFiles step remaining held contents failures stalled form names rest f g u v x y a b (Ok done')
-  takes_ok form names rest f g u v x y a b done done' = takes_as form names rest f g u v v x y a b (Ok done) (Ok done') (λ text written. written)
+  takes_err form names rest f g u v x y a b k k' p = record {
+    taken = p.taken;
+    split = p.split;
+    takes = p.takes;
+    writes = record { written = p.writes.written; told = p.writes.told; status = p.writes.status };
+  }
 
   -- nor what follows
   pub takes_longer : (form : Form) (names rest more : List Name) (f g : F) (u v : W) (x y : E) (a b : Outputs) (result : Result (Unit {0}) Kind)
@@ -253,8 +241,12 @@ module _ {F R W E : Type 0} (step : F → Origin → Result (Opened R) IoError �
   pub takes_flushed : (form : Form) (names rest : List Name) (f g : F) (u v w : W) (x y : E) (a b : Outputs) (result : Result (Unit {0}) Kind)
       → TakesFiles step remaining held contents failures stalled form names rest f g u v x y a b (Ok tt) → Keeps (held v) (held w)
       → TakesFiles step remaining held contents failures stalled form names rest f g u w x y a b result
-  takes_flushed form names rest f g u v w x y a b result p keeps =
-      takes_as form names rest f g u v w x y a b (Ok tt) result (λ text written. at text result (appends_kept _ _ _ _ written keeps)) p
+  takes_flushed form names rest f g u v w x y a b result p keeps = record {
+    taken = p.taken;
+    split = p.split;
+    takes = p.takes;
+    writes = record { written = at _ result (appends_kept _ _ _ _ p.writes.written keeps); told = p.writes.told; status = p.writes.status };
+  }
     where
       at : (s : List ℕ) (r : Result (Unit {0}) Kind) → Appends (held u) (held w) s → WritesText (held u) (held w) s r
       at s (Ok done) all = all
