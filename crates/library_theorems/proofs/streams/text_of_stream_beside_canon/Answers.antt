@@ -8,8 +8,8 @@ pub returns-clause-text : goal.returns-clause-text
 returns-clause-text c = λ is cut opened status.
     let file = joined c.args.pieces.now in
     map_ok c.canon.result
-    (λ text canonical. text_so c.files_are_unique.ensures file text.items _ _ _ canonical (of_form is file (c.told_of_stream-opened.ensures.told opened)) status)
-    (rw cut at c.canon.ensures.text)
+    (λ text canonical. text_so c.files_are_unique.ensures file text.items _ _ _ canonical
+    (of_form is file (c.told_of_stream-opened.ensures.told opened)) status) (rw cut at c.canon.ensures.text)
 
 pub returns-clause-lines : goal.returns-clause-lines
 returns-clause-lines c = λ is cut opened status.
