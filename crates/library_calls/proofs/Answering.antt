@@ -1,5 +1,5 @@
 -- From what a call of the library answers to what its export tells.
-use Rattle.std.proofs.Common.{◌≡◌, ℕ, ◌+◌, ◌<◌, ◌^◌, ◌⊎◌, inl, inr, List, [], length, Option, Some, None, MatchOption, refl, sym, ap, ◌∙◌, subst, arith, Result, Ok, Err, IfOk, IfErr}
+use Rattle.std.proofs.Common.{◌≡◌, ℕ, ◌+◌, ◌<◌, ◌⊎◌, inl, inr, List, [], length, Option, Some, MatchOption, refl, sym, ap, ◌∙◌, subst, arith, Result, Ok, Err, IfOk, IfErr}
 use Rattle.std.specs.Prelude.{◌↔◌, Bool, true, false, IsTrue, if◌then◌else◌}
 use Rattle.life_base.specs.Refusal.{fault_of}
 use Rattle.life_base.specs.declared.cell.TheConstants.{MAX_LEVEL}
@@ -95,6 +95,3 @@ placed-compares limit first second it (in_form.by_fault fault status line is_sam
 -- a form that has the number, and none that has
 pub at-form : {X : Type 0} (form : Option X) (A : Type 0) (B : X → Type 0) (x : X) → form ≡ Some x → B x → MatchOption form A B
 at-form form A B x is b = subst (λ o. MatchOption o A B) (sym is) b
-
-pub at-none : {X : Type 0} (form : Option X) (A : Type 0) (B : X → Type 0) → form ≡ None → A → MatchOption form A B
-at-none form A B is a = subst (λ o. MatchOption o A B) (sym is) a

@@ -25,7 +25,7 @@ use Rattle.life_forms.specs.Images.{IsTurnedText}
 use Rattle.life_forms.specs.Needed.{HasFewCells, LacksForMoved}
 use Rattle.life_forms.proofs.PatternFacts.{root-high}
 use Rattle.life_forms.proofs.PlaneFacts.{are-cells}
-use Rattle.library_calls.specs.Answers.{room_of, IsTooSmallFor}
+use Rattle.library_calls.specs.Answers.{room_of}
 use Rattle.library_calls.specs.Comparing.{IsTightForBoth, IsTooSmallForBoth}
 use Rattle.library_calls.specs.ComparingInForm.{AreOfOneGeneration, EitherHasMany, HasTooMany, SayRelated, RefusesEitherInForm, LacksForEitherMoved}
 use Rattle.library_calls.specs.InForm.{IsTextMoved, IsTextTurned, RefusesInForm}
@@ -82,11 +82,8 @@ not-more unique fit bytes store pattern read few more =
     let same = unique (lines_of bytes) more.1.universe (universe_in store pattern) more.1.reads (reads-it fit bytes store pattern read) in
     let are : AreCellsOf (tree_cell t) more.0 = subst (λ (u : Universe). AreCellsOf u.cell more.0) same more.1.are in
     let list : IsCellList t more.0 = record { in_order = are.in_order; true_cells = are.true_cells; all_cells = are.all_cells } in
-    above-none (population t) (2 ^ 20) few
-    (subst (λ (n : ℕ). 2 ^ 20 < n) (list_is_population t more.0 full (root-high pattern.rule _ trimmed.level) list) more.2)
-  where
-    above-none : (n most : ℕ) → n ≤ most → most < n → ⊥
-    above-none n most h l = omega (arith, h, l)
+    let counted = list_is_population t more.0 full (root-high pattern.rule _ trimmed.level) list in
+    omega (arith, few, counted, more.2)
 
 -- ---- the text in a form
 

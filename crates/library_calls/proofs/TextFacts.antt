@@ -1,5 +1,5 @@
 -- The text of a pattern that was read into a store, in each form.
-use Rattle.std.proofs.Common.{◌≡◌, ℕ, ◌<◌, ◌≤◌, ◌^◌, ◌∙◌, ap, subst, sym, List, ◌⊎◌, inl, inr, Some, Result, Ok, Err, IfOk, IfErr}
+use Rattle.std.proofs.Common.{◌≡◌, ℕ, ◌<◌, ◌≤◌, ◌^◌, ◌∙◌, subst, sym, List, ◌⊎◌, inl, inr, Some, Result, IfOk, IfErr}
 use Rattle.life_base.specs.Refusal.{fault_of}
 use Rattle.life_base.specs.Rules.{IsRule}
 use Rattle.life_base.specs.declared.cell.TheConstants.{MAX_LEVEL}

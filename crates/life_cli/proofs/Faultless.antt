@@ -1,5 +1,5 @@
 -- What words have in which `clap` finds no fault.
-use Rattle.std.proofs.Common.{◌≡◌, ◌<◌, ◌++◌, ◌&&◌, ◌||◌, ◌⊎◌, inl, inr, not, cond, ℕ, Bool, true, false, zero, suc, refl, sym, ap, subst, arith, List, [], ◌∷◌, length, Option, Some, None, is_some, IsSome, codes, option_map, find, fold}
+use Rattle.std.proofs.Common.{◌≡◌, ◌<◌, ◌++◌, ◌&&◌, ◌||◌, ◌⊎◌, inl, inr, ◌∙◌, not, cond, ℕ, Bool, true, false, zero, suc, refl, sym, ap, subst, arith, List, [], ◌∷◌, length, Option, Some, None, is_some, IsSome, codes, option_map, find, fold}
 use Rattle.std.specs.Prelude.{option_and_then, slice_get, drop, encode_utf8, unwrap_or}
 use Rattle.std.specs.Option.{option_map_or}
 use Rattle.std.specs.Str.{bytes_eq, chars}
@@ -400,10 +400,6 @@ leaf_filled s words all none =
 
 -- ---- the commands
 
--- what is wanted of a leaf that asks for nothing more was given
-abbrev IsGiven : Text → List Row → Type 0
-IsGiven id rows = is_given id rows ≡ true
-
 one_given : (given rest : Bool) → check_kinds false false (not given || rest) ≡ [] → given ≡ true
 one_given true rest none = refl
 one_given false rest none = absurd (some_kind _ _ none)
@@ -412,6 +408,24 @@ two_given : (a b rest : Bool) → check_kinds false false (not a || (not b || re
 two_given true true rest none = (refl, refl)
 two_given true false rest none = absurd (some_kind _ _ none)
 two_given false b rest none = absurd (some_kind _ _ none)
+
+-- what is wanted of a leaf that asks for nothing more was given, and has a value
+module _ (words : List Text) (s : Shape) (all : ArePlain s.rules) (none : level_fault s [] nothing_held words false [] ≡ []) (rest : Bool) where
+  one_there : (id : Text)
+      → check_fault s (rows_after s.rules [] words) false ≡ check_kinds false false (not (is_given id (rows_after s.rules [] words)) || rest)
+      → IsSome (first_of id (rows_after s.rules [] words))
+  one_there id wants =
+      let filled = leaf_filled s words all none in
+      given_first id _ filled.0 (one_given (is_given id (rows_after s.rules [] words)) rest (sym wants ∙ filled.1))
+
+  two_there : (a b : Text) → check_fault s (rows_after s.rules [] words) false
+      ≡ check_kinds false false (not (is_given a (rows_after s.rules [] words)) || (not (is_given b (rows_after s.rules [] words)) || rest))
+      → IsSome (first_of a (rows_after s.rules [] words)) × IsSome (first_of b (rows_after s.rules [] words))
+  two_there a b wants =
+      let rows = rows_after s.rules [] words in
+      let filled = leaf_filled s words all none in
+      let given = two_given (is_given a rows) (is_given b rows) rest (sym wants ∙ filled.1) in
+      (given_first a rows filled.0 given.0, given_first b rows filled.0 given.1)
 
 -- the line of a command as the program builds it
 abbrev leaf : App → Shape
@@ -422,49 +436,29 @@ IsWholeAt words s = level_fault s [] nothing_held words false [] ≡ [] → AreW
 
 canon_whole : (words : List Text) → IsWholeAt words (leaf canon_line)
 canon_whole words none =
-    let s = leaf canon_line in
-    let all : ArePlain s.rules = ((refl, inl (refl, omega arith)), ((refl, inl (refl, omega arith)), ((refl, inr refl), tt))) in
-    let filled = leaf_filled s words all none in
-    let rows = rows_after s.rules [] words in
-    let given = one_given (is_given (codes "FILE") rows) _ filled.1 in
-    inl (Canon Placed, refl, given_first (codes "FILE") rows filled.0 given)
+    let all : ArePlain (leaf canon_line).rules = ((refl, inl (refl, omega arith)), ((refl, inl (refl, omega arith)), ((refl, inr refl), tt))) in
+    inl (Canon Placed, refl, one_there words (leaf canon_line) all none _ (codes "FILE") refl)
 
 show_whole : (words : List Text) → IsWholeAt words (leaf (one_file_line (codes "show")))
 show_whole words none =
-    let s = leaf (one_file_line (codes "show")) in
-    let all : ArePlain s.rules = ((refl, inl (refl, omega arith)), ((refl, inr refl), tt)) in
-    let filled = leaf_filled s words all none in
-    let rows = rows_after s.rules [] words in
-    let given = one_given (is_given (codes "FILE") rows) _ filled.1 in
-    inl (Show, refl, given_first (codes "FILE") rows filled.0 given)
+    let all : ArePlain (leaf (one_file_line (codes "show"))).rules = ((refl, inl (refl, omega arith)), ((refl, inr refl), tt)) in
+    inl (Show, refl, one_there words (leaf (one_file_line (codes "show"))) all none _ (codes "FILE") refl)
 
 step_whole : (words : List Text) → IsWholeAt words (leaf step_line)
 step_whole words none =
-    let s = leaf step_line in
-    let all : ArePlain s.rules = ((refl, inl (refl, omega arith)), ((refl, inl (refl, omega arith)), ((refl, inr refl), tt))) in
-    let filled = leaf_filled s words all none in
-    let rows = rows_after s.rules [] words in
-    let given = one_given (is_given (codes "FILE") rows) _ filled.1 in
-    inl (StepJob, refl, given_first (codes "FILE") rows filled.0 given)
+    let all : ArePlain (leaf step_line).rules = ((refl, inl (refl, omega arith)), ((refl, inl (refl, omega arith)), ((refl, inr refl), tt))) in
+    inl (StepJob, refl, one_there words (leaf step_line) all none _ (codes "FILE") refl)
 
 convert_whole : (words : List Text) → IsWholeAt words (leaf convert_line)
 convert_whole words none =
-    let s = leaf convert_line in
-    let all : ArePlain s.rules = ((refl, inl (refl, omega arith)), ((refl, inl (refl, omega arith)), ((refl, inr refl), tt))) in
-    let filled = leaf_filled s words all none in
-    let rows = rows_after s.rules [] words in
-    let given = two_given (is_given (codes "FILE") rows) (is_given (codes "to") rows) _ filled.1 in
-    inl (Convert Rle, refl, (given_first (codes "FILE") rows filled.0 given.0, given_first (codes "to") rows filled.0 given.1))
+    let all : ArePlain (leaf convert_line).rules = ((refl, inl (refl, omega arith)), ((refl, inl (refl, omega arith)), ((refl, inr refl), tt))) in
+    inl (Convert Rle, refl, two_there words (leaf convert_line) all none _ (codes "FILE") (codes "to") refl)
 
 same_whole : (words : List Text) → IsWholeAt words (leaf same_line)
 same_whole words none =
-    let s = leaf same_line in
-    let all : ArePlain s.rules =
+    let all : ArePlain (leaf same_line).rules =
     ((refl, inl (refl, omega arith)), ((refl, inl (refl, omega arith)), ((refl, inl (refl, omega arith)), ((refl, inr refl), tt)))) in
-    let filled = leaf_filled s words all none in
-    let rows = rows_after s.rules [] words in
-    let given = two_given (is_given (codes "A") rows) (is_given (codes "B") rows) _ filled.1 in
-    inl (Same Placed, refl, (given_first (codes "A") rows filled.0 given.0, given_first (codes "B") rows filled.0 given.1))
+    inl (Same Placed, refl, two_there words (leaf same_line) all none _ (codes "A") (codes "B") refl)
 
 keys_whole : (words : List Text) → IsWholeAt words (leaf keys_line)
 keys_whole words none = inr refl

@@ -31,9 +31,6 @@ deep : (rule : Rule) (n : ℕ) → least_level rule ≤ n → 1 ≤ n
 deep (Life sets) n h = omega (arith, h)
 deep (Named name) n h = h
 
-not_above : (n most : ℕ) → n ≤ most → most < n → ⊥
-not_above n most h l = omega (arith, h, l)
-
 module _ (fit : PatternsFit MAX_LEVEL) (store : Nodes) (pattern : Pattern) where
   said : (bytes : List ℕ) (read : IsRead MAX_LEVEL bytes store pattern) → read.universe ≡ universe_in store pattern
   said bytes read = one_universe read.universe (universe_in store pattern) (fit bytes store pattern read).1
@@ -71,8 +68,8 @@ module _ (fit : PatternsFit MAX_LEVEL) (store : Nodes) (pattern : Pattern) where
       let same = unique (lines_of bytes) more.1.universe read.universe more.1.reads read.reads ∙ said bytes read in
       let are : AreCellsOf (tree_cell t) more.0 = subst (λ (u : Universe). AreCellsOf u.cell more.0) same more.1.are in
       let list : IsCellList t more.0 = record { in_order = are.in_order; true_cells = are.true_cells; all_cells = are.all_cells } in
-      not_above (population t) (2 ^ 20) few
-      (subst (λ (n : ℕ). 2 ^ 20 < n) (list_is_population t more.0 (full bytes read) (high bytes read) list) more.2)
+      let counted = list_is_population t more.0 (full bytes read) (high bytes read) list in
+      omega (arith, few, counted, more.2)
 
   -- a text of the pattern is that of its file
   pub placed_text : {X : Type 0} (items : X → List ℕ) (r : Result X Fault) → IfOk r (λ x. items x ≡ canon_text MAX_LEVEL (universe_in store pattern))

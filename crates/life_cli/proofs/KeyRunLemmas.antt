@@ -209,16 +209,6 @@ module _ {F R W E : Type 0} (step : F → Origin → Result (Opened R) IoError �
     writes = record { written = p.writes.written; told = p.writes.told; status = p.writes.status };
   }
 
-  pub takes_ok : (form : Form) (names rest : List Name) (f g : F) (u v : W) (x y : E) (a b : Outputs) (done done' : Unit {0})
-      → TakesFiles step remaining held contents failures stalled form names rest f g u v x y a b (Ok done)
-      → TakesFiles step remaining held contents failures stalled form names rest f g u v x y a b (Ok done')
-  takes_ok form names rest f g u v x y a b done done' p = record {
-    taken = p.taken;
-    split = p.split;
-    takes = p.takes;
-    writes = record { written = p.writes.written; told = p.writes.told; status = p.writes.status };
-  }
-
   -- nor what follows
   pub takes_longer : (form : Form) (names rest more : List Name) (f g : F) (u v : W) (x y : E) (a b : Outputs) (result : Result (Unit {0}) Kind)
       → TakesFiles step remaining held contents failures stalled form names rest f g u v x y a b result

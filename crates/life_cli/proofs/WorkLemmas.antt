@@ -16,7 +16,7 @@ use Rattle.life_base.specs.declared.rule.Rule.{Rule}
 use Rattle.life_quad.specs.Store.{Nodes}
 use Rattle.life_canon.specs.Files.{Accepted, Reads, Refuses, is_file_kind}
 use Rattle.life_canon.specs.Laws.{RefusalsHaveKinds}
-use Rattle.life_canon.specs.Running.{HasRead, ReadRefuses, LacksForRead}
+use Rattle.life_canon.specs.Running.{HasRead, ReadRefuses, ReadsPattern, LacksForRead}
 use Rattle.life_canon.specs.Running as reading
 use Rattle.life_canon.specs.Store.{IsRead, IsWant, content}
 use Rattle.life_canon.specs.Texts.{HasMoreCells, IsRleOf, IsShown}
@@ -167,11 +167,14 @@ text_of_pattern gives items source store pattern (Err fault) has is = tt
 
 -- nothing comes of a file whose pattern wasn't read
 pub nothing_comes : {X : Type 0} (items : X → List ℕ) (gives : List ℕ → List ℕ → Type 0) (refuses : List ℕ → Fault → Type 0) (source : SourceRun)
-    (store : Nodes) (fault : Fault) → store.limit ≡ 2 ^ 31 → ((bytes : List ℕ) → Refuses MAX_LEVEL bytes fault → refuses bytes fault)
-    → ReadRefuses MAX_LEVEL (2 ^ 30) store source fault → (fault ≡ fault_of Full → LacksForRead MAX_LEVEL (2 ^ 30) store source)
-    → (source.failures ≡ 1 → fault.kind ≡ ReadFault) → ComesOf items gives refuses source (Err fault)
-nothing_comes items gives refuses source store fault limit f reading lacks told =
-    record { ok = tt; err = no_pattern refuses source store fault limit f reading lacks; told = told }
+    (old new : Nodes) (fault : Fault) → old.limit ≡ 2 ^ 31 → ((bytes : List ℕ) → Refuses MAX_LEVEL bytes fault → refuses bytes fault)
+    → ReadsPattern (2 ^ 30) old new source (Err fault) → ComesOf items gives refuses source (Err fault)
+nothing_comes items gives refuses source old new fault limit f read = record {
+  ok = tt;
+  err = no_pattern refuses source new fault (read.reads.keeps.limit ∙ limit) f read.fault
+      (λ full. read.reads.needed (ap (λ (e : Fault). Err e) full));
+  told = read.reads.told;
+}
 
 -- what a call on the pattern of a file answers comes of the file
 pub comes_of_pattern : {X : Type 0} (items : X → List ℕ) (gives : List ℕ → List ℕ → Type 0) (refuses : List ℕ → Fault → Type 0) (source : SourceRun)
@@ -451,57 +454,10 @@ ran_done job first second output made makes written works = record {
   write_told = works;
 }
 
--- what is told of a source is told of one that may be absent
-pub some_told : {B : Type 0} (failures : B → ℕ) (o : Option B) (P : Type 0) → (option_map_or failures o 0 ≡ 1 → P) → IfSome o (λ b. failures b ≡ 1 → P)
-some_told failures None P told = tt
-some_told failures (Some b) P told = told
-
 -- the status of a fault
 pub fault_status : (kind : Kind) → (status_of kind ≡ 2) ⊎ ((status_of kind ≡ 3) ⊎ (status_of kind ≡ 4))
-fault_status kinds.NoHeader = inl refl
-fault_status kinds.BadHeader = inl refl
-fault_status kinds.BadRule = inl refl
-fault_status kinds.BoundedGrid = inl refl
-fault_status kinds.UnsupportedRule = inl refl
-fault_status kinds.BirthOnZero = inl refl
-fault_status kinds.BadNumber = inl refl
-fault_status kinds.TooLarge = inl refl
-fault_status kinds.BadItem = inl refl
-fault_status kinds.ZeroCount = inl refl
-fault_status kinds.StateRange = inl refl
-fault_status kinds.OutOfPlane = inl refl
-fault_status kinds.LateHeader = inl refl
-fault_status kinds.SecondHeader = inl refl
-fault_status kinds.BadNode = inl refl
-fault_status kinds.BadLevel = inl refl
-fault_status kinds.BadChild = inl refl
-fault_status kinds.BadLeaf = inl refl
-fault_status kinds.Timeline = inl refl
-fault_status kinds.LineTooLong = inl refl
 fault_status kinds.Full = inr (inr refl)
 fault_status kinds.Memory = inr (inr refl)
-fault_status kinds.Spent = inl refl
-fault_status kinds.NoRuleLine = inl refl
-fault_status kinds.NoTable = inl refl
-fault_status kinds.BadDescriptor = inl refl
-fault_status kinds.UnsupportedNeighborhood = inl refl
-fault_status kinds.UnsupportedSymmetry = inl refl
-fault_status kinds.BadVariable = inl refl
-fault_status kinds.BadTransition = inl refl
-fault_status kinds.UnboundOutput = inl refl
-fault_status kinds.NotQuiet = inl refl
-fault_status kinds.RuleMismatch = inl refl
-fault_status kinds.NeedsTable = inl refl
-fault_status kinds.Ambiguous = inl refl
-fault_status kinds.TooManyCells = inl refl
-fault_status kinds.GenerationTooLarge = inl refl
-fault_status kinds.StateBeyondTable = inl refl
 fault_status kinds.ReadFault = inr (inl refl)
 fault_status kinds.WriteFault = inr (inl refl)
-fault_status kinds.InputTooLong = inl refl
-
-pub fault_above : (kind : Kind) → 1 < status_of kind
-fault_above kind = elim (fault_status kind) [
-  | inl is ↦ omega (arith, is)
-  | inr other ↦ elim other [ inl is ↦ omega (arith, is) | inr is ↦ omega (arith, is) ]
-]
+fault_status kind = inl refl

@@ -35,24 +35,7 @@ fn placed_key<A: Source>(alloc: Global, seeds: &Seeds, source: &mut A) -> Result
     Ok(sink.key())
 }
 
-/// The same in a form, by the text, which is held.
-fn key_of_text<A: Source>(
-    alloc: Global,
-    seeds: &Seeds,
-    form: Form,
-    source: &mut A,
-) -> Result<[u8; 32], Fault>
-    requires { A.failures source.old ≡ 0 }
-    ensures { ComesOf (λ key. key) (IsKeyIn form MAX_LEVEL) (RefusesInForm form)
-        (source_run A.remaining A.failures source.old source.new) result }
-{
-    match text_of_source(alloc, seeds, form, source) {
-        Ok(text) => Ok(Sha256::digest(text.as_slice())),
-        Err(fault) => Err(fault),
-    }
-}
-
-/// The key of a source's pattern in a form.
+/// The key of a source's pattern in a form. The text of one that is moved or turned is held, and then hashed.
 pub(crate) fn key_of<A: Source>(
     alloc: Global,
     seeds: &Seeds,
@@ -65,6 +48,9 @@ pub(crate) fn key_of<A: Source>(
 {
     match form {
         Form::Placed => placed_key(alloc, seeds, source),
-        _ => key_of_text(alloc, seeds, form, source),
+        _ => match text_of_source(alloc, seeds, form, source) {
+            Ok(text) => Ok(Sha256::digest(text.as_slice())),
+            Err(fault) => Err(fault),
+        },
     }
 }

@@ -1,6 +1,7 @@
 -- What a job writes is what the bytes of its files ask for in the words of the claims.
-use Rattle.std.proofs.Common.{◌≡◌, ℕ, ◌^◌, List, [], refl, sym, subst, ◌⊎◌, inl, inr, ◌↔◌}
+use Rattle.std.proofs.Common.{◌≡◌, ℕ, ◌^◌, List, [], ◌++◌, refl, sym, subst, ◌⊎◌, inl, inr, ◌↔◌}
 use Rattle.std.specs.Prelude.{codes, Option, Some, None, Ok, IsSome, IfSome, IsSomeAnd, option_and_then}
+use Rattle.std.specs.Io.KnownBytes.{Appends}
 use Rattle.life_base.specs.DeviceRuns.{SourceRun}
 use Rattle.life_base.specs.Inputs.{ReadAll}
 use Rattle.life_base.specs.Text.{lines_of}
@@ -27,7 +28,7 @@ use Rattle.theorems.proofs.CanonicalLaw.{canonical_so}
 use Rattle.theorems.proofs.FileLaw.{texts_are_exact, same_to, rle_format}
 use Rattle.theorems.proofs.RefusalLaw.{accepted_is_ok}
 use Rattle.theorems.proofs.ShownLaw.{shown_is}
-use Rattle.theorems.proofs.StreamLaw.{all_read, at_end}
+use Rattle.theorems.proofs.StreamLaw.{all_read, appended, at_end}
 use Rattle.step_theorems.proofs.StepLaw.{stepped_is}
 use Rattle.step_theorems.proofs.StepBy.{stepped_text}
 use Rattle.program_theorems.specs.Jobs.{HasSecond, WritesCanonical, Answers, IsShort}
@@ -37,15 +38,19 @@ use Rattle.program_theorems.proofs.FormLaw.{few_to, moved_text_is, own_moved, ow
 
 -- ---- second files
 
-pub to_layer : (job : Job) → HasSecond job → LayerSecond job
+to_layer : (job : Job) → HasSecond job → LayerSecond job
 to_layer (jobs.Same form) h = tt
 to_layer jobs.StepTable h = tt
 to_layer _ h = h
 
-pub from_layer : (job : Job) → LayerSecond job → HasSecond job
+from_layer : (job : Job) → LayerSecond job → HasSecond job
 from_layer (jobs.Same form) h = tt
 from_layer jobs.StepTable h = tt
 from_layer _ h = h
+
+-- a second file is given where the job has one
+pub given_second : {P : Type 0} (job : Job) → P ↔ HasSecond job → P ↔ LayerSecond job
+given_second job given = (λ is. to_layer job (given.0 is), λ has. given.1 (from_layer job has))
 
 pub second_before : {B : Type 0} (remaining : B → Option (List ℕ)) (old : Option B) (other : List ℕ) → IfSome old (λ b. remaining b ≡ Some other) → IsSome old
     → option_and_then remaining old ≡ Some other
@@ -144,6 +149,13 @@ pub second_ended : (job : Job) (first second : SourceRun) (status : ℕ) (text :
 second_ended job first second status text h other has e = ended second other h.second_bytes (h.second_read (to_layer job has)) e
 
 -- ---- the texts of two runs
+
+-- what two runs wrote behind what their outputs held
+pub two_written : {R : List ℕ → List ℕ → Type 0} (old new other_old other_new : Option (List ℕ)) (held kept text other : List ℕ) → Appends old new text
+    → Appends other_old other_new other → old ≡ Some held → other_old ≡ Some kept → R text other
+    → (text : List ℕ) × (other : List ℕ) × (new ≡ Some (held ++ text)) × (other_new ≡ Some (kept ++ other)) × R text other
+two_written old new other_old other_new held kept text other one two e f related =
+    (text, other, appended old new held text one e, appended other_old other_new kept other two f, related)
 
 -- a canonical text is its own canonical text
 own_canonical : LayersAgree → (bytes text : List ℕ) → IsCanonical 62 bytes text → IsCanonical 62 text text

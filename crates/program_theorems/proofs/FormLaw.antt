@@ -87,6 +87,10 @@ turned_from p q u v one two a b s =
 
 -- ---- files
 
+-- the files of two patterns say what is related
+say_related : {L : Universe → Universe → Type 0} {a b : List ℕ} (u v : Universe) → Reads 62 a u → Reads 62 b v → L u v → SayRelated L 62 a b
+say_related u v h l related = record { first = u; second = v; reads_first = h; reads_second = l; related = related }
+
 related_to : {L : Universe → Universe → Type 0} {R : Pattern → Pattern → Type 0}
     → ((p q : Pattern) (u v : Universe) → Says p u → Says q v → L u v → R p q) → (a b : List ℕ) → SayRelated L 62 a b → AreRelated R a b
 related_to to a b s =
@@ -119,20 +123,8 @@ same_in_to Turned a b h = related_to turned_to a b h
 pub same_in_from : FilesAreOnPlane 62 → (form : Form) (a b : List ℕ) (u v : Universe) → Reads 62 a u → Reads 62 b v → SameIn form a b
     → AreSameIn form 62 a b
 same_in_from on_plane Placed a b u v h l s = same_from on_plane a b u v h l s
-same_in_from on_plane Moved a b u v h l s = record {
-  first = u;
-  second = v;
-  reads_first = h;
-  reads_second = l;
-  related = related_from on_plane shift_from a b u v h l s;
-}
-same_in_from on_plane Turned a b u v h l s = record {
-  first = u;
-  second = v;
-  reads_first = h;
-  reads_second = l;
-  related = related_from on_plane turned_from a b u v h l s;
-}
+same_in_from on_plane Moved a b u v h l s = say_related u v h l (related_from on_plane shift_from a b u v h l s)
+same_in_from on_plane Turned a b u v h l s = say_related u v h l (related_from on_plane turned_from a b u v h l s)
 
 -- a file that the layer finds to have few cells has not more
 few_in : (bytes : List ℕ) (u : Universe) → Reads 62 bytes u → ¬ LayerMoreCells 62 bytes (2 ^ 20) → SaysMoreCells (2 ^ 20) bytes → ⊥
@@ -152,13 +144,8 @@ either_few a b u v h l few (inr more) = few_in b v l (λ m. few (inr m)) more
 
 one_generation_from : FilesAreOnPlane 62 → (a b : List ℕ) (u v : Universe) → Reads 62 a u → Reads 62 b v
     → AreRelated (λ p q. p.generation ≡ q.generation) a b → SayRelated AreOfOneGeneration 62 a b
-one_generation_from on_plane a b u v h l s = record {
-  first = u;
-  second = v;
-  reads_first = h;
-  reads_second = l;
-  related = related_from on_plane (λ p q x y one two says also is. sym says.generation ∙ is ∙ also.generation) a b u v h l s;
-}
+one_generation_from on_plane a b u v h l s =
+    say_related u v h l (related_from on_plane (λ p q x y one two says also is. sym says.generation ∙ is ∙ also.generation) a b u v h l s)
 
 -- files of which the layer finds that neither has too many cells for a form have not too many
 pub few_to : FilesAreOnPlane 62 → (form : Form) (a b : List ℕ) (u v : Universe) → Reads 62 a u → Reads 62 b v → ¬ LayerTooMany form 62 a b
@@ -201,49 +188,25 @@ module _ (laws : LayersAgree) (file text : List ℕ) where
   pub moved_text_is : SaysText (IsMovedText 62) 62 file text → SameIn Moved file text × (SaysMoreCells (2 ^ 20) file → ⊥)
   moved_text_is h =
       let f = laws.moved_files file h.universe h.is.form h.reads h.is.moved in
-      let same : AreSameIn Moved 62 file text = record {
-        first = h.universe;
-        second = f.file;
-        reads_first = h.reads;
-        reads_second = subst (λ (t : List ℕ). Reads 62 t f.file) (sym h.is.is) f.reads;
-        related = f.shift;
-      } in
-      (same_in_to Moved file text same, few_in file h.universe h.reads h.few)
+      let reads = subst (λ (t : List ℕ). Reads 62 t f.file) (sym h.is.is) f.reads in
+      (same_in_to Moved file text (say_related h.universe f.file h.reads reads f.shift), few_in file h.universe h.reads h.few)
 
   pub turned_text_is : SaysText (IsTurnedText 62) 62 file text → SameIn Turned file text × (SaysMoreCells (2 ^ 20) file → ⊥)
   turned_text_is h =
       let f = laws.turned_files file h.universe h.is.form h.reads h.is.turned in
-      let same : AreSameIn Turned 62 file text = record {
-        first = h.universe;
-        second = f.file;
-        reads_first = h.reads;
-        reads_second = subst (λ (t : List ℕ). Reads 62 t f.file) (sym h.is.is) f.reads;
-        related = f.turned;
-      } in
-      (same_in_to Turned file text same, few_in file h.universe h.reads h.few)
+      let reads = subst (λ (t : List ℕ). Reads 62 t f.file) (sym h.is.is) f.reads in
+      (same_in_to Turned file text (say_related h.universe f.file h.reads reads f.turned), few_in file h.universe h.reads h.few)
 
 -- two texts in a form are equal exactly if the files are the same in it
 pub texts_tell_in : LayersAgree → (form : Form) (a b s t : List ℕ) → LayerTextIn form 62 a s → LayerTextIn form 62 b t → (s ≡ t) ↔ SameIn form a b
 texts_tell_in laws Placed a b s t c d = texts_are_exact laws.tell laws.on_plane a b s t c d
 texts_tell_in laws Moved a b s t c d =
     let law = laws.moved_tell a b c.universe d.universe c.is.form d.is.form c.reads d.reads c.is.moved d.is.moved in (
-      λ e. same_in_to Moved a b (record {
-        first = c.universe;
-        second = d.universe;
-        reads_first = c.reads;
-        reads_second = d.reads;
-        related = law.0 (sym c.is.is ∙ e ∙ d.is.is);
-      }),
+      λ e. same_in_to Moved a b (say_related c.universe d.universe c.reads d.reads (law.0 (sym c.is.is ∙ e ∙ d.is.is))),
       λ h. c.is.is ∙ law.1 (related_from laws.on_plane shift_from a b c.universe d.universe c.reads d.reads h) ∙ sym d.is.is,
     )
 texts_tell_in laws Turned a b s t c d =
     let law = laws.turned_tell a b c.universe d.universe c.is.form d.is.form c.reads d.reads c.is.turned d.is.turned in (
-      λ e. same_in_to Turned a b (record {
-        first = c.universe;
-        second = d.universe;
-        reads_first = c.reads;
-        reads_second = d.reads;
-        related = law.0 (sym c.is.is ∙ e ∙ d.is.is);
-      }),
+      λ e. same_in_to Turned a b (say_related c.universe d.universe c.reads d.reads (law.0 (sym c.is.is ∙ e ∙ d.is.is))),
       λ h. c.is.is ∙ law.1 (related_from laws.on_plane turned_from a b c.universe d.universe c.reads d.reads h) ∙ sym d.is.is,
     )

@@ -1,8 +1,9 @@
 -- The next state of a cell under a B/S rule is that of the layer below.
-use Rattle.std.proofs.Common.{◌≡◌, ℕ, ◌+◌, ◌^◌, ◌<◌, ◌≤◌, List, [], length, Bool, true, false, cond, ◌&&◌, ◌||◌, refl, ap, ◌∙◌, sym, arith}
+use Rattle.std.proofs.Common.{◌≡◌, ℕ, ◌+◌, ◌^◌, ◌<◌, ◌≤◌, List, [], length, Bool, true, false, cond, ◌&&◌, ◌||◌, refl, ap, ◌∙◌, arith}
 use Rattle.std.proofs.lemmas.List.Sums.{count_by-le-length}
 use Rattle.std.specs.Prelude.{filter, ◌==◌, nat_eq, count_by, ℤ}
 use Rattle.std.specs.List.{list_any}
+use Rattle.std.proofs.lemmas.Bool.{agree_below, agree_below_at}
 use Rattle.std.proofs.lemmas.Bool.Decides.{nat_tests}
 use Rattle.life_base.proofs.RoundTrip.{all_below, all_below_at}
 use Rattle.life_base.specs.Rules.{counts, has_digit, most_neighbours, IsLifeRule}
@@ -18,23 +19,12 @@ use Rattle.claims.specs.Generation.{next_life}
 abbrev in_list : ℕ → ℕ → Bool
 in_list set n = list_any (λ d. d == n) (filter (has_digit set) counts)
 
-abbrev same_bit : Bool → Bool → Bool
-same_bit true b = b
-same_bit false true = false
-same_bit false false = true
-
-each_in : all_below 512 (λ set. all_below 9 (λ n. same_bit (in_list set n) (has_digit set n))) ≡ true
+each_in : all_below 512 (λ set. agree_below (in_list set) (has_digit set) 9) ≡ true
 each_in = refl
 
-same_is : (a b : Bool) → same_bit a b ≡ true → a ≡ b
-same_is true true h = refl
-same_is true false h = sym h
-same_is false true h = h
-same_is false false h = refl
-
 in_is : (set n : ℕ) → set < 512 → n < 9 → in_list set n ≡ has_digit set n
-in_is set n h l = same_is _ _ (all_below_at 9 (λ k. same_bit (in_list set k) (has_digit set k)) n
-    (all_below_at 512 (λ s. all_below 9 (λ k. same_bit (in_list s k) (has_digit s k))) set each_in h) l)
+in_is set n h l =
+    agree_below_at (in_list set) (has_digit set) 9 n (all_below_at 512 (λ s. agree_below (in_list s) (has_digit s) 9) set each_in h) l
 
 -- the number of live neighbours
 ones_step : (n : ℕ) → (n == 1) ≡ nat_eq 1 n

@@ -39,27 +39,11 @@ use Rattle.claims.specs.Files.{IsWant as IsUnmet}
 use Rattle.claims.proofs.RuleLaw.{rule_in}
 use Rattle.theorems.proofs.FileLaw.{Agrees, files_agree}
 use Rattle.theorems.proofs.RefusalLaw.{refuses_agree, want_as}
+use Rattle.step_theorems.proofs.StepLaw.{none_some, passes, same_cells, some_of}
 use Rattle.table_laws.specs.Laws.{TablesRead, TablesDecide}
 use Rattle.table_laws.specs.Tables.{IsTable, answer_in}
 
--- ---- reasons, one after another
-
--- a reason that is not told does not hold
-passes : {P A B : Type 0} → IfElse P A B → (A → ⊥) → (P → ⊥) × B
-passes (inl h) never = absurd (never h.1)
-passes (inr h) never = h
-
-none_some : (f : Fault) → None ≡ Some f → ⊥
-none_some f e = cc
-
-same_fault : (a b : Fault) → Some a ≡ Some b → a ≡ b
-same_fault a b e = cc
-
 -- ---- cells
-
-cells_to : (c d : ℤ → ℤ → ℕ) (cells : List Cell) → c ≡ d → AreCells c cells → AreCellsOf d cells
-cells_to c d cells e h = subst (λ (f : ℤ → ℤ → ℕ). AreCellsOf f cells) e
-    (record { in_order = h.in_order; true_cells = h.true_cells; all_cells = h.all_cells })
 
 cells_from : (c d : ℤ → ℤ → ℕ) (cells : List Cell) → c ≡ d → AreCellsOf d cells → AreCells c cells
 cells_from c d cells e h = subst (λ (f : ℤ → ℤ → ℕ). AreCells f cells) (sym e)
@@ -128,7 +112,7 @@ module _ (decide : TablesDecide) (layer : LayerTable) (table : Table) (is : IsTa
           same_rule = q.rule ∙ ap rule_in step.same_rule ∙ sym p.rule;
           generation = q.generation ∙ step.generation ∙ ap (λ g. g + 1) (sym p.generation);
           room = λ e. room.0 (sym p.generation ∙ e);
-          few = λ m. few.0 (m.0, cells_to p.pattern.cell u.cell m.0 cells m.1, m.2);
+          few = λ m. few.0 (m.0, same_cells p.pattern.cell u.cell m.0 cells m.1, m.2);
           known = λ x y. subst (λ (o : Option ℕ). p.pattern.cell x y < unwrap_or o 0) (sym is.n_states)
               (below (p.pattern.cell x y) layer.n_states (λ l. known.0 (x, y, subst (λ n. layer.n_states ≤ n) (p.cells x y) l)));
           inside = λ x y e. zero (q.pattern.cell x y) (λ n. inside.0 (x, y, t.universe.cell x y, not_of_plane x y e, λ z. n (q.cells x y ∙ z), step.cells x y));
@@ -157,7 +141,7 @@ module _ (decide : TablesDecide) (layer : LayerTable) (table : Table) (is : IsTa
     Told f = IsFirstReasonBy table p.pattern f
 
     as_told : (other : Fault) → Some fault ≡ Some other → Told other → Told fault
-    as_told other e t = subst Told (sym (same_fault fault other e)) t
+    as_told other e t = subst Told (sym (some_of fault other e)) t
 
     -- what the table decides for a cell of the pattern is the layer's answer there
     decides_here : (x y : ℤ) (answer : LayerAnswer) → AnswersAt layer u.cell x y answer → decided_at table p.pattern.cell x y ≡ answer_in answer
@@ -183,7 +167,7 @@ module _ (decide : TablesDecide) (layer : LayerTable) (table : Table) (is : IsTa
     )
 
     more_cells : HasMoreCells (2 ^ 20) p.pattern.cell → LayerMoreCells (2 ^ 20) u
-    more_cells m = (m.0, cells_to p.pattern.cell u.cell m.0 cells m.1, m.2)
+    more_cells m = (m.0, same_cells p.pattern.cell u.cell m.0 cells m.1, m.2)
 
     first_is : (line : ℕ) → LayerFirst (AnswersAt layer u.cell) line → IsFirstAmbiguous table p.pattern.cell line
     first_is line f = record {

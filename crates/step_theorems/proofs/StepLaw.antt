@@ -30,15 +30,15 @@ use Rattle.theorems.proofs.RefusalLaw.{refuses_agree, want_as}
 use Rattle.step_theorems.proofs.NextLaw.{next_is}
 
 -- a reason that is not told does not hold
-passes : {P A B : Type 0} → IfElse P A B → (A → ⊥) → (P → ⊥) × B
+pub passes : {P A B : Type 0} → IfElse P A B → (A → ⊥) → (P → ⊥) × B
 passes (inl h) never = absurd (never h.1)
 passes (inr h) never = h
 
-same_cells : (c d : ℤ → ℤ → ℕ) (cells : List Cell) → c ≡ d → AreCells c cells → AreCellsOf d cells
+pub same_cells : (c d : ℤ → ℤ → ℕ) (cells : List Cell) → c ≡ d → AreCells c cells → AreCellsOf d cells
 same_cells c d cells e h = subst (λ (f : ℤ → ℤ → ℕ). AreCellsOf f cells) e
     (record { in_order = h.in_order; true_cells = h.true_cells; all_cells = h.all_cells })
 
-none_some : (f : Fault) → None ≡ Some f → ⊥
+pub none_some : (f : Fault) → None ≡ Some f → ⊥
 none_some f e = cc
 
 pub stepped_is : FilesAreOnPlane 62 → (bytes text : List ℕ) → LayerStepped bytes text → IsStepped bytes text
@@ -81,7 +81,7 @@ stepped_is on_plane bytes text h =
 
 -- ---- what is not stepped
 
-some_of : (f g : Fault) → Some f ≡ Some g → f ≡ g
+pub some_of : (f g : Fault) → Some f ≡ Some g → f ≡ g
 some_of f g e = cc
 
 pub unstepped_is : FilesAreOnPlane 62 → (bytes : List ℕ) (u : Universe) (fault : Fault) → Reads 62 bytes u → LifeRefusal 62 u (Some fault)

@@ -1,5 +1,5 @@
 -- How many cells of a file aren't 0 is what it is in the layer below.
-use Rattle.std.proofs.Common.{◌≡◌, ℕ, ◌^◌, ◌<◌, ◌≤◌, List, length, sym, subst, arith, ◌⊎◌, inl, inr}
+use Rattle.std.proofs.Common.{◌≡◌, ℕ, ◌^◌, List, sym, subst, arith, ◌⊎◌, inl, inr}
 use Rattle.std.specs.Prelude.{ℤ, Err}
 use Rattle.life_base.specs.declared.cell.Cell.{Cell}
 use Rattle.life_base.specs.declared.fault.Fault.{Fault}
@@ -19,16 +19,13 @@ pub same_cells : (c d : ℤ → ℤ → ℕ) (cells : List Cell) → c ≡ d →
 same_cells c d cells e h =
     subst (λ (f : ℤ → ℤ → ℕ). AreCells f cells) (sym e) (record { in_order = h.in_order; true_cells = h.true_cells; all_cells = h.all_cells })
 
-not_above : (n most : ℕ) → n ≤ most → most < n → ⊥
-not_above n most h l = omega (arith, h, l)
-
 -- a file that is written in extended RLE has no more cells than that
 pub few_cells : (bytes text : List ℕ) → IsRleOf 62 (2 ^ 20) bytes text → SaysMoreCells (2 ^ 20) bytes → ⊥
 few_cells bytes text h more =
     let p = files_agree bytes h.universe h.reads in
     let cells : p.pattern.cell ≡ h.universe.cell = λ i x y. p.cells x y i in
     let e : more.0 ≡ p.pattern = ok_of (pattern_of bytes) more.0 p.pattern more.1 p.is in
-    never_more p.pattern.cell h.cells (2 ^ 20) (same_cells p.pattern.cell h.universe.cell h.cells cells h.are) (not_above (length h.cells) (2 ^ 20) h.few)
+    never_more p.pattern.cell h.cells (2 ^ 20) (same_cells p.pattern.cell h.universe.cell h.cells cells h.are) (λ more. omega (arith, more, h.few))
     (subst (λ (q : Pattern). HasMoreCells (2 ^ 20) q.cell) e more.2)
 
 pub says_more : (bytes : List ℕ) → LayerMoreCells 62 bytes (2 ^ 20) → SaysMoreCells (2 ^ 20) bytes

@@ -137,9 +137,6 @@ module _ (bytes : List ℕ) (fault : Fault) (r : Refuses 62 bytes fault) where
       told : fault_at (suc (length (lines_of bytes))) fault.kind ≡ fault
       told = fault_is fault (suc (length (lines_of bytes))) (r.line ∙ ap (λ n. min n (2 ^ 64 - 1)) e)
 
-      of_some : (a b : Kind) → Some a ≡ Some b → a ≡ b
-      of_some a b h = cc
-
       whole : Prefix (Accepts 62) (lines_of bytes)
       whole = subst (Prefix (Accepts 62)) (all (lines_of bytes)) (r.place.before (length (lines_of bytes)) (omega (arith, e)))
         where
@@ -177,7 +174,8 @@ module _ (bytes : List ℕ) (fault : Fault) (r : Refuses 62 bytes fault) where
       by : (v : Bool) → is_macrocell (lines_of bytes) ≡ v → missing (lines_of bytes) ≡ Some fault.kind → pattern_of bytes ≡ Err fault
       by true m h = let k : None ≡ Some fault.kind = sym (ap (λ v. cond v None (Some kinds.NoHeader)) m) ∙ h in cc
       by false m h =
-          let kind : kinds.NoHeader ≡ fault.kind = of_some kinds.NoHeader fault.kind (sym (ap (λ v. cond v None (Some kinds.NoHeader)) m) ∙ h) in
+          let some : Some kinds.NoHeader ≡ Some fault.kind = sym (ap (λ v. cond v None (Some kinds.NoHeader)) m) ∙ h in
+          let kind : kinds.NoHeader ≡ fault.kind = cc in
           let l = lacks m in
           as_rle_lines bytes m ∙ rle_lacks (lines_of bytes) l.0 l.1
           ∙ ap (λ (k : Kind). Err (fault_at (1 + length (lines_of bytes)) k)) kind

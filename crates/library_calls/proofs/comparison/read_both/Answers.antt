@@ -1,4 +1,4 @@
-use Rattle.std.proofs.Common.{◌∙◌, inl, inr}
+use Rattle.std.proofs.Common.{inl, inr}
 use Rattle.std.proofs.lemmas.Result.{err_from_is_err_and}
 use Rattle.library_calls.proofs.FormFacts.{accepted-it, tight-first, tight-second}
 use Rattle.library_calls.proofs.comparison.read_both.Goals as goal

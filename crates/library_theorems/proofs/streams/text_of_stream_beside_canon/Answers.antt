@@ -1,5 +1,3 @@
-use Rattle.std.proofs.Common.{ℕ, List, subst}
-use Rattle.life_canon.specs.Texts.{IsCanonical}
 use Rattle.theorems.specs.Joined.{joined}
 use Rattle.theorems.proofs.FileLaw.{map_ok}
 use Rattle.step_theorems.proofs.StepLaw.{next_is_fixed}
@@ -10,17 +8,15 @@ pub returns-clause-text : goal.returns-clause-text
 returns-clause-text c = λ is cut opened status.
     let file = joined c.args.pieces.now in
     map_ok c.canon.result
-    (λ text canonical. text_so c.files_are_unique.ensures file text.items _ _ _
-    (subst (λ (bytes : List ℕ). IsCanonical 62 bytes text.items) cut canonical) (of_form is file (c.told_of_stream-opened.ensures.told opened)) status)
-    c.canon.ensures.text
+    (λ text canonical. text_so c.files_are_unique.ensures file text.items _ _ _ canonical
+    (of_form is file (c.told_of_stream-opened.ensures.told opened)) status) (rw cut at c.canon.ensures.text)
 
 pub returns-clause-lines : goal.returns-clause-lines
 returns-clause-lines c = λ is cut opened status.
     let file = joined c.args.pieces.now in
     map_ok c.canon.result
-    (λ text canonical. counted_so c.files_are_on_plane.ensures c.files_are_unique.ensures c.texts_are_files.ensures file text.items _ _ _
-    (subst (λ (bytes : List ℕ). IsCanonical 62 bytes text.items) cut canonical) (of_form is file (c.told_of_stream-opened.ensures.told opened)) status)
-    c.canon.ensures.text
+    (λ text canonical. counted_so c.files_are_on_plane.ensures c.files_are_unique.ensures c.texts_are_files.ensures file text.items _ _ _ canonical
+    (of_form is file (c.told_of_stream-opened.ensures.told opened)) status) (rw cut at c.canon.ensures.text)
 
 pub returns-clause-next : goal.returns-clause-next
 returns-clause-next c = λ is opened status here.

@@ -6,27 +6,25 @@ use Rattle.life_cli.proofs.FormLemmas.{placed_text, said_text, unmoved, unturned
 use Rattle.life_cli.proofs.forms.text_in.Goals as goal
 
 pub returns-in-Placed-clause-text : goal.returns-in-Placed-clause-text
-returns-in-Placed-clause-text c =
-    rw c.in-Placed.is (placed_text c.patterns_fit.ensures c.args.store.now c.args.pattern.now (λ text. text.items) c.text_of.result c.text_of.ensures.text)
+returns-in-Placed-clause-text c = rw c.in-Placed.is (placed_text c.patterns_fit.ensures _ _ (λ text. text.items) c.text_of.result c.text_of.ensures.text)
 
 pub returns-in-Moved-clause-text : goal.returns-in-Moved-clause-text
 returns-in-Moved-clause-text c =
-    rw c.in-Moved.is (said_text c.patterns_fit.ensures c.args.store.now c.args.pattern.now c.files_are_unique.ensures (IsMovedText MAX_LEVEL)
+    rw c.in-Moved.is (said_text c.patterns_fit.ensures _ _ c.files_are_unique.ensures (IsMovedText MAX_LEVEL)
     (λ text. text.items) c.moved_text.result c.moved_text.ensures.text c.moved_text.ensures.few)
 
 pub returns-in-Moved-clause-fault : goal.returns-in-Moved-clause-fault
 returns-in-Moved-clause-fault c =
-    rw c.in-Moved.is (unmoved c.patterns_fit.ensures c.args.store.now c.args.pattern.now c.moved_text.new.store c.moved_text.result
+    rw c.in-Moved.is (unmoved c.patterns_fit.ensures _ _ c.moved_text.new.store c.moved_text.result
     (c.moved_text.ensures.keeps.limit ∙ c.requires.limit) c.moved_text.ensures.fault c.moved_text.ensures.needed)
 
 pub returns-in-Turned-clause-text : goal.returns-in-Turned-clause-text
 returns-in-Turned-clause-text c =
-    rw c.in-Turned.is (said_text c.patterns_fit.ensures c.args.store.now c.args.pattern.now c.files_are_unique.ensures (IsTurnedText MAX_LEVEL)
+    rw c.in-Turned.is (said_text c.patterns_fit.ensures _ _ c.files_are_unique.ensures (IsTurnedText MAX_LEVEL)
     (λ text. text.items) c.turned_text.result c.turned_text.ensures.text c.turned_text.ensures.few)
 
 pub returns-in-Turned-clause-fault : goal.returns-in-Turned-clause-fault
-returns-in-Turned-clause-fault c =
-    rw c.in-Turned.is (unturned c.patterns_fit.ensures c.args.store.now c.args.pattern.now c.turned_text.result c.turned_text.ensures.fault)
+returns-in-Turned-clause-fault c = rw c.in-Turned.is (unturned c.patterns_fit.ensures _ _ c.turned_text.result c.turned_text.ensures.fault)
 
 pub text_of-requires : goal.text_of-requires
 text_of-requires c = (c.patterns_fit.ensures c.requires.read.0 c.args.store.now c.args.pattern.now c.requires.read.1).0

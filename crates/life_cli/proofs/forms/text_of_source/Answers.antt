@@ -9,9 +9,8 @@ use Rattle.life_cli.proofs.forms.text_of_source.Goals as goal
 pub returns-in_err-pattern : goal.returns-in_err-pattern
 returns-in_err-pattern g c =
     let p = err_from_is_err_and c.from_residual.result c.from_residual.ensures.1 in
-    rw (p.1, p.2) (nothing_comes _ (IsTextIn c.args.form MAX_LEVEL) (RefusesInForm c.args.form) _ c.read_from.new.store _
-    (c.read_from.ensures.reads.keeps.limit ∙ c.new-store.ensures.most) (λ bytes refuses. refused_in c.args.form bytes _ refuses)
-    c.in_err-pattern.ensures.fault (λ e. c.in_err-pattern.ensures.reads.needed (cc)) c.in_err-pattern.ensures.reads.told)
+    rw (p.1, p.2) (nothing_comes _ (IsTextIn c.args.form MAX_LEVEL) (RefusesInForm c.args.form) _ _ _ _ c.new-store.ensures.most
+    (λ bytes refuses. refused_in c.args.form bytes _ refuses) c.in_err-pattern.ensures)
 
 pub text_in-requires-clause-read : goal.text_in-requires-clause-read
 text_in-requires-clause-read g c = (c.in_ok-pattern.ensures.pattern.bytes, c.in_ok-pattern.ensures.pattern.is)

@@ -48,21 +48,15 @@ are_same_in-requires-clause-limit g c = c.pattern_in-2.ensures.keeps.limit ∙ c
 
 pub returns-clause-ok : goal.returns-clause-ok
 returns-clause-ok g c =
-    let a = c.in_ok-a.ensures.pattern in
-    let b = c.in_ok-b.ensures.pattern in
-    let r = rw c.in_ok-a-2.was at a.pattern in
-    let q = rw c.in_ok-b-2.was at b.pattern in
-    compared_in c.args.form _ _ c.pattern_in-2.new.store a.bytes b.bytes _ _ c.are_same_in.result a.read b.read
-    (c.patterns_stay.ensures a.bytes _ _ _ c.pattern_in-2.ensures.keeps r) q c.are_same_in.ensures.answer c.are_same_in.ensures.few
+    compared_in c.args.form _ _ c.pattern_in-2.new.store _ _ _ _ c.are_same_in.result c.in_ok-a.ensures.pattern.read c.in_ok-b.ensures.pattern.read
+    (c.patterns_stay.ensures _ _ _ _ c.pattern_in-2.ensures.keeps (rw c.in_ok-a-2.was at c.in_ok-a.ensures.pattern.pattern))
+    (rw c.in_ok-b-2.was at c.in_ok-b.ensures.pattern.pattern) c.are_same_in.ensures.answer c.are_same_in.ensures.few
 
 pub returns-clause-err : goal.returns-clause-err
 returns-clause-err g c =
-    let a = c.in_ok-a.ensures.pattern in
-    let b = c.in_ok-b.ensures.pattern in
-    let r = rw c.in_ok-a-2.was at a.pattern in
-    let q = rw c.in_ok-b-2.was at b.pattern in
-    uncompared_in c.args.form _ _ c.pattern_in-2.new.store a.bytes b.bytes _ _ c.are_same_in.result a.read b.read
-    (c.patterns_stay.ensures a.bytes _ _ _ c.pattern_in-2.ensures.keeps r) q c.are_same_in.ensures.fault
+    uncompared_in c.args.form _ _ c.pattern_in-2.new.store _ _ _ _ c.are_same_in.result c.in_ok-a.ensures.pattern.read c.in_ok-b.ensures.pattern.read
+    (c.patterns_stay.ensures _ _ _ _ c.pattern_in-2.ensures.keeps (rw c.in_ok-a-2.was at c.in_ok-a.ensures.pattern.pattern))
+    (rw c.in_ok-b-2.was at c.in_ok-b.ensures.pattern.pattern) c.are_same_in.ensures.fault
 
 -- what has not failed has not failed once
 unfailed : (n : ℕ) → n ≡ 0 → n ≡ 1 → ⊥

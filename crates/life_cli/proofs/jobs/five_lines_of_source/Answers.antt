@@ -1,4 +1,3 @@
-use Rattle.std.proofs.Common.{◌∙◌}
 use Rattle.std.proofs.lemmas.Result.{err_from_is_err_and}
 use Rattle.life_base.specs.declared.cell.TheConstants.{MAX_LEVEL}
 use Rattle.life_canon.specs.Files.{Refuses}
@@ -9,9 +8,7 @@ use Rattle.life_cli.proofs.jobs.five_lines_of_source.Goals as goal
 pub returns-in_err-pattern : goal.returns-in_err-pattern
 returns-in_err-pattern g c =
     let p = err_from_is_err_and c.from_residual.result c.from_residual.ensures.1 in
-    rw (p.1, p.2) (nothing_comes _ (IsShown MAX_LEVEL) (Refuses MAX_LEVEL) _ c.read_from.new.store _
-    (c.read_from.ensures.reads.keeps.limit ∙ c.new-store.ensures.most) (λ bytes refuses. refuses)
-    c.in_err-pattern.ensures.fault (λ e. c.in_err-pattern.ensures.reads.needed (cc)) c.in_err-pattern.ensures.reads.told)
+    rw (p.1, p.2) (nothing_comes _ (IsShown MAX_LEVEL) (Refuses MAX_LEVEL) _ _ _ _ c.new-store.ensures.most (λ bytes refuses. refuses) c.in_err-pattern.ensures)
 
 pub five_lines_of-requires : goal.five_lines_of-requires
 five_lines_of-requires g c = (c.in_ok-pattern.ensures.pattern.bytes, c.in_ok-pattern.ensures.pattern.is)

@@ -12,9 +12,7 @@ use Rattle.life_cli.proofs.steps.next_of.Goals as goal
 pub returns-in_err-pattern : goal.returns-in_err-pattern
 returns-in_err-pattern g c =
     let p = err_from_is_err_and c.from_residual.result c.from_residual.ensures.1 in
-    rw (p.1, p.2) (nothing_comes _ IsStepped RefusesStep _ c.read_from.new.store _
-    (c.read_from.ensures.reads.keeps.limit ∙ c.new-store.ensures.most) (λ bytes refuses. inl refuses)
-    c.in_err-pattern.ensures.fault (λ e. c.in_err-pattern.ensures.reads.needed (cc)) c.in_err-pattern.ensures.reads.told)
+    rw (p.1, p.2) (nothing_comes _ IsStepped RefusesStep _ _ _ _ c.new-store.ensures.most (λ bytes refuses. inl refuses) c.in_err-pattern.ensures)
 
 pub next_by_rule-requires : goal.next_by_rule-requires
 next_by_rule-requires g c = (c.in_ok-pattern.ensures.pattern.bytes, c.in_ok-pattern.ensures.pattern.is)

@@ -3,15 +3,12 @@ use Rattle.life_base.specs.declared.kind.Kind.TheVariants.{ReadFault}
 use Rattle.life_base.specs.DeviceRuns.{source_run, optional_source_run, sink_run}
 use Rattle.life_cli.specs.Faults.{fault_line}
 use Rattle.theorems.proofs.StreamLaw.{appended}
-use Rattle.program_theorems.proofs.AnswerLaw.{to_layer, from_layer, second_before, second_after, answered, first_ended, second_ended}
+use Rattle.program_theorems.proofs.AnswerLaw.{given_second, second_before, second_after, answered, first_ended, second_ended}
 use Rattle.program_theorems.proofs.RefusalLaw.{origin_of, reason_of, cut_of, no_cause, held_by, some_failed, told_of_some, same_status}
 use Rattle.program_theorems.proofs.jobs.does_its_job.Goals as goal
 
 pub work-requires-clause-second_given : goal.work-requires-clause-second_given
-work-requires-clause-second_given g c = (
-  λ is. to_layer c.args.job.now (c.requires.second_given.0 is),
-  λ has. c.requires.second_given.1 (from_layer c.args.job.now has),
-)
+work-requires-clause-second_given g c = given_second c.args.job.now c.requires.second_given
 
 pub returns-clause-done : goal.returns-clause-done
 returns-clause-done g c =
@@ -66,29 +63,23 @@ returns-clause-refused g c =
 pub returns-clause-unwritten : goal.returns-clause-unwritten
 returns-clause-unwritten g c =
     λ many works takes.
-    let first = source_run g.A.Source.remaining g.A.Source.failures c.args.first.now c.work.new.first in
-    let second = optional_source_run g.B.Source.remaining g.B.Source.failures c.args.second.now c.work.new.second in
-    let output = sink_run g.O.Sink.contents g.O.Sink.failures g.O.Sink.stalled c.args.out.now c.work.new.out in
     let told = c.work.ensures.refused many in
-    let origin = origin_of c.layers_agree.ensures c.args.job.now first second output told.0 told.2 in
-    told.3 (λ kind. no_cause _ _ (cut_of c.args.job.now first second output told.0 origin kind).cause works takes)
+    let origin = origin_of c.layers_agree.ensures c.args.job.now _ _ _ told.0 told.2 in
+    told.3 (λ kind. no_cause _ _ (cut_of c.args.job.now _ _ _ told.0 origin kind).cause works takes)
 
 pub returns-clause-broken : goal.returns-clause-broken
 returns-clause-broken g c =
     λ file other e f failed.
-    let first = source_run g.A.Source.remaining g.A.Source.failures c.args.first.now c.work.new.first in
-    let second = optional_source_run g.B.Source.remaining g.B.Source.failures c.args.second.now c.work.new.second in
-    let output = sink_run g.O.Sink.contents g.O.Sink.failures g.O.Sink.stalled c.args.out.now c.work.new.out in
     let is = c.work.ensures.write_told failed in
     let many : 1 < c.work.result = subst (λ (n : ℕ). 1 < n) (sym is) (omega arith) in
     let told = c.work.ensures.refused many in
-    let origin = origin_of c.layers_agree.ensures c.args.job.now first second output told.0 told.2 in
-    let cut = cut_of c.args.job.now first second output told.0 origin (told.6 failed) in (
+    let origin = origin_of c.layers_agree.ensures c.args.job.now _ _ _ told.0 told.2 in
+    let cut = cut_of c.args.job.now _ _ _ told.0 origin (told.6 failed) in (
       is,
       (
         cut.status,
         cut.text,
-        answered c.layers_agree.ensures c.args.job.now first second cut.status cut.text cut.answer file other e
+        answered c.layers_agree.ensures c.args.job.now _ _ cut.status cut.text cut.answer file other e
             (λ has. second_before g.B.Source.remaining c.args.second.now other f (c.requires.second_given.1 has)),
         λ held h. (cut.written.count, appended _ _ held (take cut.written.count cut.text) cut.written.written h),
       ),

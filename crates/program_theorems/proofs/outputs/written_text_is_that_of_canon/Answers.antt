@@ -2,14 +2,11 @@ use Rattle.std.proofs.Common.{List, ℕ, ◌++◌, ap, ◌∙◌}
 use Rattle.std.specs.Prelude.{Some}
 use Rattle.theorems.proofs.FileLaw.{map_ok}
 use Rattle.theorems.proofs.StreamLaw.{appended, one_text}
-use Rattle.program_theorems.proofs.AnswerLaw.{to_layer, from_layer, written_canonical}
+use Rattle.program_theorems.proofs.AnswerLaw.{given_second, written_canonical}
 use Rattle.program_theorems.proofs.outputs.written_text_is_that_of_canon.Goals as goal
 
 pub work-status-requires-clause-second_given : goal.work-status-requires-clause-second_given
-work-status-requires-clause-second_given g c = (
-  λ is. to_layer c.args.job.now (c.requires.given.second_given.0 is),
-  λ has. c.requires.given.second_given.1 (from_layer c.args.job.now has),
-)
+work-status-requires-clause-second_given g c = given_second c.args.job.now c.requires.given.second_given
 
 pub returns : goal.returns
 returns g c =

@@ -20,11 +20,9 @@ returns-clause-equal c =
 pub returns-in_err-text-clause-refused : goal.returns-in_err-text-clause-refused
 returns-in_err-text-clause-refused c =
     let p = err_from_is_err_and c.from_residual.result c.from_residual.ensures.1 in
-    let answer = refused_there _ _ _ (sym c.requires.cut) c.in_err-text.ensures.refused in
-    rw (p.1, p.2) answer
+    rw (p.1, p.2) (refused_there _ _ _ (sym c.requires.cut) c.in_err-text.ensures.refused)
 
 pub returns-in_err-other-clause-refused : goal.returns-in_err-other-clause-refused
 returns-in_err-other-clause-refused c =
     let p = err_from_is_err_and c.from_residual-in_err-other.result c.from_residual-in_err-other.ensures.1 in
-    let answer = refused_as c.args.whole.now _ _ c.in_err-other.ensures.fault in
-    rw (p.1, p.2) answer
+    rw (p.1, p.2) (refused_as c.args.whole.now _ _ c.in_err-other.ensures.fault)

@@ -1,6 +1,6 @@
 use Rattle.std.proofs.Common.{refl}
 use Rattle.life_cli.specs.KeyRuns.{without_list}
-use Rattle.life_cli.proofs.KeyRunLemmas.{names_same, ran_broken, ran_through, status_is, takes_ok}
+use Rattle.life_cli.proofs.KeyRunLemmas.{names_same, ran_broken, ran_through, status_is}
 use Rattle.life_cli.proofs.keys.runs.write_keys.Goals as goal
 
 pub returns-in-Err-clause-ran : goal.returns-in-Err-clause-ran
@@ -14,7 +14,7 @@ returns-in-Ok-take_all-clause-ran g c =
     ran_through (goal.F-step g) g.R.Read.remaining g.W.Sink.contents g.W.Sink.failures g.W.Sink.stalled g.E.Sink.contents g.E.Sink.failures
     g.E.Sink.stalled c.args.plan.now c.args.opener c.list.new.self.opener c.take_all.new.self.files.opener c.in-Ok.list.items _ _ _ _ _ _ _ _ _ _
     c.in-Ok.ensures.ok c.list.ensures.form (names_same _ _ _ _ _ _ c.new.ensures.zero c.as_slice.ensures.value c.as_slice-2.ensures.value)
-    c.new.ensures.zero c.new.ensures.tells c.new.ensures.status took.1 (takes_ok _ _ _ _ _ _ _ _ _ _ _ _ _ _ _ _ _ _ _ took.2) c.in-Ok-take_all.ensures.flushed
+    c.new.ensures.zero c.new.ensures.tells c.new.ensures.status took.1 took.2 c.in-Ok-take_all.ensures.flushed
 
 pub returns-in-Ok-take_all-clause-status : goal.returns-in-Ok-take_all-clause-status
 returns-in-Ok-take_all-clause-status g c =

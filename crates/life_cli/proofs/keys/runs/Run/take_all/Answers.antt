@@ -2,7 +2,7 @@ use Rattle.std.proofs.Common.{◌++◌, map}
 use Rattle.std.proofs.lemmas.Result.{err_from_is_err_and}
 use Rattle.life_cli.specs.Keys.{end_of}
 use Rattle.life_cli.specs.KeyRuns.{Listed, names_in}
-use Rattle.life_cli.proofs.KeyRunLemmas.{on_ok, takes_both, takes_err, takes_flushed, takes_longer, takes_ok}
+use Rattle.life_cli.proofs.KeyRunLemmas.{on_ok, takes_both, takes_err, takes_flushed, takes_longer}
 use Rattle.life_cli.proofs.keys.runs.Run.take_all.Goals as goal
 
 pub returns-in_err-take_words-clause-took : goal.returns-in_err-take_words-clause-took
@@ -24,7 +24,7 @@ returns-in_err-take_list-clause-took g c =
       second.0,
       tt,
       takes_err _ _ _ _ _ _ _ _ _ _ _ _ _ _ _ _ _ _ _ (takes_both _ _ _ _ _ _ _ _ _ _ _ _ _ _ _ _ _ _ _ _ _ _ _ _ _ c.in_ok-take_words.ensures.form
-          c.in_ok-take_words.ensures.zero first.1 (takes_ok _ _ _ _ _ _ _ _ _ _ _ _ _ _ _ _ _ _ _ first.2) second.2),
+          c.in_ok-take_words.ensures.zero first.1 first.2 second.2),
     )
 
 pub returns-clause-took : goal.returns-clause-took
@@ -34,6 +34,5 @@ returns-clause-took g c =
       second.0,
       on_ok _ c.flush.result second.1,
       takes_flushed _ _ _ _ _ _ _ _ _ _ _ _ _ _ _ _ _ _ _ (takes_both _ _ _ _ _ _ _ _ _ _ _ _ _ _ _ _ _ _ _ _ _ _ _ _ _ c.in_ok-take_words.ensures.form
-          c.in_ok-take_words.ensures.zero first.1 (takes_ok _ _ _ _ _ _ _ _ _ _ _ _ _ _ _ _ _ _ _ first.2)
-          (takes_ok _ _ _ _ _ _ _ _ _ _ _ _ _ _ _ _ _ _ _ second.2)) c.flush.ensures.bytes,
+          c.in_ok-take_words.ensures.zero first.1 first.2 second.2) c.flush.ensures.bytes,
     )

@@ -2,7 +2,7 @@ use Rattle.std.proofs.Common.{◌∙◌, map, refl, rules}
 use Rattle.std.proofs.lemmas.Result.{err_from_is_err_and}
 use Rattle.life_cli.specs.Keys.{end_of}
 use Rattle.life_cli.specs.KeyRuns.{Listed, names_in}
-use Rattle.life_cli.proofs.KeyRunLemmas.{hears_on, names_next, takes_err, takes_next, takes_none, takes_ok}
+use Rattle.life_cli.proofs.KeyRunLemmas.{hears_on, names_next, takes_err, takes_next, takes_none}
 use Rattle.life_cli.proofs.keys.runs.Run.take_list.Goals as goal
 use Rattle.life_cli.proofs.keys.runs.Run.take_list.Goals.{then-self, else-self}
 
@@ -30,10 +30,10 @@ loop-rest-preserved-in-Continue-1 g c = record {
   zero = c.in_ok-put.ensures.zero ∙ c.loop-rest.invariant.zero;
   form = c.listed_outcome-outcome.ensures.form ∙ c.loop-rest.invariant.form;
   ends = c.loop-rest.invariant.ends;
-  took = takes_ok _ _ _ _ _ _ _ _ _ _ _ _ _ _ _ _ _ _ _ (takes_next _ _ _ _ _ _ _ _ _ _ _ _ _ _ _ _ _ _ _ _ _ _ _ _ _ _ _
+  took = takes_next _ _ _ _ _ _ _ _ _ _ _ _ _ _ _ _ _ _ _ _ _ _ _ _ _ _ _
       c.loop-rest.invariant.form c.loop-rest.invariant.zero
       (names_next _ _ c.loop-rest.rest.now c.first_name.result.0.now c.first_name.result.1.now c.loop-rest.invariant.ends c.first_name.ensures.first
-      (search rules)) refl c.loop-rest.invariant.took c.listed_outcome-outcome.ensures.takes c.in_ok-put.ensures.taken);
+      (search rules)) refl c.loop-rest.invariant.took c.listed_outcome-outcome.ensures.takes c.in_ok-put.ensures.taken;
 }
 
 pub returns-in_err-put-clause-took : goal.returns-in_err-put-clause-took

@@ -1,7 +1,7 @@
 use Rattle.std.proofs.Common.{◌∙◌, map, drop, ◌+◌, refl}
 use Rattle.std.proofs.lemmas.Result.{err_from_is_err_and}
 use Rattle.life_cli.specs.KeyRuns.{by_call, Word}
-use Rattle.life_cli.proofs.KeyRunLemmas.{hears_on, takes_err, takes_next, takes_none, takes_ok, words_next}
+use Rattle.life_cli.proofs.KeyRunLemmas.{hears_on, takes_err, takes_next, takes_none, words_next}
 use Rattle.life_cli.proofs.keys.runs.Run.take_words.Goals as goal
 
 pub loop-word-init : goal.loop-word-init
@@ -38,8 +38,8 @@ loop-word-preserved g c =
       hears = hears_on _ _ _ _ _ _ _ _ c.in_ok-put.ensures.taken.2.told;
       zero = c.in_ok-put.ensures.zero ∙ c.loop-word.invariant.zero;
       form = c.outcome-outcome.ensures.form ∙ c.loop-word.invariant.form;
-      took = takes_ok _ _ _ _ _ _ _ _ _ _ _ _ _ _ _ _ _ _ _ (takes_next _ _ _ _ _ _ _ _ _ _ _ _ _ _ _ _ _ _ _ _ _ _ _ _ _ _ _
+      took = takes_next _ _ _ _ _ _ _ _ _ _ _ _ _ _ _ _ _ _ _ _ _ _ _ _ _ _ _
           c.loop-word.invariant.form c.loop-word.invariant.zero
           (words_next c.args.words.now c.loop-word.word-index _ c.loop-word-test.true) c.as_bytes.ensures.value c.loop-word.invariant.took
-          (by_call c.origin_of.result comes.0 c.origin_of.ensures comes.1 comes.2) c.in_ok-put.ensures.taken);
+          (by_call c.origin_of.result comes.0 c.origin_of.ensures comes.1 comes.2) c.in_ok-put.ensures.taken;
     }
