@@ -1,8 +1,7 @@
 -- The words of the contracts of this crate.
-pub use Rattle.life_base.specs.Refusal.{OrMemory, fault_of}
+pub use Rattle.life_base.specs.Refusal.{IsMemory, OrMemory, fault_of}
 pub use Rattle.life_base.specs.Rules.{IsRule}
 pub use Rattle.life_base.specs.Tree.{depth, tree_cell}
-pub use Rattle.life_base.specs.declared.cell.Run.{Run as RunValue}
 pub use Rattle.life_base.specs.declared.cell.TheConstants.{MAX_LEVEL}
 pub use Rattle.life_base.specs.declared.kind.Kind.TheVariants.{Full, TooManyCells, Memory}
 pub use Rattle.life_base.specs.declared.rule.Rule.{Rule}
@@ -18,6 +17,7 @@ pub use Rattle.life_forms.specs.Trees.{turned_tree, id_of_four, side_of, end_of}
 pub use Rattle.life_forms.specs.Turns.{image}
 pub use Rattle.life_mc.specs.Macrocell.{largest_state}
 pub use Rattle.life_quad.specs.Cells.{IsBefore, population}
+pub use Rattle.life_quad.specs.Grows.{IsWantOf}
 pub use Rattle.life_quad.specs.Keeping.{IsWantKind}
 pub use Rattle.life_quad.specs.Store.{held}
 pub use Rattle.life_strip.specs.Given.{state_by}

@@ -1,6 +1,6 @@
 -- The words of the contracts of this crate.
 pub use Rattle.life_base.specs.Refusal.{IsMemory}
-pub use Rattle.life_base.specs.Tree.{blank, depth, is_blank_tree, IsFull, point, quad, quarters, state_at, Tree}
+pub use Rattle.life_base.specs.Tree.{blank, depth, is_blank_tree, point, quad, quarters, state_at, Tree}
 pub use Rattle.life_base.specs.declared.kind.Kind.TheVariants.{Full, Memory, TooManyCells}
 pub use Rattle.life_quad.specs.Bands.{band_cells, InBand, IsPlaced, kept, live_cells, lower, northern, pair_of, part_cells, pieces, row_cells, row_of}
 pub use Rattle.life_quad.specs.Bands.{southern, upper}
@@ -9,7 +9,7 @@ pub use Rattle.life_quad.specs.Distances.{AreLeast, Faces, HasCellAt, HasCellInT
 pub use Rattle.life_quad.specs.Grows.{IsWantOf, Keeps}
 pub use Rattle.life_quad.specs.IdMap.{HasRoom, value_of}
 pub use Rattle.life_quad.specs.IdNumbers.{first_of, HasNumberRoom, number_by}
-pub use Rattle.life_quad.specs.Keeping.{AddsOnly, IsWantKind, KeepsSquares}
+pub use Rattle.life_quad.specs.Keeping.{AddsOnly}
 pub use Rattle.life_quad.specs.Laws.{BlankByCells, CellsAreListed, CellsLieInside, EqualByCells, EqualByPlane, EqualSquaresHaveOneId, GrowingKeepsCells}
 pub use Rattle.life_quad.specs.Laws.{KnownSquaresAreFull, ListIsPopulation, TrimmedByCells, TrimmedIsFixed, TrimmedIsLowest, TrimmingIgnoresGrowth}
 pub use Rattle.life_quad.specs.Laws.{TrimmingKeepsCells, TrimmingStops}

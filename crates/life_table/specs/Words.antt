@@ -23,7 +23,7 @@ pub use Rattle.life_table.specs.Seen.{IsSeen, places}
 pub use Rattle.life_table.specs.Site.{centre_of, GoesRound, IsLineAt, IsSite, others_of, TurnsAreImages}
 pub use Rattle.life_table.specs.Taking.{add_to, AreFailed, can_be_state, Completes, CompletesWith, free_count, IsGrouped, IsSearch, of_state, settled}
 pub use Rattle.life_table.specs.Taking.{settled_count, Takes}
-pub use Rattle.life_table.specs.Valid.{allows_zero, fits_zero, is_quiet, is_quiet_output, is_variable, IsEntry, IsSound, neighbour_count}
+pub use Rattle.life_table.specs.Valid.{allows_zero, fits_zero, is_quiet, is_quiet_output, is_variable, IsEntry, neighbour_count}
 pub use Rattle.std.specs.Int.{bit_at}
 pub use Rattle.std.specs.List.{after_first, before_first, list_all, list_any, slice_split}
 pub use Rattle.std.specs.List.Sorted.{IsPermutation}
