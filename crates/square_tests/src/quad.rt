@@ -6,8 +6,8 @@ ghost use Rattle.life_quad.specs.Grows.{Keeps};
 
 use life_base::{Bounds, Cell, Kind, MAX_LEVEL, Run};
 use life_quad::{
-    Id, NeighbourhoodMemory, Plain, Quarters, Seed, Shared, SharedSquares, Squares, bounds,
-    cells, divide, grow, is_blank, is_blank_at, leaf_population, population, put_run, trim,
+    Id, NeighbourhoodMemory, Plain, Quarters, Seed, Shared, SharedSquares, Squares, bounds, cells,
+    divide, grow, is_blank, is_blank_at, leaf_population, population, put_run, trim,
 };
 use std::alloc::Global;
 use std::process::Abort;
