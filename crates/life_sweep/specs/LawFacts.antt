@@ -21,7 +21,7 @@ abbrev pub SameImages : Symmetry → List ℕ → List ℕ → Type 0
 SameImages symmetry v w = (image : List ℕ) → Contains (images symmetry v) image ↔ Contains (images symmetry w) image
 
 -- 2^16 places, in each of which a neighbourhood is remembered, with what the table answers
-pub record IsMemory (table : Table) (known : List Known) : Type 0 where
+pub record Remembers (table : Table) (known : List Known) : Type 0 where
   pub places : length known ≡ 2 ^ 16
   pub each : All (λ k. TableAnswers table k.around (Becomes k.next)) known
 

@@ -1,5 +1,5 @@
 -- The words of the contracts of this crate.
-pub use Rattle.life_base.specs.Refusal.{fault_of}
+pub use Rattle.life_base.specs.Refusal.{fault_of, IsMemory}
 pub use Rattle.life_base.specs.Rules.{has_digit, most_neighbours}
 pub use Rattle.life_base.specs.Tree.{depth, tree_cell}
 pub use Rattle.life_quad.specs.Grows.{IsWantOf, Keeps}

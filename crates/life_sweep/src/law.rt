@@ -1,6 +1,6 @@
 //! What a cell becomes.
 ghost use Rattle.std.specs.Prelude.{◌≡◌, ℕ, ◌<◌, ◌≤◌, ◌↔◌, false, All, IfOk, IfErr, List, drop, length, slice_index};
-ghost use Rattle.life_sweep.specs.Words.{IsPermutation, Answer, Becomes, Ambiguous, count_of, has_digit, most_neighbours, VonNeumann, Rotate4, neighborhood_of, LifeAnswers, TableAnswers, named, SameImages, two_positive, life_quiet, table_positive, table_quiet};
+ghost use Rattle.life_sweep.specs.Words.{IsMemory, IsPermutation, Answer, Becomes, Ambiguous, count_of, has_digit, most_neighbours, VonNeumann, Rotate4, neighborhood_of, LifeAnswers, TableAnswers, named, SameImages, two_positive, life_quiet, table_positive, table_quiet};
 ghost use Rattle.std.proofs.Common.{sym, ◌∙◌};
 ghost use Rattle.std.proofs.Props.{props};
 ghost use Rattle.life_table.proofs.LawProofs.{one_law};
@@ -119,13 +119,13 @@ pub struct ByTable<'a> {
 
 impl<'a> Model for ByTable<'a> {
     ghost use Rattle.life_table.specs.declared.table.Table.{Table as TableValue};
-    ghost use Rattle.life_sweep.specs.LawFacts.{IsMemory};
+    ghost use Rattle.life_sweep.specs.LawFacts.{Remembers};
 
     ghost Value = { TableValue };
 
     ghost view = { λ law. law.index };
 
-    ghost invariant = { λ law. IsMemory law.index law.known.items };
+    ghost invariant = { λ law. Remembers law.index law.known.items };
 }
 
 // How many neighbourhoods are remembered.
