@@ -1,7 +1,7 @@
 //! The box of a session as a pointer, which C can hold.
 
 ghost use Rattle.std.specs.Prelude.{◌≡◌, Option, Some, None, true, is_some};
-ghost use Rattle.library_calls.specs.Words.{SessionValue};
+ghost use Rattle.library_calls.specs.declared.session.Session.{Session as SessionValue};
 
 use crate::session::Session;
 use std::alloc::Global;
