@@ -8,7 +8,6 @@ pub use Rattle.library_calls.specs.Stepping.{RefusesStepByWithin, RefusesStepWit
 pub use Rattle.library_calls.specs.Streams.{Ends, HasFault, HasText, IsFed, IsOpen, IsSpent, Opens, session_of, Takes, TellsEnd, TellsNothing, TellsPiece}
 pub use Rattle.library_calls.specs.Told.{Answers, Gives, Tells, told}
 pub use Rattle.library_calls.specs.declared.session.Form.{Form as FormValue}
-pub use Rattle.library_calls.specs.declared.session.Session.{Session as SessionValue}
 pub use Rattle.life_base.specs.Kinds.{kind_number}
 pub use Rattle.life_base.specs.Refusal.{fault_of}
 pub use Rattle.life_base.specs.declared.cell.TheConstants.{MAX_LEVEL}
