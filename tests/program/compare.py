@@ -214,7 +214,9 @@ def findings(judged, options):
     else:
         cases = [*small_cases(), *range(options.cases)]
     parent = FAST_FOLDER if os.path.isdir(FAST_FOLDER) else None
-    with tempfile.TemporaryDirectory(dir=parent) as folder, multiprocessing.Pool(options.jobs) as pool:
+    # What `main` does with a signal is not for the pool's processes: one that exits by it may wait for another's lock for ever.
+    plain_signals = signal.signal, (signal.SIGTERM, signal.SIG_DFL)
+    with tempfile.TemporaryDirectory(dir=parent) as folder, multiprocessing.Pool(options.jobs, *plain_signals) as pool:
         yield from pool.imap_unordered(functools.partial(of_number, judged, folder, options.seed), cases, 16)
 
 
