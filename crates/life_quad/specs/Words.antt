@@ -7,7 +7,7 @@ pub use Rattle.life_quad.specs.Bands.{southern, upper}
 pub use Rattle.life_quad.specs.Cells.{IsCellList, IsLeastBox, IsRunInside, population, SetsRun}
 pub use Rattle.life_quad.specs.Distances.{AreLeast, Faces, HasCellAt, HasCellInTwo, IsLeastOf, lesser_of}
 pub use Rattle.life_quad.specs.Grows.{IsWantOf, Keeps}
-pub use Rattle.life_quad.specs.IdMap.{HasRoom, value_of}
+pub use Rattle.life_quad.specs.IdMap.{HasRoom, SetsValue, value_of}
 pub use Rattle.life_quad.specs.IdNumbers.{first_of, HasNumberRoom, number_by}
 pub use Rattle.life_quad.specs.Keeping.{AddsOnly}
 pub use Rattle.life_quad.specs.Laws.{BlankByCells, CellsAreListed, CellsLieInside, EqualByCells, EqualByPlane, EqualSquaresHaveOneId, GrowingKeepsCells}

@@ -1,6 +1,6 @@
 //! A value for each square.
-ghost use Rattle.std.specs.Prelude.{◌≡◌, ◌≢◌, ◌⊎◌, ◌+◌, ◌<◌, ◌≤◌, ◌++◌, ℕ, length, replicate, slice_index_or, vec_len, OnOk, OnErr, IfErr};
-ghost use Rattle.life_quad.specs.Words.{Memory, IdValue, value_of, HasRoom, index_in, place_of, IsMemory};
+ghost use Rattle.std.specs.Prelude.{◌≡◌, ◌≢◌, ◌+◌, ◌<◌, ◌≤◌, ◌++◌, ℕ, length, replicate, slice_index_or, vec_len, OnOk, OnErr, IfErr};
+ghost use Rattle.life_quad.specs.Words.{Memory, IdValue, value_of, HasRoom, SetsValue, index_in, place_of, IsMemory};
 
 use crate::Id;
 use crate::id::FIRST_NODE;
@@ -164,12 +164,7 @@ impl<T: Copy> IdMap<T> {
 
     /// Sets the value of an Id. A refusal, by `Memory` alone, leaves each value as it was.
     pub(crate) fn set(&mut self, id: Id, value: T) -> Result<(), Kind>
-        ensures only { (q : IdValue) → (value_of self.new q ≡ value_of self.old q)
-            ⊎ ((q ≡ id) × (value_of self.new q ≡ value)) }
-        ensures set { OnOk result (value_of self.new id ≡ value) }
-        ensures others { (q : IdValue) → q ≢ id → value_of self.new q ≡ value_of self.old q }
-        ensures same { OnErr result ((q : IdValue) → value_of self.new q ≡ value_of self.old q) }
-        ensures refusals { IfErr result IsMemory }
+        ensures { SetsValue self.old self.new id value result }
     {
         let index = index_of(&self.starts, id.0);
         if index < self.values.len() {
@@ -182,12 +177,7 @@ impl<T: Copy> IdMap<T> {
     /// The same where the page of the Id may have to be made. It is never inlined, so that `set` stays short.
     #[inline(never)]
     fn set_apart(&mut self, id: Id, value: T) -> Result<(), Kind>
-        ensures only { (q : IdValue) → (value_of self.new q ≡ value_of self.old q)
-            ⊎ ((q ≡ id) × (value_of self.new q ≡ value)) }
-        ensures set { OnOk result (value_of self.new id ≡ value) }
-        ensures others { (q : IdValue) → q ≢ id → value_of self.new q ≡ value_of self.old q }
-        ensures same { OnErr result ((q : IdValue) → value_of self.new q ≡ value_of self.old q) }
-        ensures refusals { IfErr result IsMemory }
+        ensures { SetsValue self.old self.new id value result }
     {
         self.make_room(id)?;
         self.put(id, value);
