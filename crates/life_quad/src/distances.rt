@@ -18,6 +18,9 @@ pub(crate) enum Side {
     East,
 }
 
+/// A least distance, or none, or why it was not found.
+type Found = Result<Option<u64>, Kind>;
+
 /// What the table has for a square that was not visited: no square is so large.
 pub(crate) const UNKNOWN: u64 = u64::MAX;
 
@@ -28,7 +31,7 @@ pub(crate) fn least_distance<S: SharedSquares>(
     squares: &S,
     side: Side,
     id: Id,
-) -> Result<Option<u64>, Kind>
+) -> Found
     requires known { S.knows squares.now id }
     ensures least { IfOk result (IsLeastOf (HasCellAt side (S.content squares.now id))) }
     ensures refusals { IfErr result IsMemory }
@@ -84,13 +87,7 @@ fn lesser(a: Option<u64>, b: Option<u64>) -> Option<u64>
 
 /// The least distance in a square of a level, where `known` has those of squares that were visited.
 #[cycle(find)]
-fn find<S: Squares>(
-    squares: &S,
-    side: Side,
-    level: u8,
-    id: Id,
-    known: &mut IdMap<u64>,
-) -> Result<Option<u64>, Kind>
+fn find<S: Squares>(squares: &S, side: Side, level: u8, id: Id, known: &mut IdMap<u64>) -> Found
     requires known { S.knows squares.now id }
     requires level { level ≡ depth (S.content squares.now id) }
     requires right { AreLeast side (S.content squares.now) (value_of known.old) }
@@ -130,7 +127,7 @@ fn find_in_two<S: Squares>(
     first: Id,
     second: Id,
     known: &mut IdMap<u64>,
-) -> Result<Option<u64>, Kind>
+) -> Found
     requires first { S.knows squares.now first }
     requires second { S.knows squares.now second }
     requires first_level { level ≡ depth (S.content squares.now first) }

@@ -20,6 +20,9 @@ struct Placed {
     column: i64,
 }
 
+/// Whether squares or cells were added to a list, or why they were not.
+type Listed = Result<(), Kind>;
+
 /// The cells with a state other than 0, row by row.
 ///
 /// # Errors
@@ -67,7 +70,7 @@ fn further(coordinate: i64, level: u8) -> i64
 }
 
 /// One more square at the end of a band.
-fn place(band: &mut Vec<Placed>, square: Id, column: i64) -> Result<(), Kind>
+fn place(band: &mut Vec<Placed>, square: Id, column: i64) -> Listed
     ensures ok { OnOk result
         (band.new.items ≡ band.old.items ++ (record { square = square; column = column }) ∷ []) }
     ensures refusals { IfErr result IsMemory }
@@ -83,7 +86,7 @@ fn keep<S: Squares>(
     level: u8,
     square: Id,
     column: i64,
-) -> Result<(), Kind>
+) -> Listed
     requires known { S.knows squares.now square }
     requires level { depth (S.content squares.now square) ≡ level }
     requires west { neg_ℤ (pos (2 ^ 61)) ≤ℤ column }
@@ -110,7 +113,7 @@ fn split<S: Squares>(
     level: u8,
     north: &mut Vec<Placed>,
     south: &mut Vec<Placed>,
-) -> Result<(), Kind>
+) -> Listed
     requires low { 1 ≤ level }
     requires placed { IsPlaced (S.knows squares.now) (S.content squares.now) level placed }
     requires north { All (IsPlaced (S.knows squares.now) (S.content squares.now) (level - 1))
@@ -166,12 +169,7 @@ fn halves<S: Squares>(
 }
 
 /// The cells of a band of level 0 at the end of a list.
-fn append_row<S: Squares>(
-    squares: &S,
-    band: &[Placed],
-    row: i64,
-    list: &mut Vec<Cell>,
-) -> Result<(), Kind>
+fn append_row<S: Squares>(squares: &S, band: &[Placed], row: i64, list: &mut Vec<Cell>) -> Listed
     requires each { All (IsPlaced (S.knows squares.now) (S.content squares.now) 0) band.now }
     ensures cells { OnOk result (list.new.items ≡ list.old.items ++ row_cells row
         (pieces (S.content squares.now) band.now)) }
@@ -263,7 +261,7 @@ fn row_of<S: Squares>(squares: &S, id: Id, south: bool, low: bool) -> (State, St
 
 /// A cell at the end of a list, unless its state is 0.
 #[inline(always)]
-fn append_cell(list: &mut Vec<Cell>, x: i64, y: i64, state: State) -> Result<(), Kind>
+fn append_cell(list: &mut Vec<Cell>, x: i64, y: i64, state: State) -> Listed
     ensures cells { OnOk result (list.new.items ≡ list.old.items ++ live_cells x y (state ∷ [])) }
     ensures refusals { IfErr result IsMemory }
 {
@@ -281,7 +279,7 @@ fn append_states(
     x: i64,
     y: i64,
     states: (State, State, State, State),
-) -> Result<(), Kind>
+) -> Listed
     requires west { neg_ℤ (pos (2 ^ 61)) ≤ℤ x }
     requires east { (x +ℤ pos 4) ≤ℤ pos (2 ^ 61) }
     ensures cells { OnOk result (list.new.items ≡ list.old.items ++ live_cells x y
@@ -304,7 +302,7 @@ fn append_part<S: Squares>(
     low: bool,
     y: i64,
     list: &mut Vec<Cell>,
-) -> Result<(), Kind>
+) -> Listed
     requires each { All (IsPlaced (S.knows squares.now) (S.content squares.now) 2) band.now }
     ensures cells { OnOk result (list.new.items ≡ list.old.items ++ part_cells south low y
         (pieces (S.content squares.now) band.now)) }
@@ -318,12 +316,7 @@ fn append_part<S: Squares>(
 }
 
 /// The cells of a band of level 2 at the end of a list.
-fn append_rows<S: Squares>(
-    squares: &S,
-    band: &[Placed],
-    row: i64,
-    list: &mut Vec<Cell>,
-) -> Result<(), Kind>
+fn append_rows<S: Squares>(squares: &S, band: &[Placed], row: i64, list: &mut Vec<Cell>) -> Listed
     requires each { All (IsPlaced (S.knows squares.now) (S.content squares.now) 2) band.now }
     requires band { InBand 2 (pieces (S.content squares.now) band.now) }
     requires north { neg_ℤ (pos (2 ^ 61)) ≤ℤ row }
@@ -347,7 +340,7 @@ fn append_band<S: Squares>(
     row: i64,
     limit: u64,
     list: &mut Vec<Cell>,
-) -> Result<(), Kind>
+) -> Listed
     requires top { level ≤ MAX_LEVEL }
     requires each { All (IsPlaced (S.knows squares.now) (S.content squares.now) level) band.items }
     requires band { InBand level (pieces (S.content squares.now) band.items) }
