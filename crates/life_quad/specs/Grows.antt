@@ -4,7 +4,9 @@ use Rattle.life_base.specs.declared.kind.Kind.{Kind}
 use Rattle.life_base.specs.declared.kind.Kind.TheVariants.{Full}
 use Rattle.life_base.specs.Tree.{Tree}
 use Rattle.life_quad.specs.declared.squares.Squares.{Ghosts}
-use Rattle.life_quad.specs.Keeping.{KeepsSquares, AddsOnly, IsWantKind}
+use Rattle.life_quad.specs.Keeping.{KeepsSquares, AddsOnly, IsWantKind, MakesSquares, MakesOneSquare}
+use Rattle.life_quad.specs.Refused.{SomePart}
+use Rattle.life_quad.specs.declared.id.Id.{Id}
 
 -- each Id keeps its square, nothing stored is taken away, and the limit stays: of a store that was `old` and is `new`
 abbrev pub Keeps : {X : Type 0} → Ghosts X → X → X → Type 0
@@ -28,3 +30,16 @@ pub record GrowsOnly {X A : Type 0} (S : Ghosts X) (old new : X) (r : Result A K
   pub refusals : IfErr r (IsWantKind (S.stored new) (S.most new))
   pub needed : OnErr r (Needs (S.needs_node new))
   pub adds : AddsOnly S.stored Needs old new
+
+-- what a call that makes squares does: `Known` and `Square` say what its answer is, and `Needed` what a refused call had to store
+abbrev pub Makes : {X T : Type 0} → Ghosts X → X → X → (T → Type 0) → (T → Type 0) → Type 0 → Result T Kind → Type 0
+Makes S old new Known Square Needed r = MakesSquares S.knows S.content S.stored S.most old new Known Square Needed r
+
+-- the same of a call that makes one square, of which something is said: a refused call had to store some part of such a square
+abbrev pub MakesSome : {X : Type 0} → Ghosts X → X → X → (Tree → Type 0) → Result Id Kind → Type 0
+MakesSome S old new Is r =
+    Makes S old new (S.knows new) (λ id. Is (S.content new id)) ((t : Tree) × Is t × SomePart (S.needs_node new) t) r
+
+-- of a call that makes this square, and stores no square but such as it needs
+abbrev pub MakesOne : {X : Type 0} → Ghosts X → X → X → Tree → ((Tree → Type 0) → Type 0) → Result Id Kind → Type 0
+MakesOne S old new t Needs r = MakesOneSquare S.knows S.content S.stored S.most S.needs_node old new t Needs r

@@ -1,6 +1,6 @@
 //! Squares made of other squares.
-ghost use Rattle.std.specs.Prelude.{◌≡◌, ◌&&◌, ◌+◌, ◌<◌, ◌≤◌, length, is_some, Err, IfOk, IfErr, OnErr, IfSome};
-ghost use Rattle.life_quad.specs.Words.{Memory, quad, depth, is_blank_tree, AreQuarters, quad_of, grown, trimmed, inner, can_trim, SomePart, TrimmedTo, AddsOnly, Keeps, IsWantOf};
+ghost use Rattle.std.specs.Prelude.{◌≡◌, ◌&&◌, ◌+◌, ◌<◌, ◌≤◌, is_some, IfSome};
+ghost use Rattle.life_quad.specs.Words.{quad, depth, is_blank_tree, AreQuarters, quad_of, grown, trimmed, inner, can_trim, SomePart, TrimmedTo, MakesOne};
 
 use crate::{Id, Squares};
 use life_base::{Kind, MAX_LEVEL};
@@ -44,15 +44,8 @@ pub fn grow<S: Squares>(squares: &mut S, id: Id) -> Result<Id, Kind>
     requires known { S.knows squares.old id }
     requires low { 1 ≤ depth (S.content squares.old id) }
     requires high { depth (S.content squares.old id) < MAX_LEVEL }
-    ensures known { IfOk result (S.knows squares.new) }
-    ensures square { IfOk result (λ r. S.content squares.new r ≡ grown (S.content squares.old id)) }
-    ensures keeps { Keeps S.Squares squares.old squares.new }
-    ensures adds { AddsOnly S.stored (λ P. SomePart P (grown (S.content squares.old id)))
-        squares.old squares.new }
-    ensures refusals { IfErr result (IsWantOf S.Squares squares.new) }
-    ensures room { result ≡ Err Memory → length (S.stored squares.new) < S.most squares.new }
-    ensures needed { OnErr result
-        (SomePart (S.needs_node squares.new) (grown (S.content squares.old id))) }
+    ensures { MakesOne S.Squares squares.old squares.new (grown (S.content squares.old id))
+        (λ P. SomePart P (grown (S.content squares.old id))) result }
 {
     let Quarters { nw, ne, sw, se } = divide(squares, id);
     let e = squares.empty(squares.level(nw));
@@ -159,16 +152,8 @@ fn innermost<S: Squares>(squares: &S, quarters: Quarters, least: u8) -> Quarters
 pub fn trim<S: Squares>(squares: &mut S, id: Id, least: u8) -> Result<Id, Kind>
     requires known { S.knows squares.old id }
     requires positive { 1 ≤ least }
-    ensures known { IfOk result (S.knows squares.new) }
-    ensures square { IfOk result
-        (λ r. S.content squares.new r ≡ trimmed (S.content squares.old id) least) }
-    ensures keeps { Keeps S.Squares squares.old squares.new }
-    ensures adds { AddsOnly S.stored (λ P. TrimmedTo P (S.content squares.old id) least)
-        squares.old squares.new }
-    ensures refusals { IfErr result (IsWantOf S.Squares squares.new) }
-    ensures room { result ≡ Err Memory → length (S.stored squares.new) < S.most squares.new }
-    ensures needed { OnErr result
-        (TrimmedTo (S.needs_node squares.new) (S.content squares.old id) least) }
+    ensures { MakesOne S.Squares squares.old squares.new (trimmed (S.content squares.old id) least)
+        (λ P. TrimmedTo P (S.content squares.old id) least) result }
 {
     if squares.level(id) <= least {
         return Ok(id);

@@ -1,6 +1,6 @@
 //! Runs of cells.
-ghost use Rattle.std.specs.Prelude.{◌≡◌, ◌⊎◌, ℤ, pos, neg_ℤ, ◌≤ℤ◌, ◌<ℤ◌, ◌+ℤ◌, ◌-◌, ◌+◌, ◌^◌, ◌<◌, ◌≤◌, length, Err, IfOk, IfErr, OnErr};
-ghost use Rattle.life_quad.specs.Words.{Memory, Tree, depth, SetsSpan, SetsHalves, IsRunInside, SetsRun, SomePart, Keeps, IsWantOf};
+ghost use Rattle.std.specs.Prelude.{◌≡◌, ◌⊎◌, ℤ, pos, neg_ℤ, ◌≤ℤ◌, ◌<ℤ◌, ◌+ℤ◌, ◌-◌, ◌+◌, ◌^◌, ◌<◌, ◌≤◌};
+ghost use Rattle.life_quad.specs.Words.{Tree, depth, SetsSpan, SetsHalves, IsRunInside, SetsRun, SomePart, Makes, MakesSome};
 
 use crate::moves::{Quarters, divide};
 use crate::{Id, Squares};
@@ -43,14 +43,8 @@ fn set_span<S: Squares>(squares: &mut S, id: Id, span: Span) -> Result<Id, Kind>
     requires positive { 1 ≤ span.len }
     requires columns { span.column + span.len ≤ 2 ^ depth (S.content squares.old id) }
     requires rows { span.row < 2 ^ depth (S.content squares.old id) }
-    ensures known { IfOk result (S.knows squares.new) }
-    ensures square { IfOk result
-        (λ r. SetsSpan (S.content squares.old id) (S.content squares.new r) span) }
-    ensures keeps { Keeps S.Squares squares.old squares.new }
-    ensures refusals { IfErr result (IsWantOf S.Squares squares.new) }
-    ensures room { result ≡ Err Memory → length (S.stored squares.new) < S.most squares.new }
-    ensures needed { OnErr result ((t : Tree) × SetsSpan (S.content squares.old id) t span
-        × SomePart (S.needs_node squares.new) t) }
+    ensures { MakesSome S.Squares squares.old squares.new
+        (λ t. SetsSpan (S.content squares.old id) t span) result }
 {
     let level = squares.level(id);
     if level == 0 {
@@ -85,16 +79,13 @@ fn set_halves<S: Squares>(
     requires positive { 1 ≤ span.len }
     requires columns { span.column + span.len ≤ half + half }
     requires rows { span.row < half }
-    ensures known { IfOk result (λ r. S.knows squares.new r.0 × S.knows squares.new r.1) }
-    ensures square { IfOk result (λ r. SetsHalves (S.content squares.old left)
-        (S.content squares.old right) (S.content squares.new r.0) (S.content squares.new r.1)
-        span) }
-    ensures keeps { Keeps S.Squares squares.old squares.new }
-    ensures refusals { IfErr result (IsWantOf S.Squares squares.new) }
-    ensures room { result ≡ Err Memory → length (S.stored squares.new) < S.most squares.new }
-    ensures needed { OnErr result ((a b : Tree)
-        × SetsHalves (S.content squares.old left) (S.content squares.old right) a b span
-        × (SomePart (S.needs_node squares.new) a ⊎ SomePart (S.needs_node squares.new) b)) }
+    ensures { let SetsIn = SetsHalves (S.content squares.old left) (S.content squares.old right) in
+        Makes S.Squares squares.old squares.new
+        (λ r. S.knows squares.new r.0 × S.knows squares.new r.1)
+        (λ r. SetsIn (S.content squares.new r.0) (S.content squares.new r.1) span)
+        ((a b : Tree) × SetsIn a b span
+        × (SomePart (S.needs_node squares.new) a ⊎ SomePart (S.needs_node squares.new) b))
+        result }
 {
     let end = span.column + span.len;
     if end <= half {
@@ -131,14 +122,8 @@ pub fn put_run<S: Squares>(squares: &mut S, root: Id, run: Run) -> Result<Id, Ki
     requires high { 1 ≤ depth (S.content squares.old root) }
     requires positive { 1 ≤ run.len }
     requires inside { IsRunInside (S.content squares.old root) run }
-    ensures known { IfOk result (S.knows squares.new) }
-    ensures square { IfOk result
-        (λ r. SetsRun (S.content squares.old root) (S.content squares.new r) run) }
-    ensures keeps { Keeps S.Squares squares.old squares.new }
-    ensures refusals { IfErr result (IsWantOf S.Squares squares.new) }
-    ensures room { result ≡ Err Memory → length (S.stored squares.new) < S.most squares.new }
-    ensures needed { OnErr result ((t : Tree) × SetsRun (S.content squares.old root) t run
-        × SomePart (S.needs_node squares.new) t) }
+    ensures { MakesSome S.Squares squares.old squares.new
+        (λ t. SetsRun (S.content squares.old root) t run) result }
 {
     let half = half_side(squares.level(root));
     let span = Span {

@@ -2,7 +2,7 @@
 ghost use Rattle.std.specs.Prelude.{◌≡◌, ◌↔◌, ℕ, ◌<◌, ◌≤◌, List, [], ◌∷◌, ◌++◌, length, map, All, Err, MatchOption, IfSome, IfOk, IfErr, OnOk, OnErr};
 ghost use Rattle.life_base.specs.Tree.{Tree, point, quad, depth, blank, quarters, IsFull};
 ghost use Rattle.life_base.specs.declared.kind.Kind.TheVariants.{Full, Memory};
-ghost use Rattle.life_quad.specs.Keeping.{KeepsSquares, AddsOnly, IsWantKind};
+ghost use Rattle.life_quad.specs.Keeping.{KeepsSquares, AddsOnly, IsWantKind, MakesOneSquare};
 ghost use Rattle.life_quad.specs.Refused.{SomePart};
 ghost use Rattle.life_quad.specs.Store.{two, four};
 ghost use Rattle.life_quad.specs.declared.id.Id.{Id as IdValue};
@@ -114,13 +114,8 @@ pub trait Squares {
     /// south-west and the south-east one. A refused call leaves each Id its square.
     fn small_quarter(&mut self, cells: u16) -> Result<Id, Kind>
         requires { cells < 16 }
-        ensures known { IfOk result (λ id. knows self.new id) }
-        ensures square { IfOk result (λ id. content self.new id ≡ two cells) }
-        ensures keeps { KeepsSquares knows content stored most self.old self.new }
-        ensures adds { AddsOnly stored (λ P. P (two cells)) self.old self.new }
-        ensures refusals { IfErr result (IsWantKind (stored self.new) (most self.new)) }
-        ensures room { result ≡ Err Memory → length (stored self.new) < most self.new }
-        ensures needed { OnErr result (needs_node self.new (two cells)) }
+        ensures { MakesOneSquare knows content stored most needs_node self.old self.new (two cells)
+            (λ P. P (two cells)) result }
     {
         let nw = self.cell((cells / 8) as u8);
         let ne = self.cell((cells / 4 % 2) as u8);
@@ -132,13 +127,8 @@ pub trait Squares {
     /// The square of level 2 with these cells of the states 0 and 1, as `find_small` takes them, where it is not there made of its quarters. After a
     /// refusal each Id has its square.
     fn small(&mut self, cells: u16) -> Result<Id, Kind>
-        ensures known { IfOk result (λ id. knows self.new id) }
-        ensures square { IfOk result (λ id. content self.new id ≡ four cells) }
-        ensures keeps { KeepsSquares knows content stored most self.old self.new }
-        ensures adds { AddsOnly stored (λ P. SomePart P (four cells)) self.old self.new }
-        ensures refusals { IfErr result (IsWantKind (stored self.new) (most self.new)) }
-        ensures room { result ≡ Err Memory → length (stored self.new) < most self.new }
-        ensures needed { OnErr result (SomePart (needs_node self.new) (four cells)) }
+        ensures { MakesOneSquare knows content stored most needs_node self.old self.new (four cells)
+            (λ P. SomePart P (four cells)) result }
     {
         self.small_of_quarters(cells)
     }
@@ -146,13 +136,8 @@ pub trait Squares {
     /// The same by way of its quarters, however the store finds it elsewhere. It is never inlined, so that `small` stays short.
     #[inline(never)]
     fn small_of_quarters(&mut self, cells: u16) -> Result<Id, Kind>
-        ensures known { IfOk result (λ id. knows self.new id) }
-        ensures square { IfOk result (λ id. content self.new id ≡ four cells) }
-        ensures keeps { KeepsSquares knows content stored most self.old self.new }
-        ensures adds { AddsOnly stored (λ P. SomePart P (four cells)) self.old self.new }
-        ensures refusals { IfErr result (IsWantKind (stored self.new) (most self.new)) }
-        ensures room { result ≡ Err Memory → length (stored self.new) < most self.new }
-        ensures needed { OnErr result (SomePart (needs_node self.new) (four cells)) }
+        ensures { MakesOneSquare knows content stored most needs_node self.old self.new (four cells)
+            (λ P. SomePart P (four cells)) result }
     {
         if let Some(id) = self.find_small(cells) {
             return Ok(id);

@@ -171,21 +171,21 @@ join-requires-5 g c =
 pub returns-in_err-north_west : goal.returns-in_err-north_west
 returns-in_err-north_west g c =
     let a = around g.S.Squares.knows g.S.Squares.content c.empty-e.ensures.known c.divide.ensures c.empty-e.ensures.square c.level.ensures.level in
-    refused-only g.S.Squares.needs_node _ _ _ c.from_residual.result c.from_residual.ensures.1 (keeps-same c.args.squares.now)
+    refused-only _ c.from_residual.result c.from_residual.ensures.1 (keeps-same c.args.squares.now)
     (adds-none _ c.args.squares.now) c.in_err-north_west.ensures (needs_1 a)
 
 pub returns-in_err-north_east : goal.returns-in_err-north_east
 returns-in_err-north_east g c =
     let a = around g.S.Squares.knows g.S.Squares.content c.empty-e.ensures.known c.divide.ensures c.empty-e.ensures.square c.level.ensures.level in
     let b_1 = behind_1 a c.join.ensures.keeps c.join.ensures.adds in
-    refused-only g.S.Squares.needs_node _ _ _ c.from_residual-in_err-north_east.result c.from_residual-in_err-north_east.ensures.1 b_1.keeps b_1.adds
+    refused-only _ c.from_residual-in_err-north_east.result c.from_residual-in_err-north_east.ensures.1 b_1.keeps b_1.adds
     c.in_err-north_east.ensures (needs_2 a b_1)
 
 pub returns-in_err-south_west : goal.returns-in_err-south_west
 returns-in_err-south_west g c =
     let a = around g.S.Squares.knows g.S.Squares.content c.empty-e.ensures.known c.divide.ensures c.empty-e.ensures.square c.level.ensures.level in
     let b_2 = behind_2 a c.join.ensures.keeps c.join.ensures.adds c.join-2.ensures.keeps c.join-2.ensures.adds in
-    refused-only g.S.Squares.needs_node _ _ _ c.from_residual-in_err-south_west.result c.from_residual-in_err-south_west.ensures.1 b_2.keeps b_2.adds
+    refused-only _ c.from_residual-in_err-south_west.result c.from_residual-in_err-south_west.ensures.1 b_2.keeps b_2.adds
     c.in_err-south_west.ensures (needs_3 a b_2)
 
 pub returns-in_err-south_east : goal.returns-in_err-south_east
@@ -193,7 +193,7 @@ returns-in_err-south_east g c =
     let a = around g.S.Squares.knows g.S.Squares.content c.empty-e.ensures.known c.divide.ensures c.empty-e.ensures.square c.level.ensures.level in
     let b_3 = behind_3 a c.join.ensures.keeps c.join.ensures.adds c.join-2.ensures.keeps c.join-2.ensures.adds c.join-3.ensures.keeps
     c.join-3.ensures.adds in
-    refused-only g.S.Squares.needs_node _ _ _ c.from_residual-in_err-south_east.result c.from_residual-in_err-south_east.ensures.1 b_3.keeps b_3.adds
+    refused-only _ c.from_residual-in_err-south_east.result c.from_residual-in_err-south_east.ensures.1 b_3.keeps b_3.adds
     c.in_err-south_east.ensures (needs_4 a b_3)
 
 pub returns : goal.returns
@@ -226,7 +226,7 @@ returns g c =
     ≡ quad (quad e e e (C o c.divide.result.nw)) (quad e e (C o c.divide.result.ne) e) (quad e (C o c.divide.result.sw) e e)
     (quad (C o c.divide.result.se) e e e) =
     (λ i. quad (nw i) (ne i) (sw i) (se i)) in
-    joined-only g.S.Squares.needs_node (λ u. u ≡ grown (C o c.args.id)) _ c.join-5.result b_4.keeps b_4.adds c.join-5.ensures
+    joined-only _ c.join-5.result b_4.keeps b_4.adds c.join-5.ensures
     (whole ∙ grown_is _ _ _ _ _ _ a.square a.side) (λ P n. part a P (inl (subst P whole n)))
 
 -- These are the answers of the five joins.

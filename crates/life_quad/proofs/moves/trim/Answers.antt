@@ -18,11 +18,10 @@ returns g c =
     let old = c.args.squares.now in
     let t = g.S.Squares.content old c.args.id in
     let least = c.args.least in
-    let N = g.S.Squares.needs_node in
     let full = g.met.S.Squares.full _ _ c.requires.known in
     let can = ap (λ u. can_trim u least) c.divide.ensures.square ∙ sym c.in-Some.ensures.trims in
     let smaller = c.innermost.ensures.square ∙ ap (λ u. trimmed u least) (sym c.in-Some.ensures.square ∙ sym (ap inner c.divide.ensures.square))
     ∙ trimmed-smaller t least full c.requires.positive can in
     let Needs : (Tree → Type 0) → Type 0 = λ P. TrimmedTo P t least in
-    joined-only N (λ u. u ≡ trimmed t least) Needs c.join.result (keeps-same old) (adds-none Needs old) c.join.ensures smaller
+    joined-only Needs c.join.result (keeps-same old) (adds-none Needs old) c.join.ensures smaller
     (λ P n. record { smaller = trimmed-lower t least full c.requires.positive can; has = subst P smaller n })

@@ -3,7 +3,7 @@ use Rattle.life_base.specs.Tree.{Tree}
 use Rattle.life_quad.specs.IdMap.{value_of}
 use Rattle.life_quad.specs.Refused.{SomePart}
 use Rattle.life_quad.specs.Store.{four, small_square, squares, IsSmall, Answers, HasSeen}
-use Rattle.life_quad.proofs.CallLemmas.{is_wanted, join_answers}
+use Rattle.life_quad.proofs.CallLemmas.{join_answers}
 use Rattle.life_quad.proofs.KeepingLemmas.{keeps-same, adds-none}
 use Rattle.life_quad.proofs.MakingLemmas.{joined-only}
 use Rattle.life_quad.proofs.SmallCells.{four_is, four_small}
@@ -28,4 +28,4 @@ returns-then-has_quarters c =
     let answers = subst (λ t. Answers s c.mark.new.self t r) (ap (λ n. small_square (528 + n)) c.from.ensures ∙ four_is d) c.mark.ensures in
     let join = join_answers s c.mark.new.self (four d) (omega arith) small.1 r answers in
     let Needs : (Tree → Type 0) → Type 0 = λ P. SomePart P (four d) in
-    joined-only is_wanted (λ u. u ≡ four d) Needs r (keeps-same s) (adds-none Needs s) join refl (λ P p. inl p)
+    joined-only Needs r (keeps-same s) (adds-none Needs s) join refl (λ P p. inl p)
