@@ -1,10 +1,10 @@
 -- What the calls of a shared store answer.
 use Rattle.std.proofs.Common.{◌≡◌, ◌≢◌, length-append, Contains, ◌⊎◌, inl, inr, true≢false, ◌&&◌, ℕ, zero, suc, ◌+◌, ◌-◌, ◌≤◌, ◌<◌, Bool, true, false, List, [], ◌∷◌, ◌++◌, length, None, Some, slice_get, get_or, Result, Ok, Err, OnOk, OnErr, refl, sym, ◌∙◌, ap, subst, arith, map, ◌↔◌, nat_lt}
 use Rattle.std.proofs.lemmas.List.Elements.{All-cons, All-nil, Contains-append_left, Contains-append_right, Contains-push, Contains-push_cases, Contains-get_or}
-use Rattle.std.proofs.lemmas.List.{length-map, get_or-map, map_push}
+use Rattle.std.proofs.lemmas.List.{length-map, get_or-map, map_push, append-nil}
 use Rattle.std.specs.List.{list_any, position, All, AllPairs}
 use Rattle.std.proofs.lemmas.List.Quantifiers.{position-Some}
-use Rattle.std.specs.Prelude.{◌^◌, if◌then◌else◌, IfOk, IfErr, IsErr, IsErrAnd}
+use Rattle.std.specs.Prelude.{◌^◌, if◌then◌else◌, IfErr, IsErr, IsErrAnd}
 use Rattle.indexmap.specs.IndexSet.{insert_key}
 use Rattle.std.proofs.lemmas.Option.{slice_get-get_or, slice_get_within, get_or_from_slice_get}
 use Rattle.std.proofs.lemmas.List.Folds.{list_any_at}
@@ -16,12 +16,13 @@ use Rattle.life_quad.specs.declared.id.Node.{Node}
 use Rattle.life_quad.specs.contracts.id.NodePartialEq.TheImpl.{eq-value}
 use Rattle.life_base.specs.Tree.{Tree, point, quad, depth, quarters, blank, is_blank_tree, IsFull}
 use Rattle.life_base.proofs.Squares.{depth-blank, is_blank-blank, blank_is, quad_nw, quad_ne, quad_sw, quad_se, point_state, point≢quad}
-use Rattle.life_quad.specs.Store.{Nodes, two, four, small_square, number_of, id_of, square_of, node_square, squares, levels_of, content, held, is_blank_id, IsNamed, IsEarlier, IsNode, IsSmall, IsSound, IsShared, Knows, IsIdOf, as_small, as_node, KeepsContents, Joined, was_there, is_new, Answers, HasSeen}
+use Rattle.life_quad.specs.Store.{Nodes, two, four, small_square, number_of, id_of, square_of, node_square, squares, levels_of, content, held, is_blank_id, IsNamed, IsEarlier, IsNode, IsSmall, IsSound, IsShared, Knows, IsIdOf, as_small, as_node, Joined, was_there, is_new, Answers, HasSeen}
 use Rattle.life_quad.specs.Keeping.{KeepsSquares, AddsOnly, IsWantKind}
 use Rattle.life_quad.specs.IdNumbers.{first_of}
 use Rattle.life_quad.proofs.SmallLemmas.{small_range, quarters_range}
 use Rattle.life_quad.specs.StoreLaws.{Kinds, a_state, a_blank, a_small, a_node, kind_of, Names, the_state, the_blank, the_node, names, same_id, same_ids, small_node, full_content}
 use Rattle.life_quad.proofs.StoreLemmas.{length-squares, squares-push, square_of-append, square_of-node, square_of-small, square_of-id, is_blank-content, slice_get-last, slice_get-push_cases, node_square-append}
+use Rattle.life_quad.proofs.KeepingLemmas.{keeps-same, adds-none}
 use Rattle.life_quad.proofs.MakingLemmas.{Joins}
 use Rattle.life_quad.proofs.GrowLemmas.{with_id, with_node, with_both, IsSound-id, IsSound-both, IsShared-id, IsShared-both}
 
@@ -311,10 +312,6 @@ module _ (old new : Nodes) (more : List Tree) (grown : squares new.nodes ≡ squ
       let same = map_same f (λ j. content old (id_of j)) old.log (λ j there. content-grown (id_of j) (u.known j there)) in
       ap (map f) e ∙ map_push f old.log k ∙ ap (λ z. z ++ f k ∷ []) same
 
-append_nil : (xs : List Tree) → xs ++ [] ≡ xs
-append_nil [] = refl
-append_nil (x ∷ xs) = ap (λ l. x ∷ l) (append_nil xs)
-
 -- an Id of a square that is there
 pub joined_there : (s : Nodes) (n : Node) (id : Id) → IsSound s → IsShared s → IsIdOf s n id → Joined s s (node_square (squares s.nodes) n) id
 joined_there s n id h u e = was_there refl (id_held s n id h u e) (knows_id s n id h e, u) (square_of-id s n id h e)
@@ -340,7 +337,7 @@ joined_small s k h u small absent room =
     let r = small_range q.nw q.ne q.sw q.se k small.number in
     let sound = IsSound-id s k h (λ _. small) in
     let shared = IsShared-id s k u absent r.1 room in
-    let grown : squares s.nodes ≡ squares s.nodes ++ [] = sym (append_nil (squares s.nodes)) in
+    let grown : squares s.nodes ≡ squares s.nodes ++ [] = sym (append-nil (squares s.nodes)) in
     let is : content (with_id s k) (id_of k) ≡ small_square k = square_of-small (squares s.nodes) (id_of k) r.0 r.1 in
     is_new (absent_small s k h u small absent)
     (λ id known. let p = knows-grown s (with_id s k) [] grown (omega arith) (λ j. Contains-append_left s.log (k ∷ []) j) sound id known.0 in
@@ -584,101 +581,66 @@ module _ (old new : Nodes) (t : Tree) (deep : 0 < depth t) (not_blank : is_blank
   abbrev Needs : Type 0
   Needs = is_wanted old t
 
-  join_known : (r : Result Id Kind) → Answers old new t r → IfOk r (λ id. Knows new id × IsShared new)
-  join_known (Ok id) a = by a.joined
-    where
-      by : Joined old new t id → Knows new id × IsShared new
-      by (was_there same there known is) = subst (λ s. Knows s id × IsShared s) (sym same) known
-      by (is_new absent keeps added known is) = known
-  join_known (Err k) a = tt
+  abbrev Keeps : Nodes → Type 0
+  Keeps s = KeepsSquares (λ s id. Knows s id × IsShared s) content held (λ s. s.limit) old s
 
-  join_square : (r : Result Id Kind) → Answers old new t r → IfOk r (λ id. content new id ≡ t)
-  join_square (Ok id) a = by a.joined
-    where
-      by : Joined old new t id → content new id ≡ t
-      by (was_there same there known is) = ap (λ s. content s id) same ∙ is
-      by (is_new absent keeps added known is) = is
-  join_square (Err k) a = tt
-
-  same_keeps : new ≡ old → KeepsContents old new
-  same_keeps same id k = (subst (λ s. Knows s id × IsShared s) (sym same) k, ap (λ s. content s id) same)
-
-  join_contents : (r : Result Id Kind) → Answers old new t r → KeepsContents old new
-  join_contents (Ok id) a = by a.joined
-    where
-      by : Joined old new t id → KeepsContents old new
-      by (was_there same there known is) = same_keeps same
-      by (is_new absent keeps added known is) = keeps
-  join_contents (Err k) a = same_keeps a.unchanged
-
-  join_stays : (r : Result Id Kind) → Answers old new t r → (u : Tree) → Contains (held old) u → Contains (held new) u
-  join_stays (Ok id) a u h = by a.joined
-    where
-      by : Joined old new t id → Contains (held new) u
-      by (was_there same there known is) = subst (λ s. Contains (held s) u) (sym same) h
-      by (is_new absent keeps added known is) = subst (λ l. Contains l u) (sym added) (Contains-append_left (held old) (t ∷ []) u h)
-  join_stays (Err k) a u h = subst (λ s. Contains (held s) u) (sym a.unchanged) h
-
-  join_keeps : (r : Result Id Kind) → Answers old new t r → KeepsSquares (λ s id. Knows s id × IsShared s) content held (λ s. s.limit) old new
-  join_keeps r a = record { contents = join_contents r a; stored = join_stays r a; limit = a.limit }
-
-  join_added : (r : Result Id Kind) → Answers old new t r → OnOk r (Needs → held new ≡ held old ++ t ∷ [])
-  join_added (Ok id) a = λ needs. by needs a.joined
-    where
-      by : Needs → Joined old new t id → held new ≡ held old ++ t ∷ []
-      by needs (was_there same there known is) = absurd (needs.1 there)
-      by needs (is_new absent keeps added known is) = added
-  join_added (Err k) a = tt
-
-  join_there : (r : Result Id Kind) → Answers old new t r → OnOk r (¬ Needs → held new ≡ held old)
-  join_there (Ok id) a = λ unneeded. by unneeded a.joined
-    where
-      by : ¬ Needs → Joined old new t id → held new ≡ held old
-      by unneeded (was_there same there known is) = ap held same
-      by unneeded (is_new absent keeps added known is) = absurd (unneeded (not_blank, absent))
-  join_there (Err k) a = tt
-
-  join_fresh : (r : Result Id Kind) → Answers old new t r → IfOk r (λ id. Needs → ¬ (Knows old id × IsShared old))
-  join_fresh (Ok id) a = λ needs known. by needs known a.joined
-    where
-      by : Needs → Knows old id × IsShared old → Joined old new t id → ⊥
-      by needs known (was_there same there k is) = needs.1 there
-      by needs known (is_new absent keeps added k is) =
-          let same : content old id ≡ t = sym (keeps id known).1 ∙ is in
-          absent (subst (Contains (held old)) same
-          (held-complete old known.1 id known.0 (ap is_blank_tree same ∙ not_blank) (subst (λ z. 0 < depth z) (sym same) deep)))
-  join_fresh (Err k) a = tt
-
-  join_full : (r : Result Id Kind) → Answers old new t r → (r ≡ Err Full) ↔ (Needs × (length (held old) ≡ old.limit))
-  join_full r a = (λ e. let f = a.full.0 e in ((not_blank, f.0), f.1), λ needs. a.full.1 (needs.0.1, needs.1))
-
-  join_needed : (r : Result Id Kind) → Answers old new t r → OnErr r Needs
-  join_needed (Ok id) a = tt
-  join_needed (Err k) a = (not_blank, a.needed)
-
-  join_adds : (r : Result Id Kind) → Answers old new t r → AddsOnly held (λ P. P t) old new
-  join_adds (Ok id) a = record { each = λ u h. by u h a.joined }
-    where
-      by : (u : Tree) → Contains (held new) u → Joined old new t id → Contains (held old) u ⊎ (t ≡ u)
-      by u h (was_there same there known is) = inl (subst (λ s. Contains (held s) u) same h)
-      by u h (is_new absent keeps added known is) = Contains-push_cases (held old) t u (subst (λ l. Contains l u) added h)
-  join_adds (Err k) a = record { each = λ u h. inl (subst (λ s. Contains (held s) u) a.unchanged h) }
+  full_if_needed : (r : Result Id Kind) → Answers old new t r → (r ≡ Err Full) ↔ (Needs × (length (held old) ≡ old.limit))
+  full_if_needed r a = (λ e. let f = a.full.0 e in ((not_blank, f.0), f.1), λ needs. a.full.1 (needs.0.1, needs.1))
 
   pub join_answers : (r : Result Id Kind) → Answers old new t r
       → Joins (λ s id. Knows s id × IsShared s) content held (λ s. s.limit) is_wanted old new t r
-  join_answers r a =
+  join_answers (Ok id) a = by a.joined
+    where
+      by : Joined old new t id → Joins (λ s id. Knows s id × IsShared s) content held (λ s. s.limit) is_wanted old new t (Ok id)
+      by (was_there same there known is) =
+          record {
+            known = subst (λ s. Knows s id × IsShared s) (sym same) known;
+            square = ap (λ s. content s id) same ∙ is;
+            keeps = subst Keeps (sym same) (keeps-same old);
+            adds = subst (λ s. AddsOnly held (λ P. P t) old s) (sym same) (adds-none _ old);
+            added = λ needs. absurd (needs.1 there);
+            there = λ unneeded. ap held same;
+            fresh = λ needs k. needs.1 there;
+            full = full_if_needed (Ok id) a;
+            room = a.room;
+            refusals = tt;
+            needed = tt;
+            unchanged = tt;
+          }
+      by (is_new absent keeps added known is) =
+          record {
+            known = known;
+            square = is;
+            keeps = record {
+              contents = keeps;
+              stored = λ u h. subst (λ l. Contains l u) (sym added) (Contains-append_left (held old) (t ∷ []) u h);
+              limit = a.limit;
+            };
+            adds = record { each = λ u h. Contains-push_cases (held old) t u (subst (λ l. Contains l u) added h) };
+            added = λ needs. added;
+            there = λ unneeded. absurd (unneeded (not_blank, absent));
+            fresh = λ needs k. let same : content old id ≡ t = sym (keeps id k).1 ∙ is in
+                absent (subst (Contains (held old)) same
+                (held-complete old k.1 id k.0 (ap is_blank_tree same ∙ not_blank) (subst (λ z. 0 < depth z) (sym same) deep)));
+            full = full_if_needed (Ok id) a;
+            room = a.room;
+            refusals = tt;
+            needed = tt;
+            unchanged = tt;
+          }
+  join_answers (Err k) a =
       record {
-        known = join_known r a;
-        square = join_square r a;
-        keeps = join_keeps r a;
-        adds = join_adds r a;
-        added = join_added r a;
-        there = join_there r a;
-        fresh = join_fresh r a;
-        full = join_full r a;
+        known = tt;
+        square = tt;
+        keeps = subst Keeps (sym a.unchanged) (keeps-same old);
+        adds = subst (λ s. AddsOnly held (λ P. P t) old s) (sym a.unchanged) (adds-none _ old);
+        added = tt;
+        there = tt;
+        fresh = tt;
+        full = full_if_needed (Err k) a;
         room = a.room;
         refusals = a.refusals;
-        needed = join_needed r a;
+        needed = (not_blank, a.needed);
         unchanged = a.unchanged;
       }
 

@@ -55,20 +55,12 @@ module _ {S : Type 0} {knows : S → Id → Type 0} {content : S → Id → Tree
     -- what a join makes
     joined : {old new : S} {t : Tree} (r : Result Id Kind) → Joins knows content stored most needs old new t r
         → MakesOneSquare knows content stored most needs old new t (λ P. P t) r
-    joined {old} {new} {t} r join =
-        record {
-          known = join.known;
-          square = join.square;
-          keeps = join.keeps;
-          adds = join.adds;
-          refusals = join.refusals;
-          room = join.room;
-          needed = still_needed r join.needed join.unchanged;
-        }
+    joined {old} {new} {t} r j =
+        record { known = j.known; square = j.square; keeps = j.keeps; adds = j.adds; refusals = j.refusals; room = j.room; needed = now r j.needed j.unchanged }
       where
-        still_needed : (r : Result Id Kind) → OnErr r (needs old t) → OnErr r (new ≡ old) → OnErr r (needs new t)
-        still_needed (Ok id) before same = tt
-        still_needed (Err e) before same = subst (λ s. needs s t) (sym same) before
+        now : (r : Result Id Kind) → OnErr r (needs old t) → OnErr r (new ≡ old) → OnErr r (needs new t)
+        now (Ok id) before same = tt
+        now (Err e) before same = subst (λ s. needs s t) (sym same) before
 
     -- calls that store no squares but such as they need, and end with a join
     pub joined-only : {old mid new : S} {t u : Tree} (Needs : (Tree → Type 0) → Type 0) (r : Result Id Kind)

@@ -1,5 +1,5 @@
 -- Values in pages.
-use Rattle.std.proofs.Common.{◌≡◌, ◌≢◌, ◌⊎◌, inl, inr, ℕ, ◌+◌, ◌/◌, ◌%◌, ◌<◌, ◌≤◌, Bool, true, false, ◌==◌, if◌then◌else◌, nat_lt, List, ◌++◌, length, get_or, set, replicate, refl, sym, ◌∙◌, ap, arith, get_or-set_other}
+use Rattle.std.proofs.Common.{◌≡◌, ◌≢◌, ◌⊎◌, inl, inr, ℕ, ◌+◌, ◌/◌, ◌%◌, ◌<◌, ◌≤◌, Bool, true, false, ◌==◌, if◌then◌else◌, nat_lt, List, ◌++◌, length, get_or, replicate, refl, sym, ◌∙◌, ap, arith}
 use Rattle.std.proofs.lemmas.Grind.{common_steps}
 use Rattle.std.proofs.lemmas.List.{get_or_past}
 use Rattle.life_quad.specs.Pages.{ArePages, place_of, start_in, index_in}
@@ -96,10 +96,3 @@ same_values {X} starts new values absent place m n h number none here others = f
         get_or_past values (index_in new n) absent (omega (arith, f))
         ∙ sym (get_or_past values (index_in starts n) absent (behind starts (length values) m n h (e ∙ sym number) none))
     by (inr o) = ap (λ s. get_or values (s + n % 256) absent) (others (place_of n) o)
-
--- a value that is set is that of one number alone
-pub other_values : {X : Type 0} (starts : List ℕ) (values : List X) (absent value : X) (m n : ℕ) → ArePages starts (length values)
-    → index_in starts m < length values → n ≢ m
-    → get_or (set values (index_in starts m) value) (index_in starts n) absent ≡ get_or values (index_in starts n) absent
-other_values starts values absent value m n h room other = get_or-set_other values (index_in starts m) (index_in starts n) value absent
-    (λ e. other (h.apart n m e room))

@@ -1,4 +1,4 @@
-use Rattle.std.proofs.Common.{◌≡◌, sym, ◌∙◌, ap, subst}
+use Rattle.std.proofs.Common.{sym, ◌∙◌, ap, subst}
 use Rattle.life_base.specs.Tree.{Tree}
 use Rattle.life_quad.specs.Refused.{TrimmedTo}
 use Rattle.life_quad.specs.Moves.{AreQuarters, inner, trimmed, can_trim}

@@ -1,4 +1,4 @@
-use Rattle.std.proofs.Common.{◌≡◌, ◌+◌, refl, ap, sym, ◌∙◌, arith, subst, inl}
+use Rattle.std.proofs.Common.{◌+◌, refl, ap, sym, ◌∙◌, arith, subst, inl}
 use Rattle.life_base.specs.Tree.{Tree}
 use Rattle.life_quad.specs.IdMap.{value_of}
 use Rattle.life_quad.specs.Refused.{SomePart}

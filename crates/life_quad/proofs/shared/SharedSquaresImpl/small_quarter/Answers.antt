@@ -1,4 +1,4 @@
-use Rattle.std.proofs.Common.{◌≡◌, ◌+◌, ◌<◌, refl, ap, sym, ◌∙◌, arith, subst}
+use Rattle.std.proofs.Common.{◌+◌, ◌<◌, refl, ap, sym, ◌∙◌, arith, subst}
 use Rattle.life_base.specs.Tree.{Tree}
 use Rattle.life_quad.specs.Store.{two, small_square, squares, IsSmall, Answers}
 use Rattle.life_quad.proofs.CallLemmas.{join_answers}
