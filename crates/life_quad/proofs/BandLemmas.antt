@@ -1,5 +1,6 @@
 -- The cells of a band are its nonzero cells, row by row.
 use Rattle.std.proofs.Common.{◌≡◌, ◌==◌, ℕ, zero, suc, ◌+◌, ◌-◌, ◌^◌, ◌≤◌, Bool, true, false, ◌⊎◌, inl, inr, ℤ, pos, ◌+ℤ◌, ◌≤ℤ◌, List, [], ◌∷◌, ◌++◌, refl, sym, ◌∙◌, ap, subst, arith, true≢false}
+use Rattle.std.specs.List.{flat_map}
 use Rattle.std.specs.Prelude.{if◌then◌else◌}
 use Rattle.std.proofs.lemmas.Int.{ints}
 use Rattle.std.proofs.lemmas.List.{append_assoc}
@@ -62,28 +63,33 @@ pub record IsCellOf (top : ℤ) (p : Piece) (c : Cell) : Type 0 where
   pub y : c.y ≡ top +ℤ pos j
   pub state : state_at p.square i j ≡ c.state
 
--- it is one of a square of the band
+-- some element has the property
+abbrev pub SomeOf : {X : Type 0} → (X → Type 0) → List X → Type 0
+SomeOf P [] = ⊥
+SomeOf P (x ∷ xs) = P x ⊎ SomeOf P xs
+
+module _ {X : Type 0} (P : X → Type 0) where
+  pub SomeOf-append_left : (xs ys : List X) → SomeOf P xs → SomeOf P (xs ++ ys)
+  SomeOf-append_left [] ys h = absurd h
+  SomeOf-append_left (x ∷ xs) ys (inl h) = inl h
+  SomeOf-append_left (x ∷ xs) ys (inr h) = inr (SomeOf-append_left xs ys h)
+
+  pub SomeOf-append_right : (xs ys : List X) → SomeOf P ys → SomeOf P (xs ++ ys)
+  SomeOf-append_right [] ys h = h
+  SomeOf-append_right (x ∷ xs) ys h = inr (SomeOf-append_right xs ys h)
+
+  pub SomeOf-cases : (xs ys : List X) → SomeOf P (xs ++ ys) → SomeOf P xs ⊎ SomeOf P ys
+  SomeOf-cases [] ys h = inr h
+  SomeOf-cases (x ∷ xs) ys (inl h) = inl (inl h)
+  SomeOf-cases (x ∷ xs) ys (inr h) = by (SomeOf-cases xs ys h)
+    where
+      by : SomeOf P xs ⊎ SomeOf P ys → SomeOf P (x ∷ xs) ⊎ SomeOf P ys
+      by (inl g) = inl (inr g)
+      by (inr g) = inr g
+
+-- the cell is one of a square of the band
 abbrev pub OnBand : ℤ → List Piece → Cell → Type 0
-OnBand top [] c = ⊥
-OnBand top (p ∷ band) c = IsCellOf top p c ⊎ OnBand top band c
-
-pub OnBand-append_left : (top : ℤ) (xs ys : List Piece) (c : Cell) → OnBand top xs c → OnBand top (xs ++ ys) c
-OnBand-append_left top [] ys c h = absurd h
-OnBand-append_left top (p ∷ xs) ys c (inl h) = inl h
-OnBand-append_left top (p ∷ xs) ys c (inr h) = inr (OnBand-append_left top xs ys c h)
-
-pub OnBand-append_right : (top : ℤ) (xs ys : List Piece) (c : Cell) → OnBand top ys c → OnBand top (xs ++ ys) c
-OnBand-append_right top [] ys c h = h
-OnBand-append_right top (p ∷ xs) ys c h = inr (OnBand-append_right top xs ys c h)
-
-pub OnBand-cases : (top : ℤ) (xs ys : List Piece) (c : Cell) → OnBand top (xs ++ ys) c → OnBand top xs c ⊎ OnBand top ys c
-OnBand-cases top [] ys c h = inr h
-OnBand-cases top (p ∷ xs) ys c (inl h) = inl (inl h)
-OnBand-cases top (p ∷ xs) ys c (inr h) = by (OnBand-cases top xs ys c h)
-  where
-    by : OnBand top xs c ⊎ OnBand top ys c → OnBand top (p ∷ xs) c ⊎ OnBand top ys c
-    by (inl g) = inl (inr g)
-    by (inr g) = inr g
+OnBand top band c = SomeOf (λ p. IsCellOf top p c) band
 
 -- a square that is kept or blank has the same nonzero cells
 pub kept_has : (top : ℤ) (t : Tree) (column : ℤ) (c : Cell) → IsFull t → IsCellOf top (piece t column) c → OnBand top (kept t column) c
@@ -118,7 +124,7 @@ quarters_have k top (quad a b d g) column c f e h = by (quarter_of a b d g f h.i
 
     by : InQuarter a b d g (2 ^ depth a) h.i h.j
         → OnBand top (kept a column ++ kept b (column +ℤ pos (2 ^ k))) c ⊎ OnBand (top +ℤ pos (2 ^ k)) (kept d column ++ kept g (column +ℤ pos (2 ^ k))) c
-    by (in_nw n) = inl (OnBand-append_left top (kept a column) _ c
+    by (in_nw n) = inl (SomeOf-append_left _ (kept a column) _
         (kept_has top a column c f.0 (record {
           i = h.i;
           j = h.j;
@@ -128,14 +134,14 @@ quarters_have k top (quad a b d g) column c f e h = by (quarter_of a b d g f h.i
           state = sym (state_nw a b d g f _ _ n.column n.row)
               ∙ h.state;
         })))
-    by (in_ne m p n) = inl (OnBand-append_right top (kept a column) _ c
+    by (in_ne m p n) = inl (SomeOf-append_right _ (kept a column) _
         (kept_has top b _ c f.1 (record
         { i = m; j = h.j; nonzero = n; x = omega (arith, ints, x, p, half); y = h.y; state = sym (state_ne a b d g f _ _ _ p n.row) ∙ h.state })))
-    by (in_sw m p n) = inr (OnBand-append_left _ (kept d column) _ c
+    by (in_sw m p n) = inr (SomeOf-append_left _ (kept d column) _
         (kept_has _ d column c f.2 (record
         { i = h.i; j = m; nonzero = n; x = h.x; y = omega (arith, ints, y, p, half); state = sym (state_sw a b d g f _ _ _ p n.column) ∙ h.state })))
     by (in_se m o p q n) =
-        inr (OnBand-append_right _ (kept d column) _ c
+        inr (SomeOf-append_right _ (kept d column) _
         (kept_has _ g _ c f.3 (record {
           i = m;
           j = o;
@@ -148,7 +154,7 @@ quarters_have k top (quad a b d g) column c f e h = by (quarter_of a b d g f h.i
 pub northern_from : (k : ℕ) (top : ℤ) (t : Tree) (column : ℤ) (c : Cell) → IsFull t → depth t ≡ suc k → OnBand top (northern (2 ^ k) t column) c
     → IsCellOf top (piece t column) c
 northern_from k top (point s) column c f e h = absurd h
-northern_from k top (quad a b d g) column c f e h = by (OnBand-cases top (kept a column) _ c h)
+northern_from k top (quad a b d g) column c f e h = by (SomeOf-cases _ (kept a column) _ h)
   where
     half : 2 ^ depth a ≡ 2 ^ k
     half = let same : depth a ≡ k = omega arith in ap (λ n. 2 ^ n) same
@@ -179,7 +185,7 @@ northern_from k top (quad a b d g) column c f e h = by (OnBand-cases top (kept a
 pub southern_from : (k : ℕ) (top : ℤ) (t : Tree) (column : ℤ) (c : Cell) → IsFull t → depth t ≡ suc k
     → OnBand (top +ℤ pos (2 ^ k)) (southern (2 ^ k) t column) c → IsCellOf top (piece t column) c
 southern_from k top (point s) column c f e h = absurd h
-southern_from k top (quad a b d g) column c f e h = by (OnBand-cases _ (kept d column) _ c h)
+southern_from k top (quad a b d g) column c f e h = by (SomeOf-cases _ (kept d column) _ h)
   where
     half : 2 ^ depth a ≡ 2 ^ k
     half = let same : depth a ≡ k = omega arith in ap (λ n. 2 ^ n) same
@@ -218,58 +224,30 @@ halves_have k top west (p ∷ band) c w (inl h) = by (quarters_have k top p.squa
   where
     by : OnBand top (northern (2 ^ k) p.square p.column) c ⊎ OnBand (top +ℤ pos (2 ^ k)) (southern (2 ^ k) p.square p.column) c
         → OnBand top (upper (2 ^ k) (p ∷ band)) c ⊎ OnBand (top +ℤ pos (2 ^ k)) (lower (2 ^ k) (p ∷ band)) c
-    by (inl o) = inl (OnBand-append_left top _ _ c o)
-    by (inr o) = inr (OnBand-append_left _ _ _ c o)
+    by (inl o) = inl (SomeOf-append_left _ _ _ o)
+    by (inr o) = inr (SomeOf-append_left _ _ _ o)
 halves_have k top west (p ∷ band) c w (inr h) = further (halves_have k top (p.column +ℤ pos (2 ^ suc k)) band c w.4 h)
   where
     further : OnBand top (upper (2 ^ k) band) c ⊎ OnBand (top +ℤ pos (2 ^ k)) (lower (2 ^ k) band) c
         → OnBand top (upper (2 ^ k) (p ∷ band)) c ⊎ OnBand (top +ℤ pos (2 ^ k)) (lower (2 ^ k) (p ∷ band)) c
-    further (inl o) = inl (OnBand-append_right top (northern (2 ^ k) p.square p.column) _ c o)
-    further (inr o) = inr (OnBand-append_right _ (southern (2 ^ k) p.square p.column) _ c o)
+    further (inl o) = inl (SomeOf-append_right _ (northern (2 ^ k) p.square p.column) _ o)
+    further (inr o) = inr (SomeOf-append_right _ (southern (2 ^ k) p.square p.column) _ o)
 
-upper_from : (k : ℕ) (top west : ℤ) (band : List Piece) (c : Cell) → IsBand (suc k) west band → OnBand top (upper (2 ^ k) band) c → OnBand top band c
-upper_from k top west [] c w h = absurd h
-upper_from k top west (p ∷ band) c w h = by (OnBand-cases top (northern (2 ^ k) p.square p.column) _ c h)
-    (upper_from k top (p.column +ℤ pos (2 ^ suc k)) band c w.4)
+-- a cell of the quarters that are taken of each square of a band, with their north-west corners at `middle`, is one of the band
+half_from : (k : ℕ) (top middle west : ℤ) (half : Piece → List Piece) (band : List Piece) (c : Cell)
+    → ((p : Piece) → IsFull p.square → depth p.square ≡ suc k → OnBand middle (half p) c → IsCellOf top p c) → IsBand (suc k) west band
+    → OnBand middle (flat_map half band) c → OnBand top band c
+half_from k top middle west half [] c from w h = absurd h
+half_from k top middle west half (p ∷ band) c from w h = by (SomeOf-cases _ (half p) _ h)
+    (half_from k top middle (p.column +ℤ pos (2 ^ suc k)) half band c from w.4)
   where
-    by : OnBand top (northern (2 ^ k) p.square p.column) c ⊎ OnBand top (upper (2 ^ k) band) c → (OnBand top (upper (2 ^ k) band) c → OnBand top band c)
-        → OnBand top (p ∷ band) c
-    by (inl o) f = inl (northern_from k top p.square p.column c w.0 w.1 o)
-    by (inr o) f = inr (f o)
-
-lower_from : (k : ℕ) (top west : ℤ) (band : List Piece) (c : Cell) → IsBand (suc k) west band → OnBand (top +ℤ pos (2 ^ k)) (lower (2 ^ k) band) c
-    → OnBand top band c
-lower_from k top west [] c w h = absurd h
-lower_from k top west (p ∷ band) c w h = by (OnBand-cases _ (southern (2 ^ k) p.square p.column) _ c h)
-    (lower_from k top (p.column +ℤ pos (2 ^ suc k)) band c w.4)
-  where
-    by : OnBand (top +ℤ pos (2 ^ k)) (southern (2 ^ k) p.square p.column) c ⊎ OnBand (top +ℤ pos (2 ^ k)) (lower (2 ^ k) band) c
-        → (OnBand (top +ℤ pos (2 ^ k)) (lower (2 ^ k) band) c → OnBand top band c) → OnBand top (p ∷ band) c
-    by (inl o) f = inl (southern_from k top p.square p.column c w.0 w.1 o)
+    by : OnBand middle (half p) c ⊎ OnBand middle (flat_map half band) c → (OnBand middle (flat_map half band) c → OnBand top band c) → OnBand top (p ∷ band) c
+    by (inl o) f = inl (from p w.0 w.1 o)
     by (inr o) f = inr (f o)
 
 -- the cell is in the list
 abbrev pub Has : List Cell → Cell → Type 0
-Has [] c = ⊥
-Has (d ∷ ds) c = (d ≡ c) ⊎ Has ds c
-
-pub Has-append_left : (xs ys : List Cell) (c : Cell) → Has xs c → Has (xs ++ ys) c
-Has-append_left [] ys c h = absurd h
-Has-append_left (x ∷ xs) ys c (inl h) = inl h
-Has-append_left (x ∷ xs) ys c (inr h) = inr (Has-append_left xs ys c h)
-
-pub Has-append_right : (xs ys : List Cell) (c : Cell) → Has ys c → Has (xs ++ ys) c
-Has-append_right [] ys c h = h
-Has-append_right (x ∷ xs) ys c h = inr (Has-append_right xs ys c h)
-
-pub Has-cases : (xs ys : List Cell) (c : Cell) → Has (xs ++ ys) c → Has xs c ⊎ Has ys c
-Has-cases [] ys c h = inr h
-Has-cases (x ∷ xs) ys c (inl h) = inl (inl h)
-Has-cases (x ∷ xs) ys c (inr h) = by (Has-cases xs ys c h)
-  where
-    by : Has xs c ⊎ Has ys c → Has (x ∷ xs) c ⊎ Has ys c
-    by (inl g) = inl (inr g)
-    by (inr g) = inr g
+Has cells c = SomeOf (λ d. d ≡ c) cells
 
 abbrev here : ℤ → Piece → Cell
 here top p = record { x = p.column; y = top; state = state_at p.square 0 0 }
@@ -321,20 +299,20 @@ band_has (suc k) top west band c w h =
         → (OnBand top (upper (2 ^ k) band) c → Has (band_cells k top (upper (2 ^ k) band)) c)
         → (OnBand (top +ℤ pos (2 ^ k)) (lower (2 ^ k) band) c → Has (band_cells k (top +ℤ pos (2 ^ k)) (lower (2 ^ k) band)) c)
         → Has (band_cells (suc k) top band) c
-    by (inl o) f g = Has-append_left _ _ c (f o)
-    by (inr o) f g = Has-append_right (band_cells k top (upper (2 ^ k) band)) _ c (g o)
+    by (inl o) f g = SomeOf-append_left _ _ _ (f o)
+    by (inr o) f g = SomeOf-append_right _ (band_cells k top (upper (2 ^ k) band)) _ (g o)
 
 pub band_from : (k : ℕ) (top west : ℤ) (band : List Piece) (c : Cell) → IsBand k west band → Has (band_cells k top band) c → OnBand top band c
 band_from zero top west band c w h = row_from top west band c w h
 band_from (suc k) top west band c w h =
-    by (Has-cases (band_cells k top (upper (2 ^ k) band)) _ c h) (band_from k top west (upper (2 ^ k) band) c (IsBand-upper k west band w))
+    by (SomeOf-cases _ (band_cells k top (upper (2 ^ k) band)) _ h) (band_from k top west (upper (2 ^ k) band) c (IsBand-upper k west band w))
     (band_from k (top +ℤ pos (2 ^ k)) west (lower (2 ^ k) band) c (IsBand-lower k west band w))
   where
     by : Has (band_cells k top (upper (2 ^ k) band)) c ⊎ Has (band_cells k (top +ℤ pos (2 ^ k)) (lower (2 ^ k) band)) c
         → (Has (band_cells k top (upper (2 ^ k) band)) c → OnBand top (upper (2 ^ k) band) c)
         → (Has (band_cells k (top +ℤ pos (2 ^ k)) (lower (2 ^ k) band)) c → OnBand (top +ℤ pos (2 ^ k)) (lower (2 ^ k) band) c) → OnBand top band c
-    by (inl o) f g = upper_from k top west band c w (f o)
-    by (inr o) f g = lower_from k top west band c w (g o)
+    by (inl o) f g = half_from k top top west _ band c (λ p. northern_from k top p.square p.column c) w (f o)
+    by (inr o) f g = half_from k top _ west _ band c (λ p. southern_from k top p.square p.column c) w (g o)
 
 -- a band without squares has no cells
 pub no_cells : (k : ℕ) (top : ℤ) → band_cells k top [] ≡ []

@@ -20,7 +20,7 @@ use Rattle.std.specs.Prelude.{Result, IfErr}
 use Rattle.life_quad.proofs.RunLemmas.{side}
 use Rattle.life_quad.proofs.CountLemmas.{population-blank}
 use Rattle.life_quad.proofs.PlaneLemmas.{IsPlace, place_of, cell_at}
-use Rattle.life_quad.proofs.BandLemmas.{IsBand-upper, IsBand-lower, IsCellOf, OnBand, Has, Has-cases, band_from, band_has, kept_has, kept_from, no_cells, band_step}
+use Rattle.life_quad.proofs.BandLemmas.{IsBand-upper, IsBand-lower, IsCellOf, OnBand, Has, SomeOf-cases, band_from, band_has, kept_has, kept_from, no_cells, band_step}
 
 -- each cell is before the later ones
 abbrev pub InOrder : List Cell → Type 0
@@ -29,7 +29,7 @@ InOrder (c ∷ cells) = ((d : Cell) → Has cells d → IsBefore c d) × InOrder
 
 InOrder-append : (xs ys : List Cell) → InOrder xs → InOrder ys → ((c d : Cell) → Has xs c → Has ys d → IsBefore c d) → InOrder (xs ++ ys)
 InOrder-append [] ys hx hy between = hy
-InOrder-append (c ∷ xs) ys hx hy between = (λ d h. by d (Has-cases xs ys d h), InOrder-append xs ys hx.1 hy (λ a b ha hb. between a b (inr ha) hb))
+InOrder-append (c ∷ xs) ys hx hy between = (λ d h. by d (SomeOf-cases _ xs ys h), InOrder-append xs ys hx.1 hy (λ a b ha hb. between a b (inr ha) hb))
   where
     by : (d : Cell) → Has xs d ⊎ Has ys d → IsBefore c d
     by d (inl h) = hx.0 d h

@@ -14,7 +14,7 @@ use Rattle.life_base.proofs.Squares.{depth-blank, full-blank, is_blank-blank, an
 use Rattle.life_quad.proofs.MoveLemmas.{depth-inner, trimmed-stays, trimmed-smaller}
 use Rattle.life_quad.proofs.PlaneLemmas.{IsPlace, cell_at, back as west_again}
 use Rattle.life_quad.proofs.NonzeroLemmas.{blank_has_none, others_have_one, double, state_nw, state_ne, state_sw, state_se}
-use Rattle.life_quad.proofs.BandLemmas.{IsCellOf, OnBand, OnBand-cases, OnBand-append_left, OnBand-append_right, kept_has, kept_from, quarters_have, northern_from, southern_from}
+use Rattle.life_quad.proofs.BandLemmas.{IsCellOf, OnBand, SomeOf-cases, SomeOf-append_left, SomeOf-append_right, kept_has, kept_from, quarters_have, northern_from, southern_from}
 use Rattle.life_quad.proofs.CellListLemmas.{on_plane, from_plane, square_cells, IsCellList-square, one_list, list_length}
 
 -- ---- blank squares and equal squares by their cells
@@ -123,15 +123,15 @@ module _ (k : ℕ) (top column : ℤ) (a b d e : Tree) (c : Cell) (full : IsFull
 
       by : OnBand top (kept a column ++ kept b (column +ℤ pos (2 ^ k))) c ⊎ OnBand (top +ℤ pos (2 ^ k)) (kept d column ++ kept e (column +ℤ pos (2 ^ k))) c
           → OnQuarter k top column a b d e c
-      by (inl o) = north (OnBand-cases top (kept a column) (kept b (column +ℤ pos (2 ^ k))) c o)
-      by (inr o) = south (OnBand-cases (top +ℤ pos (2 ^ k)) (kept d column) (kept e (column +ℤ pos (2 ^ k))) c o)
+      by (inl o) = north (SomeOf-cases _ (kept a column) (kept b (column +ℤ pos (2 ^ k))) o)
+      by (inr o) = south (SomeOf-cases _ (kept d column) (kept e (column +ℤ pos (2 ^ k))) o)
 
   unite : OnQuarter k top column a b d e c → IsCellOf top (at_place (quad a b d e) column) c
   unite (on_nw h) = northern_from k top (quad a b d e) column c full (ap suc level)
-      (OnBand-append_left top (kept a column) _ c (kept_has top a column c full.0 h))
-  unite (on_ne h) = northern_from k top (quad a b d e) column c full (ap suc level) (OnBand-append_right top (kept a column) _ c (kept_has top b _ c full.1 h))
-  unite (on_sw h) = southern_from k top (quad a b d e) column c full (ap suc level) (OnBand-append_left _ (kept d column) _ c (kept_has _ d column c full.2 h))
-  unite (on_se h) = southern_from k top (quad a b d e) column c full (ap suc level) (OnBand-append_right _ (kept d column) _ c (kept_has _ e _ c full.3 h))
+      (SomeOf-append_left _ (kept a column) _ (kept_has top a column c full.0 h))
+  unite (on_ne h) = northern_from k top (quad a b d e) column c full (ap suc level) (SomeOf-append_right _ (kept a column) _ (kept_has top b _ c full.1 h))
+  unite (on_sw h) = southern_from k top (quad a b d e) column c full (ap suc level) (SomeOf-append_left _ (kept d column) _ (kept_has _ d column c full.2 h))
+  unite (on_se h) = southern_from k top (quad a b d e) column c full (ap suc level) (SomeOf-append_right _ (kept d column) _ (kept_has _ e _ c full.3 h))
 
 no_cell : (top : ℤ) (t : Tree) (column : ℤ) (c : Cell) → IsFull t → is_blank_tree t ≡ true → IsCellOf top (at_place t column) c → ⊥
 no_cell top t column c full h n = blank_has_none t full h n.i n.j n.nonzero
