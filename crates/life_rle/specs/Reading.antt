@@ -1,5 +1,5 @@
 -- What a reader keeps while it goes over the items of a line.
-use Rattle.std.specs.Prelude.{◌≡◌, ℕ, ◌+◌, ◌<◌, ◌≤◌, Bool, true, false, List, ◌++◌, length, drop, slice_index, Option, Some, None, ℤ}
+use Rattle.std.specs.Prelude.{◌≡◌, ℕ, ◌+◌, ◌<◌, ◌≤◌, Bool, true, false, List, ◌++◌, length, drop, slice_index, Option, Some, None, Result, MatchResult, ℤ}
 use Rattle.std.specs.Char.{is_ascii_digit}
 use Rattle.life_base.specs.declared.kind.Kind.{Kind}
 use Rattle.life_base.specs.declared.rule.Rule.{Rule}
@@ -18,6 +18,11 @@ use Rattle.life_rle.specs.Cursor.{IsNear, moved_behind, placed_at}
 pub data IsCount (level : ℕ) (line : List ℕ) (at count place : ℕ) : Type 0 where
   none : is_ascii_digit (slice_index line at) ≡ false → count ≡ 1 → place ≡ at → IsCount level line at count place
   digits : at < place → next_of level (drop at line) ≡ item_behind count (drop place line) → IsCount level line at count place
+
+-- the count that digits write from a place on and the place behind them, which is in the line, or why they spell no item
+abbrev pub IsCountRead : ℕ → List ℕ → ℕ → Result (ℕ × ℕ) Kind → Type 0
+IsCountRead level line at result = MatchResult result
+    (λ found. IsCount level line at found.0 found.1 × (found.1 < length line)) (λ kind. next_of level (drop at line) ≡ Broken kind)
 
 -- what was found behind a count
 abbrev pub IsItemAt : List ℕ → ℕ → ℕ → Token → Type 0
