@@ -12,6 +12,11 @@ placeless_kinds =
     kinds.Full ∷ kinds.Memory ∷ kinds.Spent ∷ kinds.RuleMismatch ∷ kinds.NeedsTable ∷ kinds.TooManyCells ∷ kinds.GenerationTooLarge ∷ kinds.StateBeyondTable
     ∷ kinds.ReadFault ∷ kinds.WriteFault ∷ kinds.InputTooLong ∷ []
 
+-- the kind of a line that is too long
+abbrev pub is_length_kind : Kind → Bool
+is_length_kind kinds.LineTooLong = true
+is_length_kind _ = false
+
 module _ (is_kind : Kind → Bool) where
   not-one : (v : Bool) → not v ≡ true → v ≡ false
   not-one true h = cc

@@ -1,12 +1,12 @@
 -- A name is the rule text that says it.
-use Rattle.std.proofs.Common.{◌≡◌, ℕ, ◌-◌, List, take, drop, [], ◌∷◌, length, Bool, true, false, cond, not, ◌&&◌, ◌||◌, refl, ap, ◌∙◌, arith}
-use Rattle.std.specs.Prelude.{nat_le, nat_lt, ◌==◌, map, codes, bytes_eq, is_some, Option, Some, None, Ok, Err}
+use Rattle.std.proofs.Common.{◌≡◌, ℕ, ◌-◌, ◌≤◌, List, take, drop, [], ◌∷◌, length, Bool, true, false, cond, not, ◌&&◌, ◌||◌, refl, ap, ◌∙◌, arith}
+use Rattle.std.specs.Prelude.{nat_lt, ◌==◌, map, codes, bytes_eq, is_some, Option, Some, None, Ok, Err}
 use Rattle.std.specs.List.{list_all, list_any}
-use Rattle.std.proofs.lemmas.Bool.{not-true}
+use Rattle.std.proofs.lemmas.Bool.{ltb-false, not-true}
 use Rattle.std.proofs.lemmas.Bool.Decides.{nat_tests}
 use Rattle.std.specs.Char.{to_ascii_uppercase}
 use Rattle.life_base.proofs.Numbers.{first, second}
-use Rattle.life_base.proofs.RoundTrip.{none_passes}
+use Rattle.life_base.proofs.RoundTrip.{none_passes, visible}
 use Rattle.life_base.specs.Sets.{DigitSets}
 use Rattle.life_base.specs.Text.{is_whitespace, without_last, trim, trim_start, is_empty}
 use Rattle.life_base.specs.Rules.{life_sets, rule_of, rule_of_trimmed, is_bad_text, life_or_other, four_or_other, four_sets, up_to_four, names_other_neighbours}
@@ -31,21 +31,28 @@ solid_trimmed [] h = refl
 solid_trimmed (b ∷ text) h =
     ap (without_last is_whitespace) (start_stays b text (not-true (is_whitespace b) (first _ _ h))) ∙ none_passes is_whitespace (b ∷ text) h
 
-abbrev visible : ℕ → Bool
-visible b = nat_le 33 b && nat_le b 126
-
-visible_solid : (b : ℕ) → visible b ≡ true → solid b ≡ true
+pub visible_solid : (b : ℕ) → visible b ≡ true → solid b ≡ true
 visible_solid b h = grind (arith, nat_tests)
 
-last_of_or : (a b c : Bool) → (a || b || not c) ≡ false → c ≡ true
-last_of_or true b c h = cc
-last_of_or false true c h = cc
-last_of_or false false true h = refl
-last_of_or false false false h = cc
+-- a text that is no bad one
+pub record IsGoodText (text : List ℕ) : Type 0 where
+  pub some : is_empty text ≡ false
+  pub short : length text ≤ 255
+  pub bytes : list_all visible text ≡ true
+
+three_false : (a b c : Bool) → (a || b || not c) ≡ false → (a ≡ false) × (b ≡ false) × (c ≡ true)
+three_false true b c h = cc
+three_false false true c h = cc
+three_false false false true h = (refl, refl, refl)
+three_false false false false h = cc
+
+pub good_text : (text : List ℕ) → is_bad_text text ≡ false → IsGoodText text
+good_text text h =
+    let p = three_false (is_empty text) (nat_lt 255 (length text)) (list_all visible text) h in
+    record { some = p.0; short = ltb-false 255 (length text) p.1; bytes = p.2 }
 
 pub rule_text_trimmed : (text : List ℕ) → is_bad_text text ≡ false → trim text ≡ text
-rule_text_trimmed text h =
-    solid_trimmed text (all_pass visible solid visible_solid text (last_of_or (is_empty text) (nat_lt 255 (length text)) (list_all visible text) h))
+rule_text_trimmed text h = solid_trimmed text (all_pass visible solid visible_solid text (good_text text h).bytes)
 
 -- a text without a letter of other neighbours is no von Neumann text
 none_by : (o : Option DigitSets) (u v w : Bool) → (is_some o && (v || w)) ≡ false → cond (u && v) (up_to_four o) None ≡ None

@@ -124,7 +124,7 @@ sets_again ds es h k =
 
 -- ---- the steps of `rule_of`
 
-abbrev visible : ℕ → Bool
+abbrev pub visible : ℕ → Bool
 visible b = nat_le 33 b && nat_le b 126
 
 digit_solid : (b : ℕ) → is_count_digit b ≡ true → not (is_whitespace b) ≡ true

@@ -14,48 +14,36 @@ abbrev text_of : Result Rule Kind → Result (List ℕ) Kind
 text_of (Ok rule) = Ok (rule_text rule)
 text_of (Err kind) = Err kind
 
--- texts of rules, and what is read in each
-abbrev rule_rows : List (List ℕ × Result (List ℕ) Kind)
+-- what is read in texts of rules: the canonical text or the kind of fault, and texts of which that is so
+abbrev rule_rows : List (Result (List ℕ) Kind × List (List ℕ))
 rule_rows =
-    (codes "B/S", Ok (codes "B/S")) ∷
-    (codes "BS", Ok (codes "B/S")) ∷
-    (codes "/", Ok (codes "B/S")) ∷
-    (codes "23/", Ok (codes "B/S23")) ∷
-    (codes "23/3", Ok (codes "B3/S23")) ∷
-    (codes "b3s23", Ok (codes "B3/S23")) ∷
-    (codes "S23/B3", Ok (codes "B3/S23")) ∷
-    (codes "s32B333", Ok (codes "B3/S23")) ∷
-    (codes " B3/S23\t", Ok (codes "B3/S23")) ∷
-    (codes "b012/s", Err BirthOnZero) ∷
-    (codes "B3", Ok (codes "B3")) ∷
-    (codes "Life", Ok (codes "Life")) ∷
-    (codes "B2-a/S12", Err UnsupportedRule) ∷
-    (codes "B2/", Err UnsupportedRule) ∷
-    (codes "B9/S1", Err UnsupportedRule) ∷
-    (codes "B3S23V", Ok (codes "B3/S23V")) ∷
-    (codes "23/3V", Err UnsupportedRule) ∷
-    (codes "B3/S23h", Err UnsupportedRule) ∷
-    (codes "a/b/c", Err UnsupportedRule) ∷
-    (codes "B3/S23:T20", Err BoundedGrid) ∷
-    (codes "", Err BadRule) ∷
-    (codes "B3 S23", Err BadRule) ∷
-    (codes "B36/S125", Ok (codes "B36/S125")) ∷
-    (codes "W110", Ok (codes "W110")) ∷
-    (codes "B2-aS12", Ok (codes "B2-aS12")) ∷
-    (codes "b31/s20v", Ok (codes "B13/S02V")) ∷
-    (codes "B0/S1V", Err BirthOnZero) ∷
-    (codes "B05/S2V", Err UnsupportedRule) ∷
-    (codes "B3/S23H", Err UnsupportedRule) ∷
-    (codes "S23/B3V", Err UnsupportedRule) ∷
-    (codes "B/SV", Ok (codes "B/SV")) ∷
-    (codes "BSv", Ok (codes "B/SV")) ∷
-    (codes "B1/S4VV", Err UnsupportedRule) ∷
-    (codes "V", Ok (codes "V")) ∷
+    (Ok (codes "B/S"), codes "B/S" ∷ codes "BS" ∷ codes "/" ∷ []) ∷
+    (Ok (codes "B/S23"), codes "23/" ∷ []) ∷
+    (Ok (codes "B3/S23"), codes "23/3" ∷ codes "b3s23" ∷ codes "S23/B3" ∷ codes "s32B333" ∷ codes " B3/S23\t" ∷ []) ∷
+    (Ok (codes "B36/S125"), codes "B36/S125" ∷ []) ∷
+    (Ok (codes "B3/S23V"), codes "B3S23V" ∷ []) ∷
+    (Ok (codes "B13/S02V"), codes "b31/s20v" ∷ []) ∷
+    (Ok (codes "B/SV"), codes "B/SV" ∷ codes "BSv" ∷ []) ∷
+    (Err BirthOnZero, codes "b012/s" ∷ codes "B0/S1V" ∷ []) ∷ (
+      Err UnsupportedRule,
+      codes "B2-a/S12" ∷ codes "B2/" ∷ codes "B9/S1" ∷ codes "a/b/c" ∷ codes "23/3V" ∷ codes "B3/S23h" ∷ codes "B3/S23H"
+          ∷ codes "B05/S2V" ∷ codes "S23/B3V" ∷ codes "B1/S4VV" ∷ [],
+    ) ∷
+    (Err BoundedGrid, codes "B3/S23:T20" ∷ []) ∷
+    (Err BadRule, codes "" ∷ codes "B3 S23" ∷ []) ∷
     []
 
-rules_are_read : map (λ row. text_of (rule_of row.0)) rule_rows ≡ map (λ row. row.1) rule_rows
+rules_are_read : map (λ row. map (λ text. text_of (rule_of text)) row.1) rule_rows ≡ map (λ row. map (λ text. row.0) row.1) rule_rows
 unfolding rule_of life_sets four_sets
 rules_are_read = refl
+
+-- texts of rules that are names
+abbrev name_rows : List (List ℕ)
+name_rows = codes "B3" ∷ codes "Life" ∷ codes "W110" ∷ codes "B2-aS12" ∷ codes "V" ∷ []
+
+names_are_kept : map rule_of name_rows ≡ map (λ text. Ok (Named text)) name_rows
+unfolding rule_of life_sets four_sets
+names_are_kept = refl
 
 four_is_a_rule : rule_of (codes "B1/S0V") ≡ Ok (counting VonNeumann (record { births = 2; survivals = 1 }))
 unfolding rule_of life_sets four_sets
@@ -64,10 +52,6 @@ four_is_a_rule = refl
 moore_refuses : moore_rule_of (codes "B1/S0V") ≡ Err UnsupportedRule
 unfolding life_sets
 moore_refuses = refl
-
-life_is_a_name : rule_of (codes "Life") ≡ Ok (Named (codes "Life"))
-unfolding rule_of life_sets four_sets
-life_is_a_name = refl
 
 lines_row : lines_of (codes "a\n\nb\r\nc") ≡ codes "a" ∷ [] ∷ codes "b\r" ∷ codes "c" ∷ []
 lines_row = refl

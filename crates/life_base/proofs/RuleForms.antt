@@ -1,6 +1,6 @@
 -- What rule texts say, told as what each text is.
 use Rattle.std.proofs.Common.{◌≡◌, ℕ, ◌<◌, ◌≤◌, ◌-◌, List, [], ◌∷◌, ◌++◌, length, take, drop, Bool, true, false, cond, not, ◌&&◌, ◌||◌, refl, ap, sym, subst, ◌∙◌, arith, append_assoc, length-append, ◌⊎◌, inl, inr}
-use Rattle.std.specs.Prelude.{◌==◌, ◌↔◌, nat_le, nat_lt, map, filter, codes, bytes_eq, is_some, Option, Some, None, Ok, Err}
+use Rattle.std.specs.Prelude.{◌==◌, ◌↔◌, nat_lt, map, filter, codes, bytes_eq, is_some, Option, Some, None, Ok, Err}
 use Rattle.std.specs.List.{list_all, list_any, onto_first}
 use Rattle.std.proofs.lemmas.Bool.{not-true, and_from}
 use Rattle.std.proofs.lemmas.Bool.Decides.{nat_tests}
@@ -10,7 +10,8 @@ use Rattle.std.proofs.Math.Seq.{take-append_seam, drop-append_seam}
 use Rattle.std.specs.Char.{to_ascii_uppercase}
 use Rattle.life_base.proofs.Numbers.{first, second}
 use Rattle.std.proofs.lemmas.List.Folds.{list_all-append}
-use Rattle.life_base.proofs.NamesRead.{all_pass, solid, four_none}
+use Rattle.life_base.proofs.NamesRead.{all_pass, solid, visible_solid, good_text, four_none}
+use Rattle.life_base.proofs.RoundTrip.{visible}
 use Rattle.life_base.proofs.RoundTrip.{is_mark, split_at, split_end, no_marks, none_left, no_any}
 use Rattle.life_base.specs.Sets.{DigitSets}
 use Rattle.life_base.specs.Text.{is_whitespace, is_empty, trim, trim_start, without_last, IsAround}
@@ -462,23 +463,8 @@ around_trim text word a n h =
 
 -- ---- a word
 
-abbrev visible : ℕ → Bool
-visible b = nat_le 33 b && nat_le b 126
-
-visible_solid : (b : ℕ) → visible b ≡ true → solid b ≡ true
-visible_solid b h = grind (arith, nat_tests)
-
-three_false : (a b c : Bool) → (a || b || not c) ≡ false → (a ≡ false) × (b ≡ false) × (c ≡ true)
-three_false true b c h = cc
-three_false false true c h = cc
-three_false false false true h = (refl, refl, refl)
-three_false false false false h = cc
-
 made_false : (a b c : Bool) → a ≡ false → b ≡ false → c ≡ true → (a || b || not c) ≡ false
-made_false true b c h k l = cc
-made_false false true c h k l = cc
-made_false false false true h k l = refl
-made_false false false false h k l = cc
+made_false a b c h k l = rw (h, k, l) refl
 
 some_bytes : (word : List ℕ) → is_empty word ≡ false → 0 < length word
 some_bytes [] h = cc
@@ -487,9 +473,6 @@ some_bytes (b ∷ word) h = omega arith
 no_empty : (word : List ℕ) → 0 < length word → is_empty word ≡ false
 no_empty [] h = absurd (omega arith)
 no_empty (b ∷ word) h = refl
-
-within_bound : (n : ℕ) → nat_lt 255 n ≡ false → n ≤ 255
-within_bound n h = grind (arith, nat_tests)
 
 below_bound : (n : ℕ) → n ≤ 255 → nat_lt 255 n ≡ false
 below_bound n h = grind (arith, nat_tests)
@@ -504,10 +487,10 @@ all_others test (b ∷ xs) h = let p = or_both (test b) (list_any test xs) h in 
 
 rule_word : (word : List ℕ) → is_bad_text word ≡ false → list_any (λ b. b == 58) word ≡ false → IsRuleWord word
 rule_word word h k =
-    let p = three_false (is_empty word) (nat_lt 255 (length word)) (list_all visible word) h in record {
-      some = some_bytes word p.0;
-      short = within_bound (length word) p.1;
-      visible = p.2;
+    let good = good_text word h in record {
+      some = some_bytes word good.some;
+      short = good.short;
+      visible = good.bytes;
       unbounded = all_others (λ b. b == 58) word k;
     }
 

@@ -8,6 +8,7 @@ use Rattle.life_base.specs.Rules.{rule_of, is_bad_text, life_or_other, four_or_o
 use Rattle.life_base.specs.declared.kind.Kind.{Kind}
 use Rattle.life_base.specs.declared.kind.Kind.TheVariants.{BadRule, BoundedGrid, UnsupportedRule, BirthOnZero}
 use Rattle.life_base.specs.declared.rule.Near.TheVariants.{Moore, VonNeumann}
+use Rattle.life_base.specs.declared.rule.Rule.{Rule}
 use Rattle.life_base.specs.declared.rule.Rule.TheVariants.{Named}
 
 -- an error is of a kind that passes the test
@@ -49,3 +50,20 @@ rule_errs text = trimmed_kinds (trim text)
 
 pub rule_kind : (text : List ℕ) (kind : Kind) → rule_of text ≡ Err kind → is_rule_kind kind ≡ true
 rule_kind text kind e = kind_passes is_rule_kind (rule_of text) kind (rule_errs text) e
+
+module _ (test : Kind → Bool) (rule : test BadRule ≡ true) (grid : test BoundedGrid ≡ true) (other : test UnsupportedRule ≡ true)
+    (birth : test BirthOnZero ≡ true) where
+  passes : (kind : Kind) → is_rule_kind kind ≡ true → test kind ≡ true
+  passes BadRule h = rule
+  passes BoundedGrid h = grid
+  passes UnsupportedRule h = other
+  passes BirthOnZero h = birth
+  passes _ h = cc
+
+  passes_as : (text : List ℕ) (r : Result Rule Kind) → rule_of text ≡ r → errs_by test r ≡ true
+  passes_as text (Ok rule) e = refl
+  passes_as text (Err kind) e = passes kind (rule_kind text kind e)
+
+  -- what passes each kind with which rule texts are refused
+  pub rule_errs_by : (text : List ℕ) → errs_by test (rule_of text) ≡ true
+  rule_errs_by text = passes_as text (rule_of text) refl

@@ -1,8 +1,9 @@
 -- Rule texts: what each text says, and the text of each rule. The B/S notation, and what its digits mean, are of Golly Help,
 -- QuickLife. The order of the tests, the kinds of fault, names and canonical texts are the project's own.
-use Rattle.std.specs.Prelude.{◌≡◌, ◌↔◌, ◌⊎◌, ℕ, ◌+◌, ◌-◌, ◌/◌, ◌%◌, ◌^◌, ◌<◌, Bool, true, false, not, ◌&&◌, ◌||◌, List, [], ◌∷◌, ◌++◌, length, take, drop, map, filter, sum_by, nat_le, nat_lt, ◌==◌, if◌then◌else◌, bytes_eq, codes, is_some, Option, Some, None, Result, Ok, Err}
+use Rattle.std.specs.Prelude.{◌≡◌, ◌↔◌, ◌⊎◌, ℕ, ◌+◌, ◌-◌, ◌/◌, ◌%◌, ◌^◌, ◌<◌, Bool, true, false, not, ◌&&◌, ◌||◌, List, [], ◌∷◌, ◌++◌, length, take, drop, map, filter, sum_by, nat_le, nat_lt, ◌==◌, if◌then◌else◌, bytes_eq, codes, is_some, IfSome, Option, Some, None, Result, Ok, Err}
 use Rattle.std.specs.Char.{is_ascii_graphic, to_ascii_uppercase}
 use Rattle.std.specs.List.{list_all, list_any, slice_split}
+use Rattle.std.specs.Option.{option_map}
 use Rattle.std.specs.Str.{byte}
 use Rattle.life_base.specs.Sets.{DigitSets, OuterTotalistic}
 use Rattle.life_base.specs.Text.{trim, is_empty}
@@ -45,6 +46,15 @@ marks text = map to_ascii_uppercase (filter (λ b. not (is_count_digit b)) text)
 -- the sets of two texts of digits
 abbrev pub sets : List ℕ → List ℕ → Option DigitSets
 sets births survivals = Some (record { births = digit_set births; survivals = digit_set survivals })
+
+-- the sets of two numbers, if there are two
+abbrev pub sets_in : Option (ℕ × ℕ) → Option DigitSets
+sets_in found = option_map (λ p. record { births = p.0; survivals = p.1 }) found
+
+-- the numbers found, each below a bound, are these sets
+pub record AreSets (bound : ℕ) (told : Option DigitSets) (found : Option (ℕ × ℕ)) : Type 0 where
+  pub same : sets_in found ≡ told
+  pub below : IfSome found (λ p. (p.0 < bound) × (p.1 < bound))
 
 -- The five forms of a B/S rule, by the texts between its marks and by the marks: `B3/S23` (Golly Help, QuickLife); `B3S23`,
 -- `S23/B3`, `S23B3` and, survivals first, `23/3` (the project's own). Each group of digits may be empty.

@@ -5,10 +5,10 @@ pub use Rattle.life_base.specs.Lines.{LinesAreJoined, LinesAreNumbered, LinesAre
 pub use Rattle.life_base.specs.Numbers.{capped, i64_of, number_up_to, u64_of}
 pub use Rattle.life_base.specs.Refusal.{Answers, IsMemory}
 pub use Rattle.life_base.specs.RuleForms.{FourTextsAreForms, LifeTextsAreForms, RuleTextsArePlain}
-pub use Rattle.life_base.specs.Rules.{digit_groups, digit_set, digits_of, four_or_other, four_sets, has_digit, is_bad_text, is_count_digit, life_form}
+pub use Rattle.life_base.specs.Rules.{AreSets, digit_groups, digit_set, digits_of, four_or_other, four_sets, has_digit, is_bad_text, is_count_digit, life_form}
 pub use Rattle.life_base.specs.Rules.{life_rule, life_sets, marks, MooreRulesStay, most_neighbours, names_other_neighbours, other_rule, rule_of}
 pub use Rattle.life_base.specs.Rules.{rule_of_trimmed, rule_text, RulesReadBack, RuleTextsAreVisible, RuleTextsRefused, RuleTextsSayRules}
-pub use Rattle.life_base.specs.Rules.{RuleTextsTellRules, sets_text, up_to_four, with_letter}
+pub use Rattle.life_base.specs.Rules.{RuleTextsTellRules, sets_in, sets_text, up_to_four, with_letter}
 pub use Rattle.life_base.specs.Text.{begins_with, is_blank, is_digit_text, is_too_long, is_whitespace, lines_of, numbered_from, trim, trim_end, trim_start}
 pub use Rattle.life_base.specs.Text.{value_of, with_word, words_of}
 pub use Rattle.life_base.specs.Writing.{LeavesSink, WritesText}
@@ -19,5 +19,4 @@ pub use Rattle.std.specs.Coded.{coded_list, coded_ℕ}
 pub use Rattle.std.specs.Io.{ReadsAtMost, WritesAtMost}
 pub use Rattle.std.specs.Io.KnownBytes.{Keeps, ReadConsumes, WriteAppends}
 pub use Rattle.std.specs.List.{flat_map, list_all, list_any, prefix_len}
-pub use Rattle.std.specs.Option.{option_map}
 pub use Rattle.std.specs.Str.{byte}

@@ -1,7 +1,7 @@
 //! Rules, read from texts.
 
-ghost use Rattle.std.specs.Prelude.{◌≡◌, ◌<◌, ◌^◌, ◌==◌, ◌+◌, map, take, codes, bytes_eq, if◌then◌else◌, ◌&&◌, ◌∷◌, [], IfSome, IfOk, IfErr, Some, None, Ok, Err, false, true, is_some};
-ghost use Rattle.life_base.specs.Words.{list_any, list_all, is_ascii_graphic, to_ascii_uppercase, option_map, byte, is_count_digit, digit_set, digit_groups, marks, life_form, life_sets, up_to_four, four_sets, most_neighbours, names_other_neighbours, is_bad_text, life_rule, other_rule, four_or_other, rule_of_trimmed, rule_of, Answers, IsMemory};
+ghost use Rattle.std.specs.Prelude.{◌≡◌, ◌<◌, ◌^◌, ◌==◌, ◌+◌, map, take, codes, bytes_eq, if◌then◌else◌, ◌&&◌, ◌∷◌, [], IfOk, IfErr, Some, None, Ok, Err, false, true, is_some};
+ghost use Rattle.life_base.specs.Words.{list_any, list_all, is_ascii_graphic, to_ascii_uppercase, byte, is_count_digit, digit_set, digit_groups, marks, AreSets, sets_in, life_form, life_sets, up_to_four, four_sets, most_neighbours, names_other_neighbours, is_bad_text, life_rule, other_rule, four_or_other, rule_of_trimmed, rule_of, Answers, IsMemory};
 
 use crate::kind::Kind;
 use crate::rule::{LifeRule, Name, Near, Rule};
@@ -59,9 +59,7 @@ fn marks(alloc: Global, text: &[u8]) -> Result<Vec<u8>, AllocError>
 
 /// The births and the survivals of two texts of digits, by the two letters around a slash.
 fn form_with_slash(marks: &[u8], first: &[u8], second: &[u8]) -> Option<(u16, u16)>
-    ensures bounds { IfSome result (λ p. (p.0 < 512) × (p.1 < 512)) }
-    ensures form { option_map (λ p. record { births = p.0; survivals = p.1 }) result
-        ≡ life_form ([] ∷ first.now ∷ [] ∷ second.now ∷ []) marks.now }
+    ensures { AreSets 512 (life_form ([] ∷ first.now ∷ [] ∷ second.now ∷ []) marks.now) result }
 {
     match marks {
         b"B/S" => Some((digit_set(first), digit_set(second))),
@@ -72,9 +70,7 @@ fn form_with_slash(marks: &[u8], first: &[u8], second: &[u8]) -> Option<(u16, u1
 
 /// The same, by the two letters alone.
 fn form_without_slash(marks: &[u8], first: &[u8], second: &[u8]) -> Option<(u16, u16)>
-    ensures bounds { IfSome result (λ p. (p.0 < 512) × (p.1 < 512)) }
-    ensures form { option_map (λ p. record { births = p.0; survivals = p.1 }) result
-        ≡ life_form ([] ∷ first.now ∷ second.now ∷ []) marks.now }
+    ensures { AreSets 512 (life_form ([] ∷ first.now ∷ second.now ∷ []) marks.now) result }
 {
     match marks {
         b"BS" => Some((digit_set(first), digit_set(second))),
@@ -85,9 +81,7 @@ fn form_without_slash(marks: &[u8], first: &[u8], second: &[u8]) -> Option<(u16,
 
 /// The births and the survivals of a text of one of the five forms, by its digits and its marks.
 fn life_form(groups: &[&[u8]], marks: &[u8]) -> Option<(u16, u16)>
-    ensures bounds { IfSome result (λ p. (p.0 < 512) × (p.1 < 512)) }
-    ensures form { option_map (λ p. record { births = p.0; survivals = p.1 }) result
-        ≡ life_form (map (λ group. group.now) groups.now) marks.now }
+    ensures { AreSets 512 (life_form (map (λ group. group.now) groups.now) marks.now) result }
 {
     match groups {
         [[], first, [], second] => form_with_slash(marks, first, second),
@@ -102,9 +96,7 @@ fn life_form(groups: &[&[u8]], marks: &[u8]) -> Option<(u16, u16)>
 
 /// The births and the survivals of a text of one of the five forms.
 fn life_sets(alloc: Global, text: &[u8]) -> Result<Option<(u16, u16)>, Kind>
-    ensures ok { IfOk result (λ found. option_map (λ p. record { births = p.0; survivals = p.1 })
-        found ≡ life_sets text.now) }
-    ensures bounds { IfOk result (λ found. IfSome found (λ p. (p.0 < 512) × (p.1 < 512))) }
+    ensures ok { IfOk result (AreSets 512 (life_sets text.now)) }
     ensures err { IfErr result IsMemory }
 {
     let groups = digit_groups(alloc, text)?;
@@ -114,9 +106,7 @@ fn life_sets(alloc: Global, text: &[u8]) -> Result<Option<(u16, u16)>, Kind>
 
 /// The births and the survivals, if no digit is above 4.
 fn up_to_four(found: Option<(u16, u16)>) -> Option<(u16, u16)>
-    ensures bounds { IfSome result (λ p. (p.0 < 32) × (p.1 < 32)) }
-    ensures within { option_map (λ p. record { births = p.0; survivals = p.1 }) result
-        ≡ up_to_four (option_map (λ p. record { births = p.0; survivals = p.1 }) found) }
+    ensures { AreSets 32 (up_to_four (sets_in found)) result }
 {
     match found {
         Some((births, survivals)) if births < 32 && survivals < 32 => Some((births, survivals)),
@@ -136,9 +126,7 @@ fn begins_with_b(text: &[u8]) -> bool
 
 /// The births and the survivals of a text of a von Neumann rule.
 fn four_sets(alloc: Global, text: &[u8]) -> Result<Option<(u16, u16)>, Kind>
-    ensures ok { IfOk result (λ found. option_map (λ p. record { births = p.0; survivals = p.1 })
-        found ≡ four_sets text.now) }
-    ensures bounds { IfOk result (λ found. IfSome found (λ p. (p.0 < 32) × (p.1 < 32))) }
+    ensures ok { IfOk result (AreSets 32 (four_sets text.now)) }
     ensures err { IfErr result IsMemory }
 {
     match text {

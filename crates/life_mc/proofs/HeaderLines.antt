@@ -6,7 +6,8 @@ use Rattle.std.specs.Result.{result_ok, result_err}
 use Rattle.std.proofs.lemmas.Bool.Decides.{nat_tests}
 use Rattle.std.proofs.lemmas.Bool.{ltb-false, le-leb, and_from}
 use Rattle.std.proofs.lemmas.List.Folds.{list_all-append}
-use Rattle.life_base.proofs.NamesRead.{all_pass}
+use Rattle.life_base.proofs.NamesRead.{all_pass, good_text}
+use Rattle.life_base.proofs.RoundTrip.{visible}
 use Rattle.life_base.proofs.ReadBack.{rules_read_back}
 use Rattle.life_base.proofs.RuleTexts.{texts_visible}
 use Rattle.life_base.proofs.RuleValues.{named_is}
@@ -60,23 +61,12 @@ moore_short sets =
           (digits_no_feed (filter (has_digit sets.survivals) counts));
     })
 
--- a text that is no bad one
-abbrev visible : ℕ → Bool
-visible b = nat_le 33 b && nat_le b 126
-
 visible_no_feed : (b : ℕ) → visible b ≡ true → not (b == 10) ≡ true
 visible_no_feed b h = grind (arith, nat_tests)
 
-none_of_three : (a b c : Bool) → (a || b || not c) ≡ false → (b ≡ false) × (c ≡ true)
-none_of_three true b c h = cc
-none_of_three false true c h = cc
-none_of_three false false true h = (refl, refl)
-none_of_three false false false h = cc
-
 not_bad : (text : List ℕ) → is_bad_text text ≡ false → IsShortText text
 not_bad text h =
-    let p = none_of_three (is_empty text) (nat_lt 255 (length text)) (list_all visible text) h in
-    record { short = ltb-false 255 (length text) p.0; feed = all_pass visible (λ b. not (b == 10)) visible_no_feed text p.1 }
+    let good = good_text text h in record { short = good.short; feed = all_pass visible (λ b. not (b == 10)) visible_no_feed text good.bytes }
 
 life_short : (sets : DigitSets) (near : Near) → IsRule (counting near sets) → IsShortText (rule_text (counting near sets))
 life_short sets Moore h = moore_short sets

@@ -5,14 +5,14 @@ use Rattle.std.specs.List.{list_all, slice_index_or}
 use Rattle.std.proofs.lemmas.Bool.{ltb-true}
 use Rattle.life_base.specs.Text.{is_too_long, is_empty, is_blank, begins_with, trim, is_digit_text, value_of}
 use Rattle.life_base.specs.Numbers.{u64_of}
-use Rattle.life_base.specs.Rules.{rule_of, is_rule_kind}
+use Rattle.life_base.specs.Rules.{rule_of}
 use Rattle.life_base.specs.Refusal.{is_placeless}
 use Rattle.life_base.specs.declared.kind.Kind.{Kind}
 use Rattle.life_base.specs.declared.kind.Kind.TheVariants as kinds
 use Rattle.life_base.specs.declared.rule.Rule.{Rule}
 use Rattle.life_base.proofs.Numbers.{first}
-use Rattle.life_base.proofs.LineKinds.{names_line as kinds_name_lines}
-use Rattle.life_base.proofs.RuleKinds.{errs_by, errs_by_cases, rule_errs}
+use Rattle.life_base.proofs.LineKinds.{is_length_kind, names_line as kinds_name_lines}
+use Rattle.life_base.proofs.RuleKinds.{errs_by, errs_by_cases, rule_errs_by}
 use Rattle.life_mc.specs.Laws.{LongLinesBreak, RefusalsHaveKinds}
 use Rattle.life_mc.specs.Macrocell.{is_quarter, level_of}
 use Rattle.std.specs.Result.{result_err}
@@ -20,11 +20,6 @@ use Rattle.life_mc.specs.Reading.{broken, broken_behind, broken_by_node, broken_
 use Rattle.life_mc.specs.declared.line.Line.{Line}
 use Rattle.life_mc.specs.declared.line.Line.TheVariants.{Leaf, Quad}
 use Rattle.life_mc.proofs.Stands.{breaks_length}
-
--- the kind of a line that is too long
-abbrev is_length_kind : Kind → Bool
-is_length_kind kinds.LineTooLong = true
-is_length_kind _ = false
 
 -- the kinds of the rules that a line breaks which isn't too long
 abbrev is_short_kind : Kind → Bool
@@ -44,56 +39,9 @@ cases : (b : Bool) (o p : Option Kind) → short_kind_in o ≡ true → short_ki
 cases true o p h k = h
 cases false o p h k = k
 
-wider : (kind : Kind) → is_rule_kind kind ≡ true → is_short_kind kind ≡ true
-wider kinds.NoHeader h = refl
-wider kinds.BadHeader h = cc
-wider kinds.BadRule h = refl
-wider kinds.BoundedGrid h = refl
-wider kinds.UnsupportedRule h = refl
-wider kinds.BirthOnZero h = refl
-wider kinds.BadNumber h = refl
-wider kinds.TooLarge h = refl
-wider kinds.BadItem h = cc
-wider kinds.ZeroCount h = cc
-wider kinds.StateRange h = refl
-wider kinds.OutOfPlane h = cc
-wider kinds.LateHeader h = refl
-wider kinds.SecondHeader h = cc
-wider kinds.BadNode h = refl
-wider kinds.BadLevel h = refl
-wider kinds.BadChild h = refl
-wider kinds.BadLeaf h = refl
-wider kinds.Timeline h = refl
-wider kinds.LineTooLong h = cc
-wider kinds.Full h = cc
-wider kinds.Memory h = cc
-wider kinds.Spent h = cc
-wider kinds.NoRuleLine h = cc
-wider kinds.NoTable h = cc
-wider kinds.BadDescriptor h = cc
-wider kinds.UnsupportedNeighborhood h = cc
-wider kinds.UnsupportedSymmetry h = cc
-wider kinds.BadVariable h = cc
-wider kinds.BadTransition h = cc
-wider kinds.UnboundOutput h = cc
-wider kinds.NotQuiet h = cc
-wider kinds.RuleMismatch h = cc
-wider kinds.NeedsTable h = cc
-wider kinds.Ambiguous h = cc
-wider kinds.TooManyCells h = cc
-wider kinds.GenerationTooLarge h = cc
-wider kinds.StateBeyondTable h = cc
-wider kinds.ReadFault h = cc
-wider kinds.WriteFault h = cc
-wider kinds.InputTooLong h = cc
-
-in_rule : (r : Result Rule Kind) → errs_by is_rule_kind r ≡ true → short_kind_in (result_err r) ≡ true
-in_rule (Ok rule) h = refl
-in_rule (Err kind) h = wider kind h
-
-in_number : (r : Result ℕ Kind) → errs_by is_short_kind r ≡ true → short_kind_in (result_err r) ≡ true
-in_number (Ok n) h = refl
-in_number (Err kind) h = h
+in_error : {X : Type 0} (r : Result X Kind) → errs_by is_short_kind r ≡ true → short_kind_in (result_err r) ≡ true
+in_error (Ok x) h = refl
+in_error (Err kind) h = h
 
 number_errs : (text : List ℕ) → errs_by is_short_kind (u64_of text) ≡ true
 number_errs text =
@@ -127,8 +75,8 @@ behind top front line =
     cases (is_blank line) None frame refl
     (cases (begins_with line (codes "#FRAME")) (Some kinds.Timeline) late refl
     (cases ((is_command 82 line || is_command 71 line) && some) (Some kinds.LateHeader) rule refl
-    (cases (is_command 82 line) (result_err (rule_of (drop 2 line))) number (in_rule (rule_of (drop 2 line)) (rule_errs (drop 2 line)))
-    (cases (is_command 71 line) (result_err (u64_of (trim (drop 2 line)))) hash (in_number (u64_of (trim (drop 2 line))) (number_errs (trim (drop 2 line))))
+    (cases (is_command 82 line) (result_err (rule_of (drop 2 line))) number (in_error (rule_of (drop 2 line)) (rule_errs_by is_short_kind refl refl refl refl (drop 2 line)))
+    (cases (is_command 71 line) (result_err (u64_of (trim (drop 2 line)))) hash (in_error (u64_of (trim (drop 2 line))) (number_errs (trim (drop 2 line))))
     (cases (begins_with line (codes "#")) None node refl (in_node top (rule_in_force front) (map level_of (squares_of front)) (trim line)))))))
 
 -- the rule that a line breaks which isn't too long

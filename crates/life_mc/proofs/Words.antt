@@ -89,25 +89,13 @@ digits_end text h e =
 
 -- ---- five numbers
 
-abbrev fives : Bool → List (List ℕ) → Option Line
-fives v words = cond v (quad_of (map (λ word. capped (value_of word)) words)) None
-
 either : (v : Bool) → (let o : Option Line = None in cond v o None) ≡ None
 either true = refl
 either false = refl
 
 no_five : (a b c d : List ℕ) (rest : List (List ℕ)) → begins_with_number rest ≡ false → quad_words (a ∷ b ∷ c ∷ d ∷ rest) ≡ None
 no_five a b c d [] h = either (list_all is_digit_text (a ∷ b ∷ c ∷ d ∷ []))
-no_five a b c d (e ∷ rest) h = ap (λ v. fives v (a ∷ b ∷ c ∷ d ∷ e ∷ rest))
-    (all_false (is_digit_text a) (is_digit_text b) (is_digit_text c) (is_digit_text d) (is_digit_text e) (list_all is_digit_text rest) h)
-  where
-    all_false : (a b c d e f : Bool) → e ≡ false → (a && (b && (c && (d && (e && f))))) ≡ false
-    all_false false b c d e f h = refl
-    all_false true false c d e f h = refl
-    all_false true true false d e f h = refl
-    all_false true true true false e f h = refl
-    all_false true true true true true f h = cc
-    all_false true true true true false f h = refl
+no_five a b c d (e ∷ rest) h = rw (h, and-false, and-false, and-false, and-false) refl
 
 more_than_five : (a b c d e : List ℕ) (rest : List (List ℕ)) → is_empty rest ≡ false → quad_words (a ∷ b ∷ c ∷ d ∷ e ∷ rest) ≡ None
 more_than_five a b c d e [] h = cc

@@ -13,7 +13,7 @@ pub use Rattle.life_mc.specs.Reading.{broken, broken_after, broken_by_node, brok
 pub use Rattle.life_mc.specs.Reading.{is_node_line, leaf_bytes, LinesBreakByKinds, Refuses, row_byte, square_of, squares_of}
 pub use Rattle.life_mc.specs.Squares.{LinesStandForSquares}
 pub use Rattle.life_mc.specs.Standing.{begins_with_number, first_row, front_cells, IsCommandRead, IsParsed, quad_words, TellsRow}
-pub use Rattle.life_mc.specs.Writing.{file_text, front_text, generation_text, mc_text, node_text, row_text, TextsReadBack}
+pub use Rattle.life_mc.specs.Writing.{file_text, front_text, mc_text, node_text, row_text, TextsReadBack}
 pub use Rattle.life_mc.specs.declared.line.Line.TheVariants.{Quad}
 pub use Rattle.std.specs.Char.{is_ascii_digit}
 pub use Rattle.std.specs.List.{list_all}

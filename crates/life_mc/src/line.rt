@@ -57,25 +57,10 @@ fn begins_as_node(line: &[u8]) -> bool
     }
 }
 
-/// What a line behind the header is, if it is no node line, where this is the rule and these the levels so far.
-#[inline(always)]
-fn parse_command(
-    alloc: Global,
-    rule: &Rule,
-    levels: &[u8],
-    line: &[u8],
-) -> Result<Option<Directive>, Kind>
-    ensures { IsCommandRead MAX_LEVEL rule.now levels.now line.now result }
-{
-    if begins_as_node(line) {
-        return Ok(None);
-    }
-    parse_by_tests(alloc, rule, levels, line)
-}
-
-/// The same, by one test after another. It is never inlined: most lines are node lines, and begin as these.
+/// What a line behind the header is, if it is no node line, where this is the rule and these the levels so far. It is never inlined: most lines
+/// are node lines, and begin as these.
 #[inline(never)]
-fn parse_by_tests(
+fn parse_command(
     alloc: Global,
     rule: &Rule,
     levels: &[u8],
@@ -120,8 +105,10 @@ pub(crate) fn parse_line(
         (λ kind. (kind ≡ Memory)
         ⊎ (broken_after MAX_LEVEL rule.now levels.now line.now ≡ Some kind)) }
 {
-    match parse_command(alloc, rule, levels, line)? {
-        Some(directive) => Ok(directive),
-        None => Ok(Directive::NodeLine(read_node(rule, levels, line)?)),
+    if !begins_as_node(line) {
+        if let Some(directive) = parse_command(alloc, rule, levels, line)? {
+            return Ok(directive);
+        }
     }
+    Ok(Directive::NodeLine(read_node(rule, levels, line)?))
 }

@@ -1,7 +1,7 @@
 //! Macrocell files as texts.
 
 ghost use Rattle.std.specs.Prelude.{◌≡◌, ◌++◌, flat_map, OnOk, IfOk, IfErr};
-ghost use Rattle.life_mc.specs.Words.{fault_of, Memory, mc_text, file_text, front_text, node_text, generation_text, IsMemory};
+ghost use Rattle.life_mc.specs.Words.{fault_of, Memory, mc_text, file_text, front_text, node_text, IsMemory};
 
 use crate::file::McFile;
 use crate::line::Line;
@@ -20,19 +20,6 @@ fn append_lines(out: &mut Vec<u8>, lines: &[Line]) -> Result<(), Kind>
     Ok(())
 }
 
-/// Adds the line that tells a generation.
-fn append_generation(out: &mut Vec<u8>, generation: u64) -> Result<(), Kind>
-    ensures ok { OnOk result (out.new.items ≡ out.old.items ++ generation_text generation) }
-    ensures err { IfErr result IsMemory }
-{
-    if generation == 0 {
-        return Ok(());
-    }
-    append(out, b"#G ")?;
-    append_number(out, generation)?;
-    append(out, b"\n")
-}
-
 /// Adds the front of a file at the end: the header, the rule, and the generation if it isn't 0, each line ended by a line feed.
 ///
 /// # Errors
@@ -45,7 +32,12 @@ pub fn append_front(out: &mut Vec<u8>, rule: &Rule, generation: u64) -> Result<(
     append(out, b"[M2] (canonical 1)\n#R ")?;
     rule.write(out)?;
     append(out, b"\n")?;
-    append_generation(out, generation)
+    if generation == 0 {
+        return Ok(());
+    }
+    append(out, b"#G ")?;
+    append_number(out, generation)?;
+    append(out, b"\n")
 }
 
 /// Adds the text of a rule, a generation and squares at the end.

@@ -66,9 +66,7 @@ choice long blank position comment header = cond long (Err LineTooLong)
 
 choice-items : (long blank position comment header : Bool) → long ≡ false → blank ≡ false → position ≡ false → comment ≡ false → header ≡ false
     → choice long blank position comment header ≡ Ok Data
-choice-items long blank position comment header a b c d e =
-    ap (λ t. choice t blank position comment header) a ∙ ap (λ t. choice false t position comment header) b ∙ ap (λ t. choice false false t comment header) c
-    ∙ ap (λ t. choice false false false t header) d ∙ ap (λ t. choice false false false false t) e
+choice-items long blank position comment header a b c d e = rw (a, b, c, d, e) refl
 
 -- another first byte, and another second byte
 begins_other : (b w : ℕ) (line word : List ℕ) → eqb b w ≡ false → begins_with (b ∷ line) (w ∷ word) ≡ false

@@ -28,6 +28,7 @@ pub mod ItemRoom
 pub mod PutItems
 pub mod TakeCells
 pub mod LineKinds
+pub mod Openings
 pub mod Stands
 pub mod RunEnds
 pub mod RunsLaws

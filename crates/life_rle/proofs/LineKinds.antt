@@ -2,11 +2,9 @@
 use Rattle.std.proofs.Common.{◌≡◌, ℕ, Bool, true, false, not, cond, ◌&&◌, ◌||◌, List, [], ◌∷◌, ◌++◌, refl, sym, ◌∙◌, subst, inl, inr, Some, None, Ok, Err, Option, Result, ℤ, pos, ◌+ℤ◌, codes}
 use Rattle.std.specs.Prelude.{int_lt, int_le}
 use Rattle.life_base.specs.declared.kind.Kind.{Kind}
-use Rattle.life_base.specs.declared.kind.Kind.TheVariants.{LineTooLong, NoHeader, LateHeader, SecondHeader, BadRule, BoundedGrid, UnsupportedRule, BirthOnZero, StateRange, OutOfPlane}
+use Rattle.life_base.specs.declared.kind.Kind.TheVariants.{LineTooLong, NoHeader, LateHeader, SecondHeader, StateRange, OutOfPlane}
 use Rattle.life_base.specs.declared.rule.Rule.{Rule}
-use Rattle.life_base.specs.Rules.{rule_of}
-use Rattle.life_base.specs.Rules.{is_rule_kind}
-use Rattle.life_base.proofs.RuleKinds.{rule_kind}
+use Rattle.life_base.proofs.RuleKinds.{errs_by, rule_errs_by}
 use Rattle.life_base.specs.Refusal.{is_placeless, Answers}
 use Rattle.life_base.specs.Text.{is_too_long, is_blank, begins_with}
 use Rattle.life_base.proofs.LineKinds.{names_line as kinds_name_lines}
@@ -28,28 +26,10 @@ use Rattle.life_rle.proofs.ShortKinds.{is_short_kind, IsLineKind, short-line, li
 use Rattle.life_rle.proofs.ReadItems.{Broken-kind}
 use Rattle.life_rle.proofs.Advance.{IsInPlane, IsPlanePosition, position_of-plane}
 
-abbrev HasKind : {A : Type 0} → Result A Kind → Type 0
-HasKind (Ok a) = Unit {0}
-HasKind (Err kind) = is_short_kind kind ≡ true
-
-rule-kind_of_rle : (kind : Kind) → is_rule_kind kind ≡ true → is_short_kind kind ≡ true
-rule-kind_of_rle BadRule h = refl
-rule-kind_of_rle BoundedGrid h = refl
-rule-kind_of_rle UnsupportedRule h = refl
-rule-kind_of_rle BirthOnZero h = refl
-rule-kind_of_rle _ h = cc
-
-rule-kind_as : (text : List ℕ) (r : Result Rule Kind) → rule_of text ≡ r → HasKind r
-rule-kind_as text (Ok rule) e = tt
-rule-kind_as text (Err kind) e = rule-kind_of_rle kind (rule_kind text kind e)
-
-rule-kind : (text : List ℕ) → HasKind (rule_of text)
-rule-kind text = rule-kind_as text (rule_of text) refl
-
-header-kind : (o : Option (Option (List ℕ))) → HasKind (rule_in o)
+header-kind : (o : Option (Option (List ℕ))) → errs_by is_short_kind (rule_in o) ≡ true
 header-kind None = refl
-header-kind (Some None) = tt
-header-kind (Some (Some text)) = rule-kind text
+header-kind (Some None) = refl
+header-kind (Some (Some text)) = rule_errs_by is_short_kind refl refl refl refl text
 
 -- what a line is before the header, by whether it is too long
 abbrev pub IsTameOpening : ℕ → Bool → Result Opening Kind → Type 0
@@ -73,7 +53,7 @@ position-tame : (level : ℕ) (long : Bool) (r : Result Position Kind) → IsPla
 position-tame level long (Ok o) h = h
 position-tame level long (Err kind) h = short-line long kind h
 
-header-tame : (level : ℕ) (long : Bool) (r : Result Rule Kind) → HasKind r → IsTameOpening level long (and_then r (λ rule. Ok (Header rule)))
+header-tame : (level : ℕ) (long : Bool) (r : Result Rule Kind) → errs_by is_short_kind r ≡ true → IsTameOpening level long (and_then r (λ rule. Ok (Header rule)))
 header-tame level long (Ok rule) h = tt
 header-tame level long (Err kind) h = short-line long kind h
 

@@ -7,7 +7,7 @@ use Rattle.std.proofs.lemmas.Bool.Decides.{nat_tests}
 use Rattle.std.proofs.lemmas.Bool.{and_parts}
 use Rattle.std.proofs.lemmas.Option.{same_Some}
 use Rattle.life_base.specs.declared.kind.Kind.{Kind}
-use Rattle.life_base.specs.declared.kind.Kind.TheVariants.{LineTooLong, NoHeader, LateHeader, SecondHeader, StateRange, OutOfPlane}
+use Rattle.life_base.specs.declared.kind.Kind.TheVariants.{LineTooLong, LateHeader, SecondHeader, StateRange, OutOfPlane}
 use Rattle.life_base.specs.declared.rule.Rule.{Rule}
 use Rattle.life_base.specs.Rules.{default_rule}
 use Rattle.life_base.specs.Text.{is_too_long, is_blank, begins_with}
@@ -28,6 +28,7 @@ use Rattle.life_rle.specs.Pattern.{Rle, Placed, placed, item_fault, placed_fault
 use Rattle.life_rle.specs.Grammar.{opening_of, later_of, IsPreamble, LineSpells, BodySpells, IsUnmarked, IsMarked, IsRle}
 use Rattle.life_rle.specs.PlainPosition.{IsPositionText}
 use Rattle.life_rle.specs.PlainFile.{IsShort, IsComment, ArePreamble, IsRuleLine, IsData, IsBodyLine, IsLastLine, AreBody, MayStand, IsOpenFile, IsEndedFile, FilesArePlain}
+use Rattle.life_rle.proofs.Openings.{opened, opening-is}
 use Rattle.life_rle.proofs.Progress.{option_or-both, IsOpenBy-map, IsEndedBy-map}
 use Rattle.life_rle.proofs.PlainItems.{items_are_plain}
 use Rattle.life_rle.proofs.PlainHeader.{headers_are_plain}
@@ -65,65 +66,18 @@ visible-position line h = let first = position-first line h in ap is_blank first
 
 -- ---- a line before the header
 
-abbrev opening-by : (long blank position comment header : Bool) → Result Position Kind → Result Rule Kind → Result Opening Kind
-opening-by long blank position comment header p h =
-    cond long (Err LineTooLong) (cond blank (Ok Comment)
-    (cond position (and_then p (λ x. Ok (PositionLine x))) (cond comment (Ok Comment) (cond header (and_then h (λ r. Ok (Header r))) (Err NoHeader)))))
-
-is-comment : (a b c d e : Bool) (p : Result Position Kind) (h : Result Rule Kind) → opening-by a b c d e p h ≡ Ok Comment → (a ≡ false)
-    × ((b ≡ true) ⊎ ((d ≡ true) × (c ≡ false)))
-is-comment true b c d e p h q = cc
-is-comment false true c d e p h q = (refl, inl refl)
-is-comment false false true d e (Ok x) h q = cc
-is-comment false false true d e (Err k) h q = cc
-is-comment false false false true e p h q = (refl, inr (refl, refl))
-is-comment false false false false true p (Ok r) q = cc
-is-comment false false false false true p (Err k) q = cc
-is-comment false false false false false p h q = cc
-
 comment-is : (a b c d e : Bool) (p : Result Position Kind) (h : Result Rule Kind) → a ≡ false → (b ≡ true) ⊎ ((d ≡ true) × (c ≡ false))
-    → opening-by a b c d e p h ≡ Ok Comment
-comment-is true b c d e p h short q = cc
-comment-is false true c d e p h short q = refl
-comment-is false false c d e p h short (inl q) = cc
-comment-is false false true d e p h short (inr q) = let no : true ≡ false = q.1 in cc
-comment-is false false false true e p h short (inr q) = refl
-comment-is false false false false e p h short (inr q) = let no : false ≡ true = q.0 in cc
-
-is-position : (a b c d e : Bool) (p : Result Position Kind) (h : Result Rule Kind) (here : Position) → opening-by a b c d e p h ≡ Ok (PositionLine here)
-    → (a ≡ false) × (c ≡ true) × (p ≡ Ok here)
-is-position true b c d e p h here q = cc
-is-position false true c d e p h here q = cc
-is-position false false true d e (Ok x) h here q = let same : x ≡ here = cc in (refl, refl, ap Ok same)
-is-position false false true d e (Err k) h here q = cc
-is-position false false false true e p h here q = cc
-is-position false false false false true p (Ok r) here q = cc
-is-position false false false false true p (Err k) here q = cc
-is-position false false false false false p h here q = cc
+    → opened a b c d e p h ≡ Ok Comment
+comment-is a b c d e p h short (inl q) = rw (short, q) refl
+comment-is a true c d e p h short (inr q) = rw short refl
+comment-is a false c d e p h short (inr q) = rw (short, q.1, q.0) refl
 
 position-is : (a b c d e : Bool) (p : Result Position Kind) (h : Result Rule Kind) (here : Position) → a ≡ false → b ≡ false → c ≡ true → p ≡ Ok here
-    → opening-by a b c d e p h ≡ Ok (PositionLine here)
-position-is true b c d e p h here short visible is read = cc
-position-is false true c d e p h here short visible is read = cc
-position-is false false false d e p h here short visible is read = cc
-position-is false false true d e p h here short visible is read = ap (λ (r : Result Position Kind). and_then r (λ x. Ok (PositionLine x))) read
-
-is-header : (a b c d e : Bool) (p : Result Position Kind) (h : Result Rule Kind) (rule : Rule) → opening-by a b c d e p h ≡ Ok (Header rule) → (a ≡ false)
-    × (h ≡ Ok rule)
-is-header true b c d e p h rule q = cc
-is-header false true c d e p h rule q = cc
-is-header false false true d e (Ok x) h rule q = cc
-is-header false false true d e (Err k) h rule q = cc
-is-header false false false true e p h rule q = cc
-is-header false false false false true p (Ok r) rule q = let same : r ≡ rule = cc in (refl, ap Ok same)
-is-header false false false false true p (Err k) rule q = cc
-is-header false false false false false p h rule q = cc
+    → opened a b c d e p h ≡ Ok (PositionLine here)
+position-is a b c d e p h here short visible is read = rw (short, visible, is, read) refl
 
 opening-comment : (level : ℕ) (line : List ℕ) → opening_of level line ≡ Ok Comment → IsShort line × IsComment line
-opening-comment level line q =
-    let c = is-comment (is_too_long line) (is_blank line) (is_position_line line) (begins_with line (codes "#")) (begins_with line (codes "x"))
-    (position_of level line) (header_of line) q in
-    (short-of line c.0, c.1)
+opening-comment level line q = let c = opening-is level line (Ok Comment) q in (short-of line c.0, c.1)
 
 comment-opening : (level : ℕ) (line : List ℕ) → IsShort line → IsComment line → opening_of level line ≡ Ok Comment
 comment-opening level line short c =
@@ -133,9 +87,7 @@ comment-opening level line short c =
 opening-position : (level : ℕ) (line : List ℕ) (here : Position) → opening_of level line ≡ Ok (PositionLine here) → IsShort line
     × IsPositionText level line here
 opening-position level line here q =
-    let p = is-position (is_too_long line) (is_blank line) (is_position_line line) (begins_with line (codes "#")) (begins_with line (codes "x"))
-    (position_of level line) (header_of line) here q in
-    (short-of line p.0, ((positions_are_plain level line).0 here).0 (p.1, p.2))
+    let p = opening-is level line (Ok (PositionLine here)) q in (short-of line p.0, ((positions_are_plain level line).0 here).0 (p.1, p.2))
 
 position-opening : (level : ℕ) (line : List ℕ) (here : Position) → IsShort line → IsPositionText level line here
     → opening_of level line ≡ Ok (PositionLine here)
@@ -179,9 +131,7 @@ header-opening level line rule short r =
 
 opening-header : (level : ℕ) (line : List ℕ) (rule : Rule) → opening_of level line ≡ Ok (Header rule) → IsShort line × IsRuleLine line rule
 opening-header level line rule q =
-    let h = is-header (is_too_long line) (is_blank line) (is_position_line line) (begins_with line (codes "#")) (begins_with line (codes "x"))
-    (position_of level line) (header_of line) rule q in
-    (short-of line h.0, rule-line line rule (header_form line) refl h.1)
+    let h = opening-is level line (Ok (Header rule)) q in (short-of line h.0, rule-line line rule (header_form line) refl h.1)
 
 -- ---- lines in front of it
 
@@ -215,12 +165,9 @@ is-passed false false false false true q = cc
 is-passed false false false false false q = cc
 
 passed-is : (a b c d e : Bool) → a ≡ false → (b ≡ true) ⊎ ((d ≡ true) × (c ≡ false)) → later-by a b c d e ≡ Ok Passed
-passed-is true b c d e short q = cc
-passed-is false true c d e short q = refl
-passed-is false false c d e short (inl q) = cc
-passed-is false false true d e short (inr q) = let no : true ≡ false = q.1 in cc
-passed-is false false false true e short (inr q) = refl
-passed-is false false false false e short (inr q) = let no : false ≡ true = q.0 in cc
+passed-is a b c d e short (inl q) = rw (short, q) refl
+passed-is a true c d e short (inr q) = rw short refl
+passed-is a false c d e short (inr q) = rw (short, q.1, q.0) refl
 
 is-data : (a b c d e f : Bool) → later-by a b c d (e || f) ≡ Ok Data → (a ≡ false) × (b ≡ false) × (d ≡ false) × (e ≡ false) × (f ≡ false)
 is-data true b c d e f q = cc
@@ -232,13 +179,7 @@ is-data false false false false false true q = cc
 is-data false false false false false false q = (refl, refl, refl, refl, refl)
 
 data-is : (a b c d e f : Bool) → a ≡ false → b ≡ false → c ≡ false → d ≡ false → e ≡ false → f ≡ false → later-by a b c d (e || f) ≡ Ok Data
-data-is true b c d e f p q r s t u = cc
-data-is false true c d e f p q r s t u = cc
-data-is false false true d e f p q r s t u = cc
-data-is false false false true e f p q r s t u = cc
-data-is false false false false true f p q r s t u = cc
-data-is false false false false false true p q r s t u = cc
-data-is false false false false false false p q r s t u = refl
+data-is a b c d e f p q r s t u = rw (p, q, r, s, t, u) refl
 
 later-passed : (line : List ℕ) → later_of line ≡ Ok Passed → IsShort line × IsComment line
 later-passed line q =

@@ -211,14 +211,14 @@ pub IsEndedBy-map : {IsOpen IsOpen' : List (List ℕ) → Rle → Type 0} {IsLas
     → (lines : List (List ℕ)) (file : Rle) → IsEndedBy IsOpen IsLast IsSound lines file → IsEndedBy IsOpen' IsLast' IsSound' lines file
 IsEndedBy-map begun marked sound lines file b = record {
   front = b.front;
+  earlier = b.earlier;
+  begun = begun b.front (record file { items = b.earlier }) b.begun;
   last = b.last;
+  final = b.final;
+  marked = marked b.last b.final b.marked;
   free = b.free;
   whole = b.whole;
-  earlier = b.earlier;
-  final = b.final;
   items = b.items;
-  begun = begun b.front (record file { items = b.earlier }) b.begun;
-  marked = marked b.last b.final b.marked;
   sound = sound file b.sound;
 }
 

@@ -161,7 +161,7 @@ module _ (states : StatesReadBack) (rules : RulesReadBack) (rule : Rule) (r : Is
           (is_coordinate-between x n.left n.right) (is_coordinate-between y n.top n.bottom) n.generation,
       refl,
     );
-    rule = header-read w h rule n.width n.height (visible-bare (rule_text rule) (rule_text-is rule r).visible) (rule_text-is rule r).short (rules rule r);
+    rule = header-read w h rule n.width n.height (visible-bare (rule_text rule) (rule_text-is rule r).bytes) (rule_text-is rule r).short (rules rule r);
     items = refl;
     sound = refl;
   }
@@ -174,7 +174,7 @@ module _ (states : StatesReadBack) (rules : RulesReadBack) (rule : Rule) (r : Is
   lines-AreLines = (
     position-one_line x y g (short-coordinate x n.left n.right) (short-coordinate y n.top n.bottom) n.generation,
     (
-      header-one_line w h rule n.width n.height (visible-one_line (rule_text rule) (rule_text-is rule r).visible),
+      header-one_line w h rule n.width n.height (visible-one_line (rule_text rule) (rule_text-is rule r).bytes),
       wrapped-AreLines [] (map (item_text rule) items ++ (33 ∷ []) ∷ []) refl (written-one_line rule items written),
     ),
   )

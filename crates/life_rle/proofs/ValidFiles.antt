@@ -4,54 +4,26 @@ use Rattle.std.specs.Prelude.{Result, Ok, Err, nat_le, ℤ}
 use Rattle.std.proofs.lemmas.Bool.Decides.{nat_tests}
 use Rattle.life_base.specs.Numbers.{u64_of}
 use Rattle.life_base.specs.Rules.{IsRule, default_rule}
-use Rattle.life_base.specs.Text.{is_blank, is_digit_text, value_of, begins_with, is_too_long, words_of}
+use Rattle.life_base.specs.Text.{is_digit_text, value_of, begins_with, words_of}
 use Rattle.life_base.specs.declared.kind.Kind.{Kind}
-use Rattle.life_base.specs.declared.kind.Kind.TheVariants.{LineTooLong, NoHeader, BadNumber, TooLarge, OutOfPlane}
+use Rattle.life_base.specs.declared.kind.Kind.TheVariants.{BadNumber, TooLarge, OutOfPlane}
 use Rattle.life_base.specs.declared.rule.Rule.{Rule}
 use Rattle.life_base.proofs.RuleValues.{rule_values}
-use Rattle.life_rle.specs.declared.line.Opening.{Opening}
-use Rattle.life_rle.specs.declared.line.Opening.TheVariants.{Comment, PositionLine, Header}
+use Rattle.life_rle.specs.declared.line.Opening.TheVariants.{PositionLine, Header}
 use Rattle.life_rle.specs.declared.position.Position.{Position}
 use Rattle.life_rle.specs.Grammar.{IsRle, IsUnmarked, IsPreamble, opening_of}
-use Rattle.life_rle.specs.Header.{rule_in, header_of, header_form}
+use Rattle.life_rle.specs.Header.{rule_in, header_form}
 use Rattle.life_rle.specs.Pattern.{Rle}
 use Rattle.life_rle.specs.Plane.{is_coordinate}
-use Rattle.life_rle.specs.Position.{default_position, Field, Corner, Generation, Other, and_then, corner_of, corner_in, field_of, with_field, position_with, position_of, is_position_line}
+use Rattle.life_rle.specs.Position.{default_position, Field, Corner, Generation, Other, and_then, corner_of, corner_in, field_of, with_field, position_with}
 use Rattle.life_rle.specs.Valid.{FilesAreValid}
+use Rattle.life_rle.proofs.Openings.{opening-is}
 use Rattle.life_rle.proofs.RunsLaws.{IsRle-plane}
 
 -- ---- a line before the header
 
 one-value : {X : Type 0} (a b : X) (r : Result X Kind) → r ≡ Ok a → r ≡ Ok b → a ≡ b
 one-value a b r p q = cc
-
--- what a line before the header is says what its position, or its header, was read as
-abbrev IsReadAs : Result Position Kind → Result Rule Kind → Opening → Type 0
-IsReadAs p h Comment = Unit {0}
-IsReadAs p h (PositionLine position) = p ≡ Ok position
-IsReadAs p h (Header rule) = h ≡ Ok rule
-
-opened : (p : Result Position Kind) (h : Result Rule Kind) (here found : Opening) → IsReadAs p h here → ◌≡◌ {A = Result Opening Kind} (Ok here) (Ok found)
-    → IsReadAs p h found
-opened p h here found r q = subst (IsReadAs p h) (one-value here found (Ok here) refl q) r
-
-read-as : (a b c d e : Bool) (p : Result Position Kind) (h : Result Rule Kind) (found : Opening)
-    → cond a (Err LineTooLong) (cond b (Ok Comment)
-    (cond c (and_then p (λ x. Ok (PositionLine x))) (cond d (Ok Comment) (cond e (and_then h (λ r. Ok (Header r))) (Err NoHeader))))) ≡ Ok found
-    → IsReadAs p h found
-read-as true b c d e p h found q = absurd (cc)
-read-as false true c d e p h found q = opened p h Comment found tt q
-read-as false false true d e (Ok x) h found q = opened (Ok x) h (PositionLine x) found refl q
-read-as false false true d e (Err k) h found q = absurd (cc)
-read-as false false false true e p h found q = opened p h Comment found tt q
-read-as false false false false true p (Ok r) found q = opened p (Ok r) (Header r) found refl q
-read-as false false false false true p (Err k) found q = absurd (cc)
-read-as false false false false false p h found q = absurd (cc)
-
-line-reads : (level : ℕ) (line : List ℕ) (found : Opening) → opening_of level line ≡ Ok found → IsReadAs (position_of level line) (header_of line) found
-line-reads level line found h =
-    read-as (is_too_long line) (is_blank line) (is_position_line line) (begins_with line (codes "#")) (begins_with line (codes "x"))
-    (position_of level line) (header_of line) found h
 
 -- ---- the rule
 
@@ -64,7 +36,7 @@ rule-in-valid (Some None) rule h = let P : Rule → Type 0 = λ r. IsRule r in s
 rule-in-valid (Some (Some text)) rule h = rule_values text rule h
 
 rule-valid : (level : ℕ) (line : List ℕ) (rule : Rule) → opening_of level line ≡ Ok (Header rule) → IsRule rule
-rule-valid level line rule h = rule-in-valid (header_form line) rule (line-reads level line (Header rule) h)
+rule-valid level line rule h = rule-in-valid (header_form line) rule (opening-is level line (Ok (Header rule)) h).1
 
 -- ---- the generation
 
@@ -121,7 +93,7 @@ preamble-small level given (line ∷ lines) position (inl p) l = preamble-small 
 preamble-small level given (line ∷ lines) position (inr p) l =
     preamble-small level p.0 lines position p.2
     (fields-small level default_position (words_of (drop 6 line)) p.0
-    (line-reads level line (PositionLine p.0) p.1) (lit< tt))
+    (opening-is level line (Ok (PositionLine p.0)) p.1).2 (lit< tt))
 
 unmarked-valid : (level : ℕ) (lines : List (List ℕ)) (file : Rle) → IsUnmarked level lines file → IsRule file.rule × (file.position.generation < 2 ^ 64)
 unmarked-valid level lines file u

@@ -6,7 +6,7 @@ use Rattle.std.proofs.lemmas.Int.{ints}
 use Rattle.std.proofs.Math.Pow.{pow_mono}
 use Rattle.life_base.specs.Text.{is_blank, value_of, begins_with, is_too_long, trim_start, words_of}
 use Rattle.life_base.specs.declared.kind.Kind.{Kind}
-use Rattle.life_base.specs.declared.kind.Kind.TheVariants.{LineTooLong, NoHeader, OutOfPlane, StateRange, TooLarge, ZeroCount}
+use Rattle.life_base.specs.declared.kind.Kind.TheVariants.{OutOfPlane, StateRange, TooLarge, ZeroCount}
 use Rattle.life_base.specs.declared.rule.Rule.{Rule}
 use Rattle.life_rle.specs.declared.item.Item.{Item}
 use Rattle.life_rle.specs.declared.item.Item.TheVariants.{Cells, RowEnds}
@@ -23,6 +23,7 @@ use Rattle.life_rle.specs.Plane.{edge, is_coordinate, most_count}
 use Rattle.life_rle.specs.Position.{default_position, Field, Corner, and_then, corner_of, corner_in, field_of, with_field}
 use Rattle.life_rle.specs.Position.{position_with, position_of, is_position_line}
 use Rattle.life_rle.specs.States.{is_state_of}
+use Rattle.life_rle.proofs.Openings.{opened}
 use Rattle.life_rle.proofs.Progress.{option_or-both, IsOpenBy-map, IsEndedBy-map}
 
 -- ---- the numbers of the plane
@@ -83,14 +84,6 @@ fields-wider level wider position (field ∷ fields) found wide h = by (field_of
     by (Err k) e h more = cc
 
 -- ---- lines before the header
-
--- what a line is before the header, by its tests and by what it would be of each kind
-abbrev opened : Bool → Bool → Bool → Bool → Bool → Result Position Kind → Result Rule Kind → Result Opening Kind
-opened a b c d e p h =
-    cond a (Err LineTooLong)
-    (cond b (Ok Comment)
-    (cond c (and_then p (λ position. Ok (PositionLine position)))
-    (cond d (Ok Comment) (cond e (and_then h (λ rule. Ok (Header rule))) (Err NoHeader)))))
 
 opened-by : (a b c d e : Bool) (p q : Result Position Kind) (h : Result Rule Kind) (found : Opening)
     → ((position : Position) → p ≡ Ok position → q ≡ Ok position)

@@ -1,7 +1,8 @@
 -- What a reader keeps while it goes over the items of a line.
-use Rattle.std.specs.Prelude.{◌≡◌, ℕ, ◌+◌, ◌<◌, ◌≤◌, Bool, true, false, List, ◌++◌, length, drop, slice_index, Option, Some, None, ℤ}
+use Rattle.std.specs.Prelude.{◌≡◌, ℕ, ◌+◌, ◌<◌, ◌≤◌, Bool, true, false, ◌⊎◌, List, [], ◌++◌, length, drop, slice_index, Option, Some, None, Result, MatchResult, ℤ}
 use Rattle.std.specs.Char.{is_ascii_digit}
 use Rattle.life_base.specs.declared.kind.Kind.{Kind}
+use Rattle.life_base.specs.declared.kind.Kind.TheVariants.{Memory}
 use Rattle.life_base.specs.declared.rule.Rule.{Rule}
 use Rattle.life_rle.specs.declared.item.Item.{Item}
 use Rattle.life_rle.specs.declared.item.Token.{Token}
@@ -11,13 +12,18 @@ use Rattle.life_base.specs.declared.cell.Run.{Run}
 use Rattle.life_rle.specs.Items.{Next, End, Mark, Spelled, Broken, item_behind, next_of, Spells}
 use Rattle.life_rle.specs.Plane.{is_coordinate}
 use Rattle.life_rle.specs.Pattern.{item_fault, first_fault}
-use Rattle.life_rle.specs.Runs.{runs_of}
-use Rattle.life_rle.specs.Cursor.{IsNear, moved_behind, placed_at}
+use Rattle.life_rle.specs.Runs.{runs_of, with_run}
+use Rattle.life_rle.specs.Cursor.{IsNear, moved, moved_behind, placed_at}
 
 -- the item at a place of a line has this count, whose digits end at another place; without digits it is 1
 pub data IsCount (level : ℕ) (line : List ℕ) (at count place : ℕ) : Type 0 where
   none : is_ascii_digit (slice_index line at) ≡ false → count ≡ 1 → place ≡ at → IsCount level line at count place
   digits : at < place → next_of level (drop at line) ≡ item_behind count (drop place line) → IsCount level line at count place
+
+-- the count that digits write from a place on and the place behind them, which is in the line, or why they spell no item
+abbrev pub IsCountRead : ℕ → List ℕ → ℕ → Result (ℕ × ℕ) Kind → Type 0
+IsCountRead level line at result = MatchResult result
+    (λ found. IsCount level line at found.0 found.1 × (found.1 < length line)) (λ kind. next_of level (drop at line) ≡ Broken kind)
 
 -- what was found behind a count
 abbrev pub IsItemAt : List ℕ → ℕ → ℕ → Token → Type 0
@@ -39,6 +45,18 @@ abbrev pub IsNumberRead : ℕ → Option ℤ → Option ℤ → Type 0
 IsNumberRead level None None = Unit {0}
 IsNumberRead level (Some z) (Some w) = (is_coordinate level w ≡ is_coordinate level z) × (is_coordinate level w ≡ true → w ≡ z)
 IsNumberRead level _ _ = ⊥
+
+-- an item was taken: it breaks no rule, its run stands behind the runs, and the cursor behind it
+pub record IsTaken (level : ℕ) (rule : Rule) (here : Cursor) (item : Item) (before after : List Run) (next : Cursor) : Type 0 where
+  pub sound : item_fault level rule here.y here.x item ≡ None
+  pub cursor : next ≡ moved here item
+  pub near : IsNear level next
+  pub runs : after ≡ before ++ with_run here.y here.x item []
+
+-- whether an item was taken; where it breaks a rule, or memory is short, the runs stay
+abbrev pub TakesItem : ℕ → Rule → Cursor → Item → List Run → List Run → Result Cursor Kind → Type 0
+TakesItem level rule cursor item before after result = MatchResult result (IsTaken level rule cursor item before after)
+    (λ kind. (after ≡ before) × ((kind ≡ Memory) ⊎ (item_fault level rule cursor.y cursor.x item ≡ Some kind)))
 
 -- a line was read up to `next`: its items break no rule, the cursor is behind them, and these are their runs
 pub record IsRead (level : ℕ) (rule : Rule) (from : Cursor) (line : List ℕ) (items : List Item) (next : Next) (now : Cursor) (found : List Run) : Type 0 where

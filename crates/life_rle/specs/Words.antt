@@ -2,6 +2,7 @@
 pub use Rattle.life_base.specs.Numbers.{capped, u64_of}
 pub use Rattle.life_base.specs.Refusal.{Answers, fault_of, IsMemory, OrMemory}
 pub use Rattle.life_base.specs.Text.{is_digit_text, lines_of, value_of, words_of}
+pub use Rattle.life_base.specs.declared.cell.Run.{Run}
 pub use Rattle.life_base.specs.declared.rule.Rule.{Rule}
 pub use Rattle.life_rle.specs.Blocks.{FewBlocks, FewBlocksInFronts}
 pub use Rattle.life_rle.specs.Cursor.{IsNear, item_count, moved, row_limit, start_of}
@@ -22,7 +23,7 @@ pub use Rattle.life_rle.specs.PlainFile.{FilesArePlain, IsPlainRle}
 pub use Rattle.life_rle.specs.PlainPosition.{PositionsArePlain}
 pub use Rattle.life_rle.specs.Plane.{edge, is_coordinate, most_count}
 pub use Rattle.life_rle.specs.Position.{and_then, corner_in, field_of, Generation, is_position_line, position_of, position_with, signed_number, with_field}
-pub use Rattle.life_rle.specs.Reading.{IsCount, IsItemAt, IsNumberRead, IsTokenAt, ItemsBreak, last_of, ReadsItems}
+pub use Rattle.life_rle.specs.Reading.{IsCount, IsCountRead, IsItemAt, IsNumberRead, IsTokenAt, ItemsBreak, last_of, ReadsItems, TakesItem}
 pub use Rattle.life_rle.specs.Runs.{is_run_end, with_run}
 pub use Rattle.life_rle.specs.RunsLaw.{IsBlankOutside, RunsAreCells}
 pub use Rattle.life_rle.specs.Sorted.{are_sorted_cells, is_live_cell, rises}

@@ -1,7 +1,7 @@
 //! The place where the next item stands.
 
-ghost use Rattle.std.specs.Prelude.{◌≡◌, ◌≤◌, Some, None};
-ghost use Rattle.life_rle.specs.Words.{most_count, item_fault, IsNear, start_of, moved, item_count, row_limit, Cells};
+ghost use Rattle.std.specs.Prelude.{◌≡◌, ◌≤◌, List};
+ghost use Rattle.life_rle.specs.Words.{most_count, item_fault, IsNear, start_of, moved, item_count, row_limit, Cells, RowEnds, Rule, Run, TakesItem};
 
 use crate::item::Item;
 use crate::plane::{EDGE, is_state_of};
@@ -37,7 +37,13 @@ pub(crate) fn row_limit(y: i64) -> i64
 
 /// Which rule cells break that stand there, in a row with this limit.
 #[inline(always)]
-fn cells_fault(rule: &Rule, cursor: Cursor, limit: i64, count: u64, state: State) -> Option<Kind>
+pub(crate) fn cells_fault(
+    rule: &Rule,
+    cursor: Cursor,
+    limit: i64,
+    count: u64,
+    state: State,
+) -> Option<Kind>
     requires near { IsNear MAX_LEVEL cursor }
     requires limit { limit ≡ row_limit MAX_LEVEL cursor.y }
     requires count { count ≤ most_count MAX_LEVEL }
@@ -48,21 +54,6 @@ fn cells_fault(rule: &Rule, cursor: Cursor, limit: i64, count: u64, state: State
     }
     let inside = cursor.x + count as i64 <= limit;
     if inside { None } else { Some(Kind::OutOfPlane) }
-}
-
-/// Which rule an item breaks that stands there, in a row with this limit.
-#[inline(always)]
-pub(crate) fn item_fault(rule: &Rule, cursor: Cursor, limit: i64, item: Item) -> Option<Kind>
-    requires near { IsNear MAX_LEVEL cursor }
-    requires limit { limit ≡ row_limit MAX_LEVEL cursor.y }
-    requires count { item_count item ≤ most_count MAX_LEVEL }
-    ensures { result ≡ item_fault MAX_LEVEL rule.now cursor.y cursor.x item }
-{
-    match item {
-        Item::Cells { count, state } => cells_fault(rule, cursor, limit, count, state),
-        Item::RowEnds { count } if cursor.y + count as i64 <= EDGE => None,
-        Item::RowEnds { .. } => Some(Kind::OutOfPlane),
-    }
 }
 
 /// The place behind an item.
@@ -83,5 +74,20 @@ pub(crate) fn moved(cursor: Cursor, item: Item) -> Cursor
             x: cursor.left,
             y: cursor.y + count as i64,
         },
+    }
+}
+
+/// The place behind ends of rows, unless it is below the plane.
+#[inline(always)]
+pub(crate) fn end_rows(cursor: Cursor, count: u64) -> Result<Cursor, Kind>
+    requires near { IsNear MAX_LEVEL cursor }
+    requires count { count ≤ most_count MAX_LEVEL }
+    ensures { (rule : Rule) (runs : List Run)
+        → TakesItem MAX_LEVEL rule cursor (RowEnds count) runs runs result }
+{
+    if cursor.y + count as i64 <= EDGE {
+        Ok(moved(cursor, Item::RowEnds { count }))
+    } else {
+        Err(Kind::OutOfPlane)
     }
 }

@@ -1,7 +1,7 @@
 //! The items of a line.
 
-ghost use Rattle.std.specs.Prelude.{◌≡◌, ◌≢◌, ◌<◌, None, true, false, ℕ, List, drop, length, slice_index, OnOk, IfOk, IfErr};
-ghost use Rattle.life_rle.specs.Words.{is_ascii_digit, byte, capped, is_digit_text, value_of, single_state, prefixed_state, Broken, item_behind, counted, next_of, IsCount, IsItemAt, IsTokenAt};
+ghost use Rattle.std.specs.Prelude.{◌≡◌, ◌≢◌, ◌<◌, None, true, false, ℕ, List, length, slice_index, OnOk, IfOk, IfErr};
+ghost use Rattle.life_rle.specs.Words.{is_ascii_digit, byte, capped, is_digit_text, value_of, single_state, prefixed_state, Broken, item_behind, counted, IsCount, IsCountRead, IsItemAt, IsTokenAt};
 
 use crate::plane::MOST_COUNT;
 use life_base::{Kind, MAX_LEVEL, State, is_whitespace, leading_number};
@@ -90,9 +90,7 @@ fn check_count(count: u64) -> Result<(), Kind>
 fn long_count(line: &[u8], at: usize) -> Result<(u64, usize), Kind>
     requires inside { at < length line.now }
     requires digit { is_ascii_digit (slice_index line.now at) ≡ true }
-    ensures count { IfOk result (λ found. IsCount MAX_LEVEL line.now at found.0 found.1) }
-    ensures inside { IfOk result (λ found. found.1 < length line.now) }
-    ensures fault { IfErr result (λ kind. next_of MAX_LEVEL (drop at line.now) ≡ Broken kind) }
+    ensures { IsCountRead MAX_LEVEL line.now at result }
 {
     let (count, digits) = leading_number(&line[at..]);
     check_count(count)?;
@@ -107,9 +105,7 @@ fn long_count(line: &[u8], at: usize) -> Result<(u64, usize), Kind>
 fn any_count(line: &[u8], at: usize) -> Result<(u64, usize), Kind>
     requires inside { at < length line.now }
     requires digit { is_ascii_digit (slice_index line.now at) ≡ true }
-    ensures count { IfOk result (λ found. IsCount MAX_LEVEL line.now at found.0 found.1) }
-    ensures inside { IfOk result (λ found. found.1 < length line.now) }
-    ensures fault { IfErr result (λ kind. next_of MAX_LEVEL (drop at line.now) ≡ Broken kind) }
+    ensures { IsCountRead MAX_LEVEL line.now at result }
 {
     let (count, place) = long_count(line, at)?;
     Ok((count, place))

@@ -1,12 +1,12 @@
 //! The items of a line, read one after another.
 
 ghost use Rattle.std.specs.Prelude.{◌≡◌, ◌≤◌, ◌+◌, ◌⊎◌, ◌∷◌, ◌++◌, ◌==◌, not, [], Some, None, IfOk, IfErr, OnOk, OnErr, length, filter, position, take_while};
-ghost use Rattle.life_rle.specs.Words.{vec_len, vec_capacity, byte, most_count, item_fault, with_run, is_run_end, IsNear, moved, item_count, row_limit, IsFrontOf, ReadsItems, last_of, ItemsBreak, IsMemory};
+ghost use Rattle.life_rle.specs.Words.{vec_len, vec_capacity, byte, most_count, with_run, is_run_end, IsNear, moved, item_count, row_limit, Cells, IsFrontOf, TakesItem, ReadsItems, last_of, ItemsBreak, IsMemory};
 
-use crate::cursor::{Cursor, item_fault, moved, row_limit};
+use crate::cursor::{Cursor, cells_fault, end_rows, moved, row_limit};
 use crate::item::{Item, Token, token_at};
 use bstr::ByteSlice;
-use life_base::{Kind, MAX_LEVEL, Rule, Run};
+use life_base::{Kind, MAX_LEVEL, Rule, Run, State};
 
 /// A line of more bytes is long: its runs are counted before there is room for them.
 const LONG_LINE: usize = 256;
@@ -125,35 +125,31 @@ fn push_run(cursor: Cursor, item: Item, runs: &mut Vec<Run>) -> Result<(), Kind>
     Ok(())
 }
 
-/// Takes an item of a kind that is known, and answers the place behind it.
+/// Takes cells of one state, and answers the place behind them.
 #[inline(always)]
-fn take_one(
+fn take_cells(
     rule: &Rule,
     cursor: Cursor,
     limit: i64,
-    item: Item,
+    count: u64,
+    state: State,
     runs: &mut Vec<Run>,
 ) -> Result<Cursor, Kind>
     requires near { IsNear MAX_LEVEL cursor }
     requires limit { limit ≡ row_limit MAX_LEVEL cursor.y }
-    requires count { item_count item ≤ most_count MAX_LEVEL }
-    ensures cursor { IfOk result (λ next. next ≡ moved cursor item) }
-    ensures near { IfOk result (λ next. IsNear MAX_LEVEL next) }
-    ensures sound { OnOk result (item_fault MAX_LEVEL rule.now cursor.y cursor.x item ≡ None) }
-    ensures runs { OnOk result
-        (runs.new.items ≡ runs.old.items ++ with_run cursor.y cursor.x item []) }
-    ensures kept { OnErr result (runs.new.items ≡ runs.old.items) }
-    ensures fault { IfErr result (λ kind. (kind ≡ Kind.Memory)
-        ⊎ (item_fault MAX_LEVEL rule.now cursor.y cursor.x item ≡ Some kind)) }
+    requires count { count ≤ most_count MAX_LEVEL }
+    ensures { TakesItem MAX_LEVEL rule.now cursor (Cells count state) runs.old.items runs.new.items
+        result }
 {
-    if let Some(kind) = item_fault(rule, cursor, limit, item) {
+    if let Some(kind) = cells_fault(rule, cursor, limit, count, state) {
         return Err(kind);
     }
+    let item = Item::Cells { count, state };
     push_run(cursor, item, runs)?;
     Ok(moved(cursor, item))
 }
 
-/// Takes an item that stands at the cursor, and answers the place behind it.
+/// Takes an item that stands at the cursor, and answers the place behind it. Cells of state 0 are a kind of their own: they bring no run.
 #[inline(always)]
 fn take_item(
     rule: &Rule,
@@ -165,31 +161,12 @@ fn take_item(
     requires near { IsNear MAX_LEVEL cursor }
     requires limit { limit ≡ row_limit MAX_LEVEL cursor.y }
     requires count { item_count item ≤ most_count MAX_LEVEL }
-    ensures cursor { IfOk result (λ next. next ≡ moved cursor item) }
-    ensures near { IfOk result (λ next. IsNear MAX_LEVEL next) }
-    ensures sound { OnOk result (item_fault MAX_LEVEL rule.now cursor.y cursor.x item ≡ None) }
-    ensures runs { OnOk result
-        (runs.new.items ≡ runs.old.items ++ with_run cursor.y cursor.x item []) }
-    ensures kept { OnErr result (runs.new.items ≡ runs.old.items) }
-    ensures fault { IfErr result (λ kind. (kind ≡ Kind.Memory)
-        ⊎ (item_fault MAX_LEVEL rule.now cursor.y cursor.x item ≡ Some kind)) }
+    ensures { TakesItem MAX_LEVEL rule.now cursor item runs.old.items runs.new.items result }
 {
     match item {
-        Item::Cells { count, state: 0 } => take_one(
-            rule,
-            cursor,
-            limit,
-            Item::Cells { count, state: 0 },
-            runs,
-        ),
-        Item::Cells { count, state } => take_one(
-            rule,
-            cursor,
-            limit,
-            Item::Cells { count, state },
-            runs,
-        ),
-        Item::RowEnds { count } => take_one(rule, cursor, limit, Item::RowEnds { count }, runs),
+        Item::Cells { count, state: 0 } => take_cells(rule, cursor, limit, count, 0, runs),
+        Item::Cells { count, state } => take_cells(rule, cursor, limit, count, state, runs),
+        Item::RowEnds { count } => end_rows(cursor, count),
     }
 }
 

@@ -1,4 +1,4 @@
-use Rattle.std.proofs.Common.{◌≡◌, ◌∙◌, ◌+◌, ◌≤◌, ap, arith, drop, length}
+use Rattle.std.proofs.Common.{◌≡◌, ◌∙◌, ◌+◌, ◌≤◌, ap, arith, rules, drop, length}
 use Rattle.std.proofs.lemmas.Result.{err_from_is_err_and}
 use Rattle.std.proofs.Math.ListN.{drop_of_length-le}
 use Rattle.life_base.proofs.LineEnds.{all_behind}
@@ -9,8 +9,8 @@ use Rattle.life_rle.specs.Reading.{digits}
 use Rattle.life_rle.proofs.DigitInFront.{NumberAt, number_at}
 use Rattle.life_rle.proofs.item.long_count.Goals as goal
 
-pub returns-in_err-check_count-clause-fault : goal.returns-in_err-check_count-clause-fault
-returns-in_err-check_count-clause-fault c =
+pub returns-in_err-check_count : goal.returns-in_err-check_count
+returns-in_err-check_count c =
     let line = c.args.line.now in
     let read = c.leading_number-count in
     let found : NumberAt MAX_LEVEL line c.args.at read.result.0 read.result.1 =
@@ -21,8 +21,8 @@ returns-in_err-check_count-clause-fault c =
     let p = err_from_is_err_and c.from_residual.result c.from_residual.ensures.1 in
     rw (p.1, p.2) answer
 
-pub returns-then-at-digits-clause-fault : goal.returns-then-at-digits-clause-fault
-returns-then-at-digits-clause-fault c =
+pub returns-then-at-digits : goal.returns-then-at-digits
+returns-then-at-digits c =
     let line = c.args.line.now in
     let read = c.leading_number-count in
     let found : NumberAt MAX_LEVEL line c.args.at read.result.0 read.result.1 =
@@ -31,11 +31,13 @@ returns-then-at-digits-clause-fault c =
     found.told ∙ c.in_ok-check_count.ensures.ok (front_digits (drop c.args.at line)) (drop (c.args.at + read.result.1) line) found.digits found.value
     ∙ ap (item_behind read.result.0) (drop_of_length-le line {i = c.args.at + read.result.1} over)
 
-pub returns-clause-count : goal.returns-clause-count
-returns-clause-count c =
+pub returns : goal.returns
+returns c =
     let line = c.args.line.now in
     let read = c.leading_number-count in
     let found : NumberAt MAX_LEVEL line c.args.at read.result.0 read.result.1 =
-    number_at MAX_LEVEL line _ c.args.at _ _ c.requires.inside c.requires.digit (all_behind line c.args.at) read.ensures.number read.ensures.count in
-    digits (omega (arith, found.some))
-    (found.told ∙ c.in_ok-check_count.ensures.ok (front_digits (drop c.args.at line)) (drop (c.args.at + read.result.1) line) found.digits found.value)
+    number_at MAX_LEVEL line _ c.args.at _ _ c.requires.inside c.requires.digit (all_behind line c.args.at) read.ensures.number read.ensures.count in (
+      digits (omega (arith, found.some))
+          (found.told ∙ c.in_ok-check_count.ensures.ok (front_digits (drop c.args.at line)) (drop (c.args.at + read.result.1) line) found.digits found.value),
+      search rules,
+    )

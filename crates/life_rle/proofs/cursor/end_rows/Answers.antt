@@ -1,0 +1,25 @@
+use Rattle.std.proofs.Common.{◌≡◌, None, Some, true, cond, sym, ap, subst, append-nil, arith, pos, ◌+ℤ◌}
+use Rattle.std.specs.Prelude.{int_le}
+use Rattle.std.proofs.lemmas.Int.{ints}
+use Rattle.life_base.specs.declared.cell.TheConstants.{MAX_LEVEL}
+use Rattle.life_base.specs.declared.kind.Kind.TheVariants.{OutOfPlane}
+use Rattle.life_base.specs.declared.rule.Rule.{Rule}
+use Rattle.life_rle.specs.declared.item.Item.TheVariants.{RowEnds}
+use Rattle.life_rle.specs.Cursor.{IsNear}
+use Rattle.life_rle.specs.Pattern.{item_fault}
+use Rattle.life_rle.specs.Plane.{edge}
+use Rattle.life_rle.proofs.RowLimits.{moved-near}
+use Rattle.life_rle.proofs.cursor.end_rows.Goals as goal
+
+pub returns-then-cursor-count-le-EDGE : goal.returns-then-cursor-count-le-EDGE
+returns-then-cursor-count-le-EDGE c =
+    let here = c.args.cursor in
+    let inside : int_le (here.y +ℤ pos c.args.count) (edge MAX_LEVEL) ≡ true = grind (arith, ints, c.if-cursor-count-le-EDGE.true) in
+    let sound : (rule : Rule) → item_fault MAX_LEVEL rule here.y here.x (RowEnds c.args.count) ≡ None =
+    λ rule. ap (λ b. cond b None (Some OutOfPlane)) inside in
+    λ rule runs. record {
+      sound = sound rule;
+      cursor = c.moved.ensures;
+      near = subst (IsNear MAX_LEVEL) (sym c.moved.ensures) (moved-near rule here (RowEnds c.args.count) c.requires.near (sound rule));
+      runs = sym (append-nil runs);
+    }
