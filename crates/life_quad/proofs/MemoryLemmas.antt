@@ -1,7 +1,7 @@
 -- Places of a memory, and the numbers of Ids.
 use Rattle.std.proofs.Common.{◌≡◌, ◌⊎◌, inl, inr, ℕ, List, [], ◌∷◌, length, get_or, map, refl, sym, ◌∙◌, ap, arith}
 use Rattle.life_quad.specs.declared.id.Id.{Id}
-use Rattle.life_quad.specs.declared.memory.Place.{Place}
+use Rattle.life_quad.specs.declared.memory.Slot.{Slot}
 use Rattle.life_quad.specs.Memory.{number, Holds, Recalls}
 
 id_of : ℕ → Id
@@ -25,14 +25,14 @@ nine-numbers (a ∷ b ∷ c ∷ d ∷ e ∷ f ∷ g ∷ h ∷ i ∷ []) _ _ = re
 nine-numbers _ _ l = absurd (omega (arith, l))
 
 -- one more answer
-pub put-one : {old mid new : List Place} {ids : List Id} {answer : Id} {place : Place}
-    → place ≡ record { around = map number ids; answer = number answer }
-    → ((p : Place) → Holds mid p → Holds old p) → ((p : Place) → Holds new p → Holds mid p ⊎ (p ≡ place))
+pub put-one : {old mid new : List Slot} {ids : List Id} {answer : Id} {slot : Slot}
+    → slot ≡ record { around = map number ids; answer = number answer }
+    → ((p : Slot) → Holds mid p → Holds old p) → ((p : Slot) → Holds new p → Holds mid p ⊎ (p ≡ slot))
     → (around : List Id) (next : Id) → Recalls new around next → Recalls old around next ⊎ ((around ≡ ids) × (next ≡ answer))
 unfolding id_of
-put-one {old = old} {mid = mid} {ids = ids} {answer = answer} {place = place} is kept set around next h = by (set _ h)
+put-one {old = old} {mid = mid} {ids = ids} {answer = answer} {slot = slot} is kept set around next h = by (set _ h)
   where
-    by : Recalls mid around next ⊎ (record { around = map number around; answer = number next } ≡ place)
+    by : Recalls mid around next ⊎ (record { around = map number around; answer = number next } ≡ slot)
         → Recalls old around next ⊎ ((around ≡ ids) × (next ≡ answer))
     by (inl held) = inl (kept _ held)
-    by (inr e) = inr (same-ids around ids (ap (λ (q : Place). q.around) (e ∙ is)), ap (λ (q : Place). id_of q.answer) (e ∙ is))
+    by (inr e) = inr (same-ids around ids (ap (λ (q : Slot). q.around) (e ∙ is)), ap (λ (q : Slot). id_of q.answer) (e ∙ is))

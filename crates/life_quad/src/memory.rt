@@ -1,40 +1,40 @@
 //! What was answered for squares amid their neighbours.
 ghost use Rattle.std.specs.Prelude.{◌≡◌, ◌⊎◌, List, map, IfSome};
-ghost use Rattle.life_quad.specs.Words.{IdValue, PlaceValue, Recalls, Holds, number};
+ghost use Rattle.life_quad.specs.Words.{IdValue, SlotValue, Recalls, Holds, number};
 
 use crate::{Id, Seed};
 use std::alloc::Global;
 use std::marker::Model;
 
-/// How many places a memory begins with.
+/// How many slots a memory begins with.
 const FIRST_PLACES: usize = 1 << 10;
 
 /// How many it has at most, a power of four times as many.
 const MOST_PLACES: usize = 1 << 18;
 
-/// From `n` places more than `n^2` divided by this are recalled before there are more: a large memory has to be of more use than a small one.
+/// From `n` slots more than `n^2` divided by this are recalled before there are more: a large memory has to be of more use than a small one.
 const USE: usize = 1 << 15;
 
 /// Nine squares and the answer for them, by the numbers of their Ids. Where the number of the answer is 0 there is none.
 #[derive(Clone, Copy)]
-pub(crate) struct Place {
+pub(crate) struct Slot {
     pub(crate) around: [u32; 9],
     pub(crate) answer: u32,
 }
 
-/// A place without an answer.
-const EMPTY: Place = Place {
+/// A slot without an answer.
+const EMPTY: Slot = Slot {
     around: [0; 9],
     answer: 0,
 };
 
-/// Answers for nine squares side by side, found by the numbers of their Ids in constant time. It forgets: each nine have one place, which the last
-/// that came there hold. It begins with 1,024 places of 40 bytes when the first answer is put, and n places become four times as many when more than
+/// Answers for nine squares side by side, found by the numbers of their Ids in constant time. It forgets: each nine have one slot, which the last
+/// that came there hold. It begins with 1,024 slots of 40 bytes when the first answer is put, and n slots become four times as many when more than
 /// n^2 / 2^15 answers were recalled from them, up to 2^18. Where memory is refused it does without.
 #[derive(Drop)]
 pub struct NeighbourhoodMemory {
     /// None, or a power of two.
-    places: Vec<Place>,
+    slots: Vec<Slot>,
     words: [u64; 9],
     /// How many answers were recalled since it last grew.
     hits: usize,
@@ -42,11 +42,11 @@ pub struct NeighbourhoodMemory {
 
 impl Model for NeighbourhoodMemory {
     ghost use Rattle.std.specs.Prelude.{List};
-    ghost use Rattle.life_quad.specs.declared.memory.Place.{Place};
+    ghost use Rattle.life_quad.specs.declared.memory.Slot.{Slot};
 
-    ghost Value = { List Place };
+    ghost Value = { List Slot };
 
-    ghost view = { λ m. m.places.items };
+    ghost view = { λ m. m.slots.items };
 }
 
 /// The number of an Id, where 32 bits hold it.
@@ -83,24 +83,24 @@ fn hash(words: &[u64; 9], numbers: &[u32; 9]) -> u64 {
     sum >> 32
 }
 
-/// Makes the first places, or four times as many.
-fn make_places(places: &mut Vec<Place>)
-    ensures { (p : PlaceValue) → Holds places.new.items p → Holds places.old.items p }
+/// Makes the first slots, or four times as many.
+fn make_slots(slots: &mut Vec<Slot>)
+    ensures { (p : SlotValue) → Holds slots.new.items p → Holds slots.old.items p }
 {
-    let count = if places.is_empty() {
+    let count = if slots.is_empty() {
         FIRST_PLACES
     } else {
-        places.len().saturating_mul(4)
+        slots.len().saturating_mul(4)
     };
-    let _refused = places.resize(count, EMPTY).is_err();
+    let _refused = slots.resize(count, EMPTY).is_err();
 }
 
-/// Sets a place, if it is there.
-fn set_place(places: &mut Vec<Place>, index: usize, place: Place)
-    ensures { (p : PlaceValue) → Holds places.new.items p → Holds places.old.items p ⊎ (p ≡ place) }
+/// Sets a slot, if it is there.
+fn set_slot(slots: &mut Vec<Slot>, index: usize, slot: Slot)
+    ensures { (p : SlotValue) → Holds slots.new.items p → Holds slots.old.items p ⊎ (p ≡ slot) }
 {
-    if index < places.len() {
-        places[index] = place;
+    if index < slots.len() {
+        slots[index] = slot;
     }
 }
 
@@ -110,25 +110,25 @@ impl NeighbourhoodMemory {
         ensures { (ids : List IdValue) (answer : IdValue) → ¬ Recalls result ids answer }
     {
         NeighbourhoodMemory {
-            places: Vec::new(alloc),
+            slots: Vec::new(alloc),
             words: seed.nine_words(),
             hits: 0,
         }
     }
 
-    /// The index of the place of nine squares, where there are places.
+    /// The index of the slot of nine squares, where there are slots.
     fn index(&self, around: &[u32; 9]) -> usize {
-        hash(&self.words, around) as usize & self.places.len().wrapping_sub(1)
+        hash(&self.words, around) as usize & self.slots.len().wrapping_sub(1)
     }
 
-    /// Makes more places where they are of use.
+    /// Makes more slots where they are of use.
     fn grow(&mut self)
-        ensures { (p : PlaceValue) → Holds self.new p → Holds self.old p }
+        ensures { (p : SlotValue) → Holds self.new p → Holds self.old p }
     {
-        let count = self.places.len();
+        let count = self.slots.len();
         let enough = count.saturating_mul(count) / USE;
         if count == 0 || (count < MOST_PLACES && self.hits > enough) {
-            make_places(&mut self.places);
+            make_slots(&mut self.slots);
             self.hits = 0;
         }
     }
@@ -140,12 +140,12 @@ impl NeighbourhoodMemory {
     {
         let around = numbers_of(ids)?;
         let index = self.index(&around);
-        let place = self.places.get(index)?;
-        if place.answer == 0 || place.around != around {
+        let slot = self.slots.get(index)?;
+        if slot.answer == 0 || slot.around != around {
             return None;
         }
         self.hits = self.hits.saturating_add(1);
-        Some(Id(u64::from(place.answer)))
+        Some(Id(u64::from(slot.answer)))
     }
 
     /// Puts the answer for nine squares.
@@ -161,10 +161,10 @@ impl NeighbourhoodMemory {
         };
         self.grow();
         let index = self.index(&around);
-        let place = Place {
+        let slot = Slot {
             around,
             answer: number,
         };
-        set_place(&mut self.places, index, place);
+        set_slot(&mut self.slots, index, slot);
     }
 }

@@ -6,4 +6,4 @@ use Rattle.life_quad.proofs.memory.NeighbourhoodMemory.put.Goals as goal
 pub returns : goal.returns
 returns c =
     put-one (λ i. record { around = c.in-Some.ensures i; answer = c.in-Some-number_of.ensures i })
-    (λ p h. c.grow.ensures p (subst (λ places. Holds places p) c.self.view_is h)) c.set_place.ensures
+    (λ p h. c.grow.ensures p (subst (λ slots. Holds slots p) c.self.view_is h)) c.set_slot.ensures
