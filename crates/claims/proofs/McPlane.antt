@@ -148,7 +148,8 @@ module _ (rule : LayerRule) (nodes : List Node) (valid : AreSquares 62 rule (map
       → state_in nodes (suc k) (suc i) x y ≡ cell_in lines (suc k) (suc i) x y
   at_node k i (leaf rows) x y h l e g same =
       let two : 2 ≡ k = omega (arith, e) in
-      rw (g, state_in, in_lines nodes i (leaf rows) g, cell_in) (leaf_is rows x y (subst (λ n. x < 2 ^ suc n) (sym two) h) (subst (λ n. y < 2 ^ suc n) (sym two) l))
+      rw (g, state_in, in_lines nodes i (leaf rows) g, cell_in)
+      (leaf_is rows x y (subst (λ n. x < 2 ^ suc n) (sym two) h) (subst (λ n. y < 2 ^ suc n) (sym two) l))
   at_node k i (quad level a b c d) x y h l e g same =
       let levels = map line_level (take i lines) in
       let is = valid i (Quad level a b c d) (in_lines nodes i (quad level a b c d) g) in
