@@ -143,47 +143,28 @@ module _ (rule : LayerRule) (nodes : List Node) (valid : AreSquares 62 rule (map
   abbrev lines : List Line
   lines = map line_in nodes
 
-  abbrev cell_by : ℕ → Option Line → ℕ → ℕ → ℕ
-  cell_by k o x y = elim o [
-    | None ↦ 0
-    | Some line ↦ elim line [
-      | Leaf rows ↦ leaf_cell rows x y
-      | Quad level nw ne sw se ↦ cell_in lines k (quarter_at (2 ^ k) x y nw ne sw se) (x % 2 ^ k) (y % 2 ^ k)
-    ]
-  ]
-
-  abbrev state_by : ℕ → Option Node → ℕ → ℕ → ℕ
-  state_by k o x y = elim o [
-    | None ↦ 0
-    | Some node ↦ elim node [
-      | leaf rows ↦ leaf_state rows x y
-      | quad level nw ne sw se ↦ state_in nodes k (quarter_at (2 ^ k) x y nw ne sw se) (x % 2 ^ k) (y % 2 ^ k)
-    ]
-  ]
-
   at_node : (k i : ℕ) (node : Node) (x y : ℕ) → x < 2 ^ suc k → y < 2 ^ suc k → level_of node ≡ suc k → slice_get nodes i ≡ Some node
       → ((number u v : ℕ) → Names nodes k number → u < 2 ^ k → v < 2 ^ k → state_in nodes k number u v ≡ cell_in lines k number u v)
-      → state_by k (Some node) x y ≡ cell_by k (Some (line_in node)) x y
-  at_node k i (leaf rows) x y h l e g ltb-true =
+      → state_in nodes (suc k) (suc i) x y ≡ cell_in lines (suc k) (suc i) x y
+  at_node k i (leaf rows) x y h l e g same =
       let two : 2 ≡ k = omega (arith, e) in
-      leaf_is rows x y (subst (λ n. x < 2 ^ suc n) (sym two) h) (subst (λ n. y < 2 ^ suc n) (sym two) l)
-  at_node k i (quad level a b c d) x y h l e g ltb-true =
+      rw (g, state_in, in_lines nodes i (leaf rows) g, cell_in)
+      (leaf_is rows x y (subst (λ n. x < 2 ^ suc n) (sym two) h) (subst (λ n. y < 2 ^ suc n) (sym two) l))
+  at_node k i (quad level a b c d) x y h l e g same =
       let levels = map line_level (take i lines) in
       let is = valid i (Quad level a b c d) (in_lines nodes i (quad level a b c d) g) in
       let q = all_four _ _ _ _ (ap (λ n. list_all (is_quarter rule levels n) (a ∷ b ∷ c ∷ d ∷ [])) (sym e) ∙ is.2) in
       let P : ℕ → Type 0 = Names nodes k in
-      ltb-true (quarter_at (2 ^ k) x y a b c d) (x % 2 ^ k) (y % 2 ^ k)
-      (chosen P (nat_lt y (2 ^ k)) (nat_lt x (2 ^ k)) a b c d (quarter_names rule nodes i k a q.0) (quarter_names rule nodes i k b q.1)
-      (quarter_names rule nodes i k c q.2) (quarter_names rule nodes i k d q.3))
-      (mod-lt x (pow_pos k)) (mod-lt y (pow_pos k))
+      let quarter : P (quarter_at (2 ^ k) x y a b c d) =
+      chosen P (nat_lt y (2 ^ k)) (nat_lt x (2 ^ k)) a b c d (quarter_names rule nodes i k a q.0) (quarter_names rule nodes i k b q.1)
+      (quarter_names rule nodes i k c q.2) (quarter_names rule nodes i k d q.3) in
+      rw (g, state_in, in_lines nodes i (quad level a b c d) g, cell_in)
+      (same (quarter_at (2 ^ k) x y a b c d) (x % 2 ^ k) (y % 2 ^ k) quarter (mod-lt x (pow_pos k)) (mod-lt y (pow_pos k)))
 
   same_state : (k number x y : ℕ) → Names nodes k number → x < 2 ^ k → y < 2 ^ k → state_in nodes k number x y ≡ cell_in lines k number x y
   same_state zero number x y n h l = refl
   same_state (suc k) zero x y n h l = refl
-  same_state (suc k) (suc i) x y n h l =
-      ap (λ (o : Option Node). state_by k o x y) n.1
-      ∙ at_node k i n.0 x y h l n.2 n.1 (λ number u v. same_state k number u v)
-      ∙ ap (λ (o : Option Line). cell_by k o x y) (sym (in_lines nodes i n.0 n.1))
+  same_state (suc k) (suc i) x y n h l = at_node k i n.0 x y h l n.2 n.1 (λ number u v. same_state k number u v)
 
 -- ---- the plane
 

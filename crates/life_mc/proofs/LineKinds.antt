@@ -75,7 +75,8 @@ behind top front line =
     cases (is_blank line) None frame refl
     (cases (begins_with line (codes "#FRAME")) (Some kinds.Timeline) late refl
     (cases ((is_command 82 line || is_command 71 line) && some) (Some kinds.LateHeader) rule refl
-    (cases (is_command 82 line) (result_err (rule_of (drop 2 line))) number (in_error (rule_of (drop 2 line)) (rule_errs_by is_short_kind refl refl refl refl (drop 2 line)))
+    (cases (is_command 82 line) (result_err (rule_of (drop 2 line))) number
+    (in_error (rule_of (drop 2 line)) (rule_errs_by is_short_kind refl refl refl refl (drop 2 line)))
     (cases (is_command 71 line) (result_err (u64_of (trim (drop 2 line)))) hash (in_error (u64_of (trim (drop 2 line))) (number_errs (trim (drop 2 line))))
     (cases (begins_with line (codes "#")) None node refl (in_node top (rule_in_force front) (map level_of (squares_of front)) (trim line)))))))
 

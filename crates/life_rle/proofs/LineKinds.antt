@@ -53,7 +53,8 @@ position-tame : (level : ℕ) (long : Bool) (r : Result Position Kind) → IsPla
 position-tame level long (Ok o) h = h
 position-tame level long (Err kind) h = short-line long kind h
 
-header-tame : (level : ℕ) (long : Bool) (r : Result Rule Kind) → errs_by is_short_kind r ≡ true → IsTameOpening level long (and_then r (λ rule. Ok (Header rule)))
+header-tame : (level : ℕ) (long : Bool) (r : Result Rule Kind) → errs_by is_short_kind r ≡ true
+    → IsTameOpening level long (and_then r (λ rule. Ok (Header rule)))
 header-tame level long (Ok rule) h = tt
 header-tame level long (Err kind) h = short-line long kind h
 

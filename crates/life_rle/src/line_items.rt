@@ -135,9 +135,9 @@ fn take_cells(
     state: State,
     runs: &mut Vec<Run>,
 ) -> Result<Cursor, Kind>
+    requires count { count ≤ most_count MAX_LEVEL }
     requires near { IsNear MAX_LEVEL cursor }
     requires limit { limit ≡ row_limit MAX_LEVEL cursor.y }
-    requires count { count ≤ most_count MAX_LEVEL }
     ensures { TakesItem MAX_LEVEL rule.now cursor (Cells count state) runs.old.items runs.new.items
         result }
 {
