@@ -1,7 +1,7 @@
 use Rattle.std.proofs.Common.{◌<◌, get_or, ap, arith}
+use Rattle.std.proofs.lemmas.List.{get_or_default}
 use Rattle.life_strip.specs.declared.spans.Span.{Span}
 use Rattle.life_strip.proofs.WordLemmas.{span-at, gap-at, past-none}
-use Rattle.life_strip.proofs.SpanLemmas.{get_any}
 use Rattle.life_strip.proofs.spans.place_at.Goals as goal
 
 -- of an index that is none of the strip
@@ -23,7 +23,7 @@ returns-then-index-spans c =
       none = λ x from lt. gap-at spans index c.args.column none c.requires.past inside x from (omega (arith, first, from, lt))
           (omega (arith, first, from, lt, some));
       some = λ x from lt. span-at spans index c.args.column none c.requires.past inside x (omega (arith, first, from)) (omega (arith, first, from)) lt;
-      span = λ d lt. ap (λ z. z.end) (get_any spans index none d inside);
+      span = λ d lt. ap (λ z. z.end) (get_or_default spans index none d inside);
       over = λ le. absurd (omega (arith, le, inside));
       order = omega (arith, first, ends, some);
       within = λ side before lt. (omega (arith, first, ends, some), (before index none inside).1);
