@@ -1,6 +1,6 @@
 //! The next states of squares.
 ghost use Rattle.std.specs.Prelude.{◌≡◌, ℕ, ℤ, suc, ◌+◌, ◌^◌, ◌<◌, ◌≤◌, false, IfOk, IfErr, OnErr};
-ghost use Rattle.life_block.specs.Words.{has_digit, depth, tree_cell, SomePart, next_life, HasClearEdge, square_from, next_plane, next_square, Remembers, IsPiece, IsBinary, IsAt, InNine, InSixteen, AreNine, AreSixteen, Keeps, IsWantOf};
+ghost use Rattle.life_block.specs.Words.{has_digit, depth, tree_cell, SomePart, next_life, IsNextLife, HasClearEdge, square_from, next_plane, next_square, Remembers, IsPiece, IsBinary, IsAt, InNine, InSixteen, AreNine, AreSixteen, Keeps, IsWantOf};
 
 use crate::grid::{Corner, Nine, Sixteen, in_middle};
 use crate::leaf::{next_of_leaf, next_of_least};
@@ -25,11 +25,11 @@ fn next_of<S: Squares>(
     requires high { level ≤ MAX_LEVEL }
     requires quiet { has_digit rule.now.sets.births 0 ≡ false }
     ensures at { IfOk result (IsAt (S.knows squares.new) (S.content squares.new) level) }
+    ensures remembers { IfOk result
+        (λ _. Remembers (S.knows squares.new) (S.content squares.new) rule.now memory.new) }
     ensures next { IfOk result (λ r. (cells : ℤ → ℤ → ℕ) (x y : ℤ) → IsBinary cells
         → AreNine (S.content squares.old) cells (2 ^ level) x y nine.now
         → IsPiece (next_life rule.now cells) x y (S.content squares.new r)) }
-    ensures remembers { IfOk result
-        (λ _. Remembers (S.knows squares.new) (S.content squares.new) rule.now memory.new) }
     ensures keeps { Keeps S.Squares squares.old squares.new }
     ensures refusals { IfErr result (IsWantOf S.Squares squares.new) }
     ensures needed { OnErr result ((cells : ℤ → ℤ → ℕ) (x y : ℤ) → IsBinary cells
@@ -66,11 +66,11 @@ fn next_of_middle<S: Squares>(
     requires high { level < MAX_LEVEL }
     requires quiet { has_digit rule.now.sets.births 0 ≡ false }
     ensures at { IfOk result (IsAt (S.knows squares.new) (S.content squares.new) (level + 1)) }
+    ensures remembers { IfOk result
+        (λ _. Remembers (S.knows squares.new) (S.content squares.new) rule.now memory.new) }
     ensures next { IfOk result (λ r. (cells : ℤ → ℤ → ℕ) (x y : ℤ) → IsBinary cells
         → AreSixteen (S.content squares.old) cells (2 ^ level) x y sixteen.now
         → IsPiece (next_life rule.now cells) x y (S.content squares.new r)) }
-    ensures remembers { IfOk result
-        (λ _. Remembers (S.knows squares.new) (S.content squares.new) rule.now memory.new) }
     ensures keeps { Keeps S.Squares squares.old squares.new }
     ensures refusals { IfErr result (IsWantOf S.Squares squares.new) }
     ensures needed { OnErr result ((cells : ℤ → ℤ → ℕ) (x y : ℤ) → IsBinary cells
@@ -107,9 +107,8 @@ pub fn next_life_square<S: SharedSquares>(
     ensures known { IfOk result (S.knows squares.new) }
     ensures level { IfOk result
         (λ r. depth (S.content squares.new r) ≡ depth (S.content squares.old id) + 1) }
-    ensures next { IfOk result (λ r. (x y : ℤ)
-        → tree_cell (S.content squares.new r) x y
-        ≡ next_life rule.now (tree_cell (S.content squares.old id)) x y) }
+    ensures next { IfOk result
+        (λ r. IsNextLife rule.now (S.content squares.old id) (S.content squares.new r)) }
     ensures keeps { Keeps S.Squares squares.old squares.new }
     ensures refusals { IfErr result (IsWantOf S.Squares squares.new) }
     ensures needed { OnErr result
@@ -149,16 +148,15 @@ pub(crate) fn next_life_plane<S: SharedSquares>(
     rule: &LifeRule,
     id: Id,
 ) -> Result<Id, Kind>
-    requires known { S.knows squares.old id }
     requires whole { depth (S.content squares.old id) ≡ MAX_LEVEL }
+    requires known { S.knows squares.old id }
     requires states { (x y : ℤ) → tree_cell (S.content squares.old id) x y < 2 }
     requires clear { HasClearEdge (S.content squares.old id) }
     ensures quiet { has_digit rule.now.sets.births 0 ≡ false }
     ensures known { IfOk result (S.knows squares.new) }
     ensures level { IfOk result (λ r. depth (S.content squares.new r) ≡ MAX_LEVEL) }
-    ensures next { IfOk result (λ r. (x y : ℤ)
-        → tree_cell (S.content squares.new r) x y
-        ≡ next_life rule.now (tree_cell (S.content squares.old id)) x y) }
+    ensures next { IfOk result
+        (λ r. IsNextLife rule.now (S.content squares.old id) (S.content squares.new r)) }
     ensures keeps { Keeps S.Squares squares.old squares.new }
     ensures refusals { IfErr result (IsWantOf S.Squares squares.new) }
     ensures needed { OnErr result

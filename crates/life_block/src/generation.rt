@@ -1,6 +1,6 @@
 //! The next generation of a pattern.
 ghost use Rattle.std.specs.Prelude.{◌≡◌, ◌⊎◌, ℤ, pos, neg_ℤ, ◌<ℤ◌, ◌^◌, ◌<◌, ◌≤◌, true, false, Err, Some, None, IfOk, IfErr};
-ghost use Rattle.life_block.specs.Words.{fault_of, depth, tree_cell, IsWantFault, after, next_life, LifeAnswers, GenerationRefusal, HasClearEdge, SomeOfNext, level_behind, IsMemory, Keeps};
+ghost use Rattle.life_block.specs.Words.{fault_of, depth, tree_cell, IsWantFault, after, IsNextLife, LifeAnswers, GenerationRefusal, HasClearEdge, SomeOfNext, level_behind, IsMemory, Keeps};
 
 use crate::blocks::{next_life_plane, next_life_square};
 use life_base::{Bounds, Fault, Kind, LifeRule, MAX_LEVEL};
@@ -73,9 +73,8 @@ pub fn next_life_generation<S: SharedSquares>(
     ensures low { IfOk result (λ r. depth (S.content squares.new r) ≤ MAX_LEVEL) }
     ensures level { IfOk result
         (λ r. depth (S.content squares.new r) ≡ level_behind (depth (S.content squares.old id))) }
-    ensures next { IfOk result (λ r. (x y : ℤ)
-        → tree_cell (S.content squares.new r) x y
-        ≡ next_life rule.now (tree_cell (S.content squares.old id)) x y) }
+    ensures next { IfOk result
+        (λ r. IsNextLife rule.now (S.content squares.old id) (S.content squares.new r)) }
     ensures accepted { IfOk result
         (λ _. GenerationRefusal (LifeAnswers rule.now) 2 most (S.content squares.old id) None) }
     ensures refusals { IfErr result (λ f. IsWantFault (S.stored squares.new) (S.most squares.new)

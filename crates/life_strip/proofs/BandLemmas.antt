@@ -1,7 +1,7 @@
 -- Facts about four rows of cells.
 use Rattle.life_base.specs.declared.cell.TheConstants.{MAX_LEVEL}
 use Rattle.std.proofs.Common.{◌≡◌, ℕ, suc, ◌+◌, ◌-◌, ◌*◌, ◌/◌, ◌%◌, ◌^◌, ◌≤◌, ◌<◌, ◌⊎◌, inl, inr, true, nat_lt, nat_le, List, [], ◌∷◌, length, get_or, zero, Bool, false, Option, Some, None, refl, sym, ◌∙◌, ap, subst, arith}
-use Rattle.std.specs.Prelude.{MatchOption, if◌then◌else◌}
+use Rattle.std.specs.Prelude.{MatchOption, IfSome, if◌then◌else◌}
 use Rattle.life_quad.specs.declared.id.Id.{Id}
 use Rattle.life_quad.specs.Keeping.{KeepsSquares}
 use Rattle.life_quad.specs.Store.{two, four}
@@ -12,11 +12,10 @@ use Rattle.life_strip.specs.Strip.{id_at, square_or_blank, square_at, quad_at, I
 use Rattle.life_strip.specs.declared.words.Words.{Words}
 use Rattle.life_strip.specs.Band.{four_at, cell_in, IsWord, west_at, east_at, cells_at}
 use Rattle.std.proofs.Math.ListN.{set, length-set}
-use Rattle.std.proofs.lemmas.List.{get_or-set_same, get_or-set_other}
-use Rattle.std.proofs.lemmas.List.Elements.{All-set}
-use Rattle.life_strip.proofs.GivenLemmas.{all_rest}
+use Rattle.std.proofs.lemmas.List.{get_or_default, get_or-set_same, get_or-set_other}
+use Rattle.std.proofs.lemmas.List.Elements.{All-tail, All-set}
 use Rattle.life_strip.proofs.WordLemmas.{west-square, east-square, west-small, east-small}
-use Rattle.life_strip.proofs.SpanLemmas.{Keeps, id_at-in, id_at-after, before_more, get_any, strip-kept, quad-keeps, quad-same, nearer-beyond, nearer-within, found-within, before_earlier, none-left, nearer-both, first-column, quad-blank, blank-before, ends-after}
+use Rattle.life_strip.proofs.SpanLemmas.{Keeps, id_at-in, id_at-after, before_more, strip-kept, quad-keeps, quad-same, nearer-one, found-within, before_earlier, none-left, nearer-both, first-column, quad-blank, blank-before, ends-after}
 
 -- spans rise while the last of them gets a new end
 last-rises : (spans : List Span) (n : ℕ) (s : Span) → Rise spans → n + 1 ≡ length spans → ((d : Span) → (get_or spans n d).start ≡ s.start)
@@ -67,7 +66,7 @@ module _ (column end : ℕ) (square : Id) (later : column < end) where
   last-more (t ∷ rest) (suc n) s len p from e c le lt =
       let first : t.end ≤ column = (p 0 t (omega arith)).1 in
       id_at-after t (set rest n s) c (omega (arith, first, le))
-      ∙ last-more rest n s (omega (arith, len)) (all_rest (λ u. (u.start < u.end) × (u.end ≤ column)) t rest p) from e c le lt
+      ∙ last-more rest n s (omega (arith, len)) (All-tail (λ u. (u.start < u.end) × (u.end ≤ column)) t rest p) from e c le lt
 
   pub extended-last : (spans : List Span) (n : ℕ) (t s : Span) → n + 1 ≡ length spans → AreBefore column spans → get_or spans n t ≡ t → t.end ≡ column
       → s.start ≡ t.start → s.end ≡ end → s.square ≡ t.square → t.square ≡ square → IsExtended spans (set spans n s) column end square
@@ -77,7 +76,7 @@ module _ (column end : ℕ) (square : Id) (later : column < end) where
       record {
         before = All-set (λ u. (u.start < u.end) × (u.end ≤ end)) spans n s (omega (arith, begun, e, later), omega (arith, e))
             (before_more column end spans p (omega (arith, later)));
-        rises = λ r. last-rises spans n s r (omega (arith, len)) (λ d. ap (λ z. z.start) (get_any spans n d t (omega (arith, len)) ∙ at) ∙ sym from);
+        rises = λ r. last-rises spans n s r (omega (arith, len)) (λ d. ap (λ z. z.start) (get_or_default spans n d t (omega (arith, len)) ∙ at) ∙ sym from);
         earlier = λ c lt. last-earlier spans n t s len at to from e q c lt;
         more = λ c le lt. last-more spans n s len p (omega (arith, begun)) e c le lt ∙ ap Some (q ∙ is);
       }
@@ -231,11 +230,13 @@ pub nearest-inside : {a b c d : List Span} {column end : ℕ} {i : Id} {fa fb fc
     → (column < end) × (end ≤ 4 * 2 ^ (MAX_LEVEL - 2))
 nearest-inside {a} {b} {c} {d} {column} {end} {i} {fa} {fb} {fc} {fd} {n} {s} ha hb hc hd wa wb wc wd north south both =
     let side = 4 * 2 ^ (MAX_LEVEL - 2) in
+    let before : Option ℕ → Type 0 = IsBefore column in
+    let inside : Option ℕ → Type 0 = λ o. IfSome o (λ e. e ≤ side) in
     let within = λ (r : List Span) (f : Stretch) (w : AreWithin 0 r) (h : IsFound r column i f). found-within side r w column i f h in (
-      nearer-beyond (Some end) n s column both (nearer-beyond n fa.end fb.end column north ha.beyond hb.beyond)
-          (nearer-beyond s fc.end fd.end column south hc.beyond hd.beyond),
-      nearer-within (Some end) n s side both (nearer-within n fa.end fb.end side north (within a fa wa ha) (within b fb wb hb))
-          (nearer-within s fc.end fd.end side south (within c fc wc hc) (within d fd wd hd)),
+      nearer-one before (Some end) n s both (nearer-one before n fa.end fb.end north ha.beyond hb.beyond)
+          (nearer-one before s fc.end fd.end south hc.beyond hd.beyond),
+      nearer-one inside (Some end) n s both (nearer-one inside n fa.end fb.end north (within a fa wa ha) (within b fb wb hb))
+          (nearer-one inside s fc.end fd.end south (within c fc wc hc) (within d fd wd hd)),
     )
 
 -- the cells of a square of level 2 of four words are those of the square there

@@ -1,4 +1,5 @@
 -- Facts about the cells of four rows, below strips and alone.
+use Rattle.std.proofs.lemmas.List.Elements.{All-tail}
 use Rattle.life_base.specs.declared.cell.TheConstants.{MAX_LEVEL}
 use Rattle.std.proofs.Common.{append-nil, ◌≡◌, ℕ, zero, suc, ◌+◌, ◌-◌, ◌*◌, ◌/◌, ◌%◌, ◌^◌, ◌≤◌, ◌<◌, ◌⊎◌, inl, inr, Bool, true, false, nat_lt, List, [], ◌∷◌, ◌++◌, length, get_or, All, refl, sym, ◌∙◌, ap, subst, arith}
 use Rattle.std.specs.Prelude.{if◌then◌else◌}
@@ -17,7 +18,6 @@ use Rattle.life_strip.specs.Needed.{SomeSquare}
 use Rattle.life_strip.specs.Band.{four_at}
 use Rattle.life_strip.specs.Pile.{IsPile, strips_of}
 use Rattle.life_strip.proofs.SpanLemmas.{Keeps, depth-square_at}
-use Rattle.life_strip.proofs.GivenLemmas.{all_rest}
 use Rattle.life_strip.proofs.PlaneLemmas.{picture-keeps}
 use Rattle.life_strip.proofs.PictureLemmas.{positive_power, height-falling, state_in-keeps}
 use Rattle.life_strip.proofs.NeededLemmas.{quad-cells, full-quad_at, picture-below, height-divided, SomeSquare-at, SomeSquare-within}
@@ -32,7 +32,7 @@ pub height-rows : (knows : Id → Type 0) (content : Id → Tree) (xs : List Str
 height-rows knows content [] h = refl
 height-rows knows content (x ∷ xs) h =
     let one : 2 ^ x.level ≡ 1 = ap (λ n. 2 ^ n) (h 0 x (omega arith)).level in
-    let more = height-rows knows content xs (all_rest (IsRow knows content) x xs h) in
+    let more = height-rows knows content xs (All-tail (IsRow knows content) x xs h) in
     omega (arith, one, more)
 
 -- strips of falling levels are of level 2 or more where four divides their height
@@ -76,7 +76,7 @@ pub picture-over : {knows knows' : Id → Type 0} {old new : Id → Tree} → Ke
 picture-over keeps [] ys zs h e i j = e i j
 picture-over {knows} {knows'} {old} {new} keeps (x ∷ xs) ys zs h e i j =
     let here = state_in-keeps {knows = knows} {knows' = knows'} {old = old} {new = new} keeps x (h 0 x (omega arith)) i j in
-    let more = picture-over {knows = knows} {knows' = knows'} {old = old} {new = new} keeps xs ys zs (all_rest (IsSound knows old) x xs h) e i
+    let more = picture-over {knows = knows} {knows' = knows'} {old = old} {new = new} keeps xs ys zs (All-tail (IsSound knows old) x xs h) e i
     (j - 2 ^ x.level) in
     λ y. if nat_lt j (2 ^ x.level) then here y else more y
 

@@ -7,13 +7,10 @@ use Rattle.std.proofs.Math.Seq.{get_or-append_seam}
 use Rattle.std.proofs.lemmas.Int.{ints}
 use Rattle.std.proofs.lemmas.List.Quantifiers.{all_pairs_push}
 use Rattle.std.proofs.lemmas.Option.{get_or_from_slice_get, slice_get-get_or, slice_get_within}
+use Rattle.std.proofs.lemmas.List.Elements.{All-tail}
 use Rattle.life_quad.specs.Cells.{IsInRun}
 use Rattle.life_base.specs.declared.cell.Run.{Run}
 use Rattle.life_strip.specs.Given.{covers, state_by, IsBehind, IsNext, AreInOrder, RunsAreApart, RunsGrow}
-
--- what holds of all but the first
-pub all_rest : {X : Type 0} (P : X → Type 0) (x : X) (xs : List X) → All P (x ∷ xs) → All P xs
-all_rest P x xs h k d lt = h (suc k) d (omega (arith, lt))
 
 -- the test of a pair and a run
 pub covers-true : (run : Run) (x y : ℤ) → IsInRun run.x run.y run.len x y → covers run x y ≡ true
@@ -97,7 +94,7 @@ state_by-inside : (runs : List Run) (run : Run) (x y : ℤ) → All (λ a. cover
 state_by-inside [] run x y h e = ap (λ b. if b then run.state else 0) e
 state_by-inside (a ∷ runs) run x y h e =
     ap (λ b. if b then a.state else state_by (runs ++ run ∷ []) x y) (h 0 a (omega arith))
-    ∙ state_by-inside runs run x y (all_rest (λ r. covers r x y ≡ false) a runs h) e
+    ∙ state_by-inside runs run x y (All-tail (λ r. covers r x y ≡ false) a runs h) e
 
 -- a pair that another run has is not in this one
 not_covered : (a b : Run) (x y : ℤ) → IsBehind a b.x b.y → IsInRun b.x b.y b.len x y → covers a x y ≡ false

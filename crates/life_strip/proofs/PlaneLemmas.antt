@@ -2,9 +2,10 @@
 use Rattle.std.proofs.Common.{◌≡◌, ℕ, zero, suc, ◌+◌, ◌-◌, ◌*◌, ◌/◌, ◌%◌, ◌^◌, ◌≤◌, ◌<◌, Bool, true, false, ◌&&◌, nat_lt, nat_le, List, [], ◌∷◌, ◌++◌, get_or, All, Some, refl, sym, ◌∙◌, ap, subst, arith}
 use Rattle.std.proofs.Common.{ℤ, pos, ◌+ℤ◌, ◌≤ℤ◌, ◌<ℤ◌, w64, to_z, of_z}
 use Rattle.std.specs.Prelude.{if◌then◌else◌, unsigned_abs}
-use Rattle.std.proofs.lemmas.List.Elements.{All-push, All-append}
+use Rattle.std.proofs.lemmas.List.Elements.{All-tail, All-push, All-append}
 use Rattle.std.proofs.lemmas.Int.{ints}
 use Rattle.std.proofs.lemmas.Nat.{div-mul-add, mod-mul-add}
+use Rattle.std.proofs.lemmas.Option.{same_Some}
 use Rattle.life_base.specs.Tree.{Tree, point, depth, state_at}
 use Rattle.life_quad.specs.declared.id.Id.{Id}
 use Rattle.life_quad.specs.Cells.{IsInRun}
@@ -21,8 +22,7 @@ use Rattle.life_strip.specs.Picture.{state_in, picture, height, IsRow, IsSound}
 use Rattle.life_strip.specs.Pile.{IsPile, strips_of}
 use Rattle.life_strip.specs.Given.{half_plane, IsOnPlane}
 use Rattle.life_strip.specs.Plane.{on_plane, cell_so_far, IsFilled, IsFree, AddsRun}
-use Rattle.life_strip.proofs.SpanLemmas.{Keeps, Some-is}
-use Rattle.life_strip.proofs.GivenLemmas.{all_rest}
+use Rattle.life_strip.proofs.SpanLemmas.{Keeps}
 use Rattle.life_strip.proofs.PictureLemmas.{state_in-keeps, sound-keeps, all-keeps, positive_power}
 
 -- the column and the row of a run, which fit their types, by the numbers that the code adds
@@ -96,7 +96,7 @@ pub row_strip : (knows : Id → Type 0) (content : Id → Tree) (old new : List 
 row_strip knows content old new column len id strip known deep columns c q at = by (nat_le column c && nat_lt c (column + len)) (sym (columns c) ∙ at)
   where
     by : (t : Bool) → (if t then Some id else id_at old c) ≡ Some q → knows q × (depth (content q) ≡ 0)
-    by true e = let same : id ≡ q = Some-is e in (subst knows same known, ap (λ z. depth (content z)) (sym same) ∙ deep)
+    by true e = let same : id ≡ q = same_Some _ _ e in (subst knows same known, ap (λ z. depth (content z)) (sym same) ∙ deep)
     by false e = strip c q e
 
 -- the picture with a span more in the last row
@@ -196,7 +196,7 @@ pub picture-keeps : {knows knows' : Id → Type 0} {old new : Id → Tree} (keep
 picture-keeps keeps [] h i j = refl
 picture-keeps {knows} {knows'} {old} {new} keeps (x ∷ xs) h i j =
     let here = state_in-keeps keeps x (h 0 x (omega arith)) i j in
-    let more = picture-keeps {knows = knows} {knows' = knows'} {old = old} {new = new} keeps xs (all_rest (IsSound knows old) x xs h) i (j - 2 ^ x.level) in
+    let more = picture-keeps {knows = knows} {knows' = knows'} {old = old} {new = new} keeps xs (All-tail (IsSound knows old) x xs h) i (j - 2 ^ x.level) in
     λ y. if nat_lt j (2 ^ x.level) then here y else more y
 
 module _ {knows knows' : Id → Type 0} {old new : Id → Tree} (keeps : Keeps knows knows' old new) where

@@ -1,8 +1,9 @@
 -- Facts about spans and strips.
+use Rattle.std.proofs.lemmas.Option.{same_Some}
 use Rattle.life_base.specs.declared.cell.TheConstants.{MAX_LEVEL}
-use Rattle.std.proofs.Common.{◌≡◌, ℕ, zero, suc, ◌+◌, ◌-◌, ◌*◌, ◌^◌, ◌≤◌, ◌<◌, ◌⊎◌, inl, inr, Bool, true, false, ◌&&◌, nat_lt, nat_le, List, [], ◌∷◌, ◌++◌, length, get_or, Option, Some, None, refl, sym, ◌∙◌, ap, subst, arith}
+use Rattle.std.proofs.Common.{◌≡◌, ℕ, zero, suc, ◌+◌, ◌-◌, ◌*◌, ◌^◌, ◌≤◌, ◌<◌, ◌⊎◌, inl, inr, Bool, true, false, ◌&&◌, nat_lt, nat_le, List, [], ◌∷◌, ◌++◌, Option, Some, None, refl, sym, ◌∙◌, ap, subst, arith}
 use Rattle.std.specs.Prelude.{if◌then◌else◌, MatchOption, IfSome}
-use Rattle.std.proofs.lemmas.List.Elements.{All-push}
+use Rattle.std.proofs.lemmas.List.Elements.{All-tail, All-push}
 use Rattle.std.proofs.lemmas.List.Quantifiers.{all_pairs_push}
 use Rattle.life_quad.specs.declared.id.Id.{Id}
 use Rattle.life_quad.specs.Keeping.{KeepsSquares}
@@ -11,7 +12,6 @@ use Rattle.life_base.proofs.Squares.{depth-blank}
 use Rattle.life_strip.specs.declared.spans.Span.{Span}
 use Rattle.life_strip.specs.declared.spans.Stretch.{Stretch}
 use Rattle.life_strip.specs.Strip.{id_at, square_or_blank, square_at, id_or, quad_at, IsStrip, IsPast, EndsAfter, IsStart, IsFound, IsBefore, IsNearer, AreBefore, HaveColumns, IsExtended, FilledTo}
-use Rattle.life_strip.proofs.GivenLemmas.{all_rest}
 
 -- a store knows what it knew, with the same square
 abbrev pub Keeps : (Id → Type 0) → (Id → Type 0) → (Id → Tree) → (Id → Tree) → Type 0
@@ -19,12 +19,6 @@ Keeps knows knows' old now = (q : Id) → knows q → knows' q × (now q ≡ old
 
 pub double : (k : ℕ) → 2 ^ suc k ≡ 2 * 2 ^ k
 double k = grind arith
-
--- what stands at an index of a list doesn't depend on what stands beyond it
-pub get_any : (spans : List Span) (n : ℕ) (a b : Span) → n < length spans → get_or spans n a ≡ get_or spans n b
-get_any [] n a b lt = absurd (omega (arith, lt))
-get_any (x ∷ xs) zero a b lt = refl
-get_any (x ∷ xs) (suc n) a b lt = get_any xs n a b (omega (arith, lt))
 
 -- the span that has the column is the one found
 pub id_at-in : (s : Span) (rest : List Span) (c : ℕ) → s.start ≤ c → c < s.end → id_at (s ∷ rest) c ≡ Some s.square
@@ -43,7 +37,7 @@ pub none_beyond : (xs : List Span) (n c : ℕ) → AreBefore n xs → n ≤ c �
 none_beyond [] n c h le = refl
 none_beyond (x ∷ xs) n c h le =
     let first : x.end ≤ n = (h 0 x (omega arith)).1 in
-    id_at-after x xs c (omega (arith, first, le)) ∙ none_beyond xs n c (all_rest (λ s. (s.start < s.end) × (s.end ≤ n)) x xs h) le
+    id_at-after x xs c (omega (arith, first, le)) ∙ none_beyond xs n c (All-tail (λ s. (s.start < s.end) × (s.end ≤ n)) x xs h) le
 
 -- a span east of the others
 pub id_at-push : (xs : List Span) (s : Span) → AreBefore s.start xs → (c : ℕ)
@@ -56,7 +50,7 @@ id_at-push xs s before c = by (nat_le s.start c) refl (nat_lt c s.end) refl
     -- a span that begins later is not found
     earlier : (ys : List Span) → AreBefore s.start ys → c < s.start → id_at (ys ++ s ∷ []) c ≡ id_at ys c
     earlier [] h lt = grind arith
-    earlier (y ∷ ys) h lt = cases (earlier ys (all_rest (λ t. (t.start < t.end) × (t.end ≤ s.start)) y ys h) lt) (nat_lt c y.end)
+    earlier (y ∷ ys) h lt = cases (earlier ys (All-tail (λ t. (t.start < t.end) × (t.end ≤ s.start)) y ys h) lt) (nat_lt c y.end)
       where
         cases : id_at (ys ++ s ∷ []) c ≡ id_at ys c → (b : Bool)
             → (if b then (if nat_le y.start c then Some y.square else None) else id_at (ys ++ s ∷ []) c)
@@ -69,7 +63,7 @@ id_at-push xs s before c = by (nat_le s.start c) refl (nat_lt c s.end) refl
     later [] h le = refl
     later (y ∷ ys) h le =
         let end : y.end ≤ s.start = (h 0 y (omega arith)).1 in
-        id_at-after y (ys ++ s ∷ []) c (omega (arith, end, le)) ∙ later ys (all_rest (λ t. (t.start < t.end) × (t.end ≤ s.start)) y ys h) le
+        id_at-after y (ys ++ s ∷ []) c (omega (arith, end, le)) ∙ later ys (All-tail (λ t. (t.start < t.end) × (t.end ≤ s.start)) y ys h) le
 
     by : (a : Bool) → nat_le s.start c ≡ a → (b : Bool) → nat_lt c s.end ≡ b → id_at (xs ++ s ∷ []) c ≡ new (nat_le s.start c) (nat_lt c s.end)
     by true e true f = later xs before (grind arith) ∙ id_at-in s [] c (grind arith) (grind arith) ∙ sym (λ i. new (e i) (f i))
@@ -90,13 +84,6 @@ before_push n m xs s h le some end = All-push (λ t. (t.start < t.end) × (t.end
 -- a later column
 pub past_later : (spans : List Span) (index a b : ℕ) → IsPast spans index a → a ≤ b → IsPast spans index b
 past_later spans index a b h le c from = h c (omega arith)
-
-pub Some-is : {X : Type 0} {a b : X} → Some a ≡ Some b → a ≡ b
-Some-is {X} {a} e = ap (λ o. only a o) e
-  where
-    only : X → Option X → X
-    only z None = z
-    only z (Some x) = x
 
 module _ {knows knows' : Id → Type 0} {old now : Id → Tree} (keeps : Keeps knows knows' old now) (level : ℕ) where
   -- a strip stays one
@@ -203,7 +190,7 @@ filled-more {knows} {knows'} {now} {now'} keeps level want spans after column en
         by : (a : Bool) → nat_lt c column ≡ a → (b : Bool) → nat_lt c end ≡ b → knows' q × (depth (now' q) ≡ level)
         by true e b f = kept c q (sym (more.earlier c (grind arith)) ∙ at)
         by false e true f =
-            let is : id ≡ q = Some-is (sym (more.more c (grind arith) (grind arith)) ∙ at) in
+            let is : id ≡ q = same_Some _ _ (sym (more.more c (grind arith) (grind arith)) ∙ at) in
             (subst knows' is known, ap (λ z. depth (now' z)) (sym is) ∙ deep)
         by false e false f =
             let none : Some q ≡ None = sym at ∙ none_beyond after end c more.before (grind arith) in
@@ -308,25 +295,15 @@ pub nearer-both : (o north south : Option ℕ) (column : ℕ) → MatchOption o 
 nearer-both None north south column h e = (subst (IsBefore column) (sym h.0) tt, subst (IsBefore column) (sym h.1) tt)
 nearer-both (Some x) north south column h e = (h.upper column e, h.lower column e)
 
--- the nearer of two is within what each is within
-pub nearer-within : (o north south : Option ℕ) (most : ℕ) → MatchOption o ((north ≡ None) × (south ≡ None)) (λ e. IsNearer e north south)
-    → IfSome north (λ e. e ≤ most) → IfSome south (λ e. e ≤ most) → IfSome o (λ e. e ≤ most)
-nearer-within None north south most h n s = tt
-nearer-within (Some x) north south most h n s = by h.one
+-- what holds of two ends holds of the nearer one
+pub nearer-one : (P : Option ℕ → Type 0) (o north south : Option ℕ) → MatchOption o ((north ≡ None) × (south ≡ None)) (λ e. IsNearer e north south)
+    → P north → P south → P o
+nearer-one P None north south h n s = subst P h.0 n
+nearer-one P (Some x) north south h n s = by h.one
   where
-    by : (north ≡ Some x) ⊎ (south ≡ Some x) → x ≤ most
-    by (inl e) = subst (λ o. IfSome o (λ z. z ≤ most)) e n
-    by (inr e) = subst (λ o. IfSome o (λ z. z ≤ most)) e s
-
--- what comes before both comes before the nearer one
-pub nearer-beyond : (o north south : Option ℕ) (column : ℕ) → MatchOption o ((north ≡ None) × (south ≡ None)) (λ e. IsNearer e north south)
-    → IsBefore column north → IsBefore column south → IsBefore column o
-nearer-beyond None north south column h n s = tt
-nearer-beyond (Some x) north south column h n s = by h.one
-  where
-    by : (north ≡ Some x) ⊎ (south ≡ Some x) → column < x
-    by (inl e) = subst (IsBefore column) e n
-    by (inr e) = subst (IsBefore column) e s
+    by : (north ≡ Some x) ⊎ (south ≡ Some x) → P (Some x)
+    by (inl e) = subst P e n
+    by (inr e) = subst P e s
 
 -- what is found ends within the plane
 pub found-within : (side : ℕ) (spans : List Span) → AreBefore side spans → (column : ℕ) (b : Id) (f : Stretch) → IsFound spans column b f

@@ -1,5 +1,5 @@
 -- The plane as far as it is filled. Only private contracts speak of it, and `IsFilling` below the public ones.
-use Rattle.std.specs.Prelude.{◌≡◌, ℕ, ◌^◌, ◌<◌, ◌&&◌, if◌then◌else◌, ℤ, pos, neg_ℤ, ◌+ℤ◌, ◌≤ℤ◌, unsigned_abs, int_lt, int_le, [], ◌∷◌, ◌++◌, All}
+use Rattle.std.specs.Prelude.{◌≡◌, ℕ, ◌^◌, ◌<◌, ◌≤◌, ◌&&◌, if◌then◌else◌, ℤ, pos, neg_ℤ, ◌+ℤ◌, ◌≤ℤ◌, unsigned_abs, int_lt, int_le, [], ◌∷◌, ◌++◌, All}
 use Rattle.life_base.specs.declared.cell.TheConstants.{MAX_LEVEL}
 use Rattle.life_base.specs.declared.cell.Run.{Run}
 use Rattle.life_base.specs.Tree.{Tree}
@@ -40,6 +40,13 @@ state_so_far content p = picture content (strips_of p.pile ++ p.row ∷ [])
 -- the same by the coordinates of the plane
 abbrev pub cell_so_far : (Id → Tree) → Plane → ℤ → ℤ → ℕ
 cell_so_far content p = on_plane (state_so_far content p)
+
+-- a row was begun, and no cell changed; where it had been begun before, it has no span that ends further east
+pub record BeginsRow (knows : Id → Type 0) (before after : Id → Tree) (old new : Plane) (row : ℕ) : Type 0 where
+  pub filled : IsFilled knows after new
+  pub rows : new.rows ≡ row
+  pub ends : (n : ℕ) → (old.rows ≡ row → All (λ s. s.end ≤ n) old.row.spans.items) → All (λ s. s.end ≤ n) new.row.spans.items
+  pub picture : (i j : ℕ) → state_so_far after new i j ≡ state_so_far before old i j
 
 -- (left, top) is in no row that is over, and in the row that was begun it is east of what was filled
 pub record IsFree (p : Plane) (left top : ℤ) : Type 0 where

@@ -7,28 +7,29 @@ use crate::spare::Spare;
 use crate::words::{Words, blank_from, blank_to, cells_of, next_square, two_words};
 use life_base::{Kind, MAX_LEVEL};
 use life_quad::{Id, Squares};
+use std::ops::Range;
 
-// A square of level 2 with these cells from a column to before `end`, east of the others. A blank one has no span.
+// A square of level 2 with these cells in some columns east of the others. A blank one has no span.
 #[inline(always)]
 fn push_square<S: Squares>(
     squares: &mut S,
     spans: &mut Vec<Span>,
     cells: u16,
-    column: u64,
-    end: u64,
+    columns: Range<u64>,
 ) -> Result<(), Kind>
-    requires { column < end }
+    requires { columns.start < columns.end }
     ensures filled { OnOk result ((want : ℕ → Tree)
-        → FilledTo (S.knows squares.old) (S.content squares.old) 2 want spans.old.items column
-        → ((c : ℕ) → column ≤ c → c < end → want c ≡ four cells)
-        → FilledTo (S.knows squares.new) (S.content squares.new) 2 want spans.new.items end) }
+        → FilledTo (S.knows squares.old) (S.content squares.old) 2 want spans.old.items
+        columns.start → ((c : ℕ) → columns.start ≤ c → c < columns.end → want c ≡ four cells)
+        → FilledTo (S.knows squares.new) (S.content squares.new) 2 want spans.new.items
+        columns.end) }
     ensures grows { Grows S.Squares squares.old squares.new result (λ P. SomePart P (four cells)) }
 {
     if cells == 0 {
         return Ok(());
     }
     let id = squares.small(cells)?;
-    extend(spans, column, end, id)
+    extend(spans, columns.start, columns.end, id)
 }
 
 // The squares of level 2 of 64 columns, and the block of columns up to which they go on, where the rows go on to a column of cells.
@@ -57,7 +58,7 @@ fn push_block<S: Squares>(
     let next = end / 64;
     if block < next {
         let cells = cells_of(upper, lower, 0);
-        push_square(squares, spans, cells, start, 16 * next)?;
+        push_square(squares, spans, cells, start..16 * next)?;
         return Ok(next);
     }
     let last = blank_from(upper, lower);
@@ -65,7 +66,7 @@ fn push_block<S: Squares>(
     while square < last {
         let cells = cells_of(upper, lower, square);
         let after = next_square(upper, lower, square, cells);
-        push_square(squares, spans, cells, start + square, start + after)?;
+        push_square(squares, spans, cells, start + square..start + after)?;
         square = after;
     }
     Ok(block + 1)

@@ -1,6 +1,6 @@
 //! The plane as far as it is filled, row by row.
-ghost use Rattle.std.specs.Prelude.{◌≡◌, ℕ, ℤ, pos, neg_ℤ, nat_abs, ◌+ℤ◌, ◌<ℤ◌, ◌≤ℤ◌, ◌+◌, ◌^◌, ◌<◌, ◌≤◌, All, IfOk, OnOk};
-ghost use Rattle.life_strip.specs.Words.{depth, tree_cell, Grows, IsOnPlane, half_plane, SomeSquare, IsFilled, IsUnfilled, IsFree, AddsRun, state_so_far, cell_so_far};
+ghost use Rattle.std.specs.Prelude.{◌≡◌, ℕ, ℤ, pos, neg_ℤ, nat_abs, ◌+ℤ◌, ◌<ℤ◌, ◌≤ℤ◌, ◌+◌, ◌^◌, ◌<◌, ◌≤◌, IfOk, OnOk};
+ghost use Rattle.life_strip.specs.Words.{depth, tree_cell, Grows, IsOnPlane, half_plane, SomeSquare, IsFilled, IsUnfilled, IsFree, AddsRun, BeginsRow, state_so_far, cell_so_far};
 
 use crate::pile::Pile;
 use crate::spans::{Strip, extend};
@@ -55,15 +55,8 @@ impl Plane {
         requires filled { IsFilled (S.knows squares.old) (S.content squares.old) self.old }
         requires later { self.old.rows < row }
         requires inside { row < 2 ^ MAX_LEVEL }
-        ensures filled { OnOk result
-            (IsFilled (S.knows squares.new) (S.content squares.new) self.new) }
-        ensures rows { OnOk result (self.new.rows ≡ row) }
-        ensures ends { OnOk result ((n : ℕ)
-            → (self.old.rows ≡ row → All (λ s. s.end ≤ n) self.old.row.spans.items)
-            → All (λ s. s.end ≤ n) self.new.row.spans.items) }
-        ensures picture { OnOk result ((i j : ℕ)
-            → state_so_far (S.content squares.new) self.new i j
-            ≡ state_so_far (S.content squares.old) self.old i j) }
+        ensures begun { OnOk result (BeginsRow (S.knows squares.new)
+            (S.content squares.old) (S.content squares.new) self.old self.new row) }
         ensures grows { Grows S.Squares squares.old squares.new result
             (λ P. SomeSquare P row (state_so_far (S.content squares.old) self.old)) }
     {
@@ -83,15 +76,8 @@ impl Plane {
         requires filled { IsFilled (S.knows squares.old) (S.content squares.old) self.old }
         requires later { self.old.rows ≤ row }
         requires inside { row < 2 ^ MAX_LEVEL }
-        ensures filled { OnOk result
-            (IsFilled (S.knows squares.new) (S.content squares.new) self.new) }
-        ensures rows { OnOk result (self.new.rows ≡ row) }
-        ensures ends { OnOk result ((n : ℕ)
-            → (self.old.rows ≡ row → All (λ s. s.end ≤ n) self.old.row.spans.items)
-            → All (λ s. s.end ≤ n) self.new.row.spans.items) }
-        ensures picture { OnOk result ((i j : ℕ)
-            → state_so_far (S.content squares.new) self.new i j
-            ≡ state_so_far (S.content squares.old) self.old i j) }
+        ensures begun { OnOk result (BeginsRow (S.knows squares.new)
+            (S.content squares.old) (S.content squares.new) self.old self.new row) }
         ensures grows { Grows S.Squares squares.old squares.new result
             (λ P. SomeSquare P row (state_so_far (S.content squares.old) self.old)) }
     {

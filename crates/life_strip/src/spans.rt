@@ -112,20 +112,20 @@ fn place_at(spans: &[Span], index: usize, column: u64, blank: Id) -> Place
     requires column { column < NEVER }
     ensures { IsAt spans.now column result }
 {
-    if index >= spans.len() {
+    if index < spans.len() {
+        let span = spans[index];
         return Place {
             index,
-            start: NEVER,
-            end: NEVER,
-            square: blank,
+            start: span.start.max(column),
+            end: span.end,
+            square: span.square,
         };
     }
-    let span = spans[index];
     Place {
         index,
-        start: span.start.max(column),
-        end: span.end,
-        square: span.square,
+        start: NEVER,
+        end: NEVER,
+        square: blank,
     }
 }
 

@@ -32,6 +32,7 @@ pub fn next_generation<S: Squares, L: Law>(
 ) -> Result<Id, Fault>
     requires known { S.knows squares.old id }
     requires high { 1 ≤ depth (S.content squares.old id) }
+    ensures same { law.new ≡ law.old }
     ensures known { IfOk result (S.knows squares.new) }
     ensures level { IfOk result (λ r. depth (S.content squares.new r) ≡ MAX_LEVEL) }
     ensures next { IfOk result (λ r. (x y : ℤ)
@@ -45,7 +46,6 @@ pub fn next_generation<S: Squares, L: Law>(
     ensures needed { result ≡ Err (fault_of Kind.Full)
         → SomeNext (S.needs_node squares.new) (L.answers law.old)
         (tree_cell (S.content squares.old id)) }
-    ensures same { law.new ≡ law.old }
     ensures keeps { Keeps S.Squares squares.old squares.new }
 {
     let list = cells(alloc, squares, id, most)?;

@@ -2,7 +2,7 @@
 use Rattle.std.proofs.Common.{◌≡◌, ℕ, ◌+◌, List, [], ◌∷◌, map, Bool, true, false, refl, ap, sym, ◌∙◌, subst, ◌&&◌, inl, inr, length, take}
 use Rattle.std.specs.Prelude.{Option, Some, None, if◌then◌else◌, is_some, is_none, All, filter, slice_get, option_map, ◌==◌}
 use Rattle.std.specs.List.{cons_option}
-use Rattle.std.proofs.lemmas.List.Elements.{All-nil, All-cons, All-head, All-tail}
+use Rattle.std.proofs.lemmas.List.Elements.{All-head, All-tail, All-weaker}
 use Rattle.life_base.specs.Text.{numbered_from}
 use Rattle.life_base.specs.declared.kind.Kind.TheVariants.{NoRuleLine, NoTable, BadDescriptor}
 use Rattle.life_table.specs.Valid.{neighbour_count}
@@ -20,8 +20,8 @@ use Rattle.life_table.proofs.ByLines.{reach, missing_is}
 use Rattle.life_table.proofs.Good.{sound_of}
 use Rattle.life_table.proofs.Keeping.{Settled, AreSettled, AreVariables}
 use Rattle.life_table.proofs.Saying.{TextsStand}
-use Rattle.life_table.proofs.Texts.{IsRead}
-use Rattle.life_table.proofs.Values.{mapped, followed, tested}
+use Rattle.life_table.proofs.Texts.{mapped, followed, IsRead}
+use Rattle.life_table.proofs.Values.{tested}
 
 -- nothing is lacking: all parts are there
 record Whole (name : Option (List ℕ)) (on : Option ℕ) (oh : Option Neighborhood) (oy : Option Symmetry) : Type 0 where
@@ -46,16 +46,9 @@ whole_of (Some title) false (Some n) (Some h) (Some y) e = record { title = titl
 
 described_by : (parsed : Parsed) → IsGood parsed → lacking parsed ≡ None → (table : Table) × Describes parsed table
 described_by parsed g e =
-    let w = whole_of parsed.name (is_ahead parsed.section) parsed.n_states parsed.neighborhood parsed.symmetry e in (
-      record {
-        name = w.title;
-        n_states = w.n;
-        neighborhood = w.h;
-        symmetry = w.y;
-        vars = parsed.vars;
-        lines = parsed.lines;
-        sound = sound_of parsed g w.n w.h w.y w.is_n w.is_h w.is_y;
-      },
+    let w = whole_of parsed.name (is_ahead parsed.section) parsed.n_states parsed.neighborhood parsed.symmetry e in
+    let sound = sound_of parsed g w.n w.h w.y w.is_n w.is_h w.is_y in (
+      record { name = w.title; n_states = w.n; neighborhood = w.h; symmetry = w.y; vars = parsed.vars; lines = parsed.lines; sound = sound },
       record { name = w.is_title; n_states = w.is_n; neighborhood = w.is_h; symmetry = w.is_y; vars = refl; lines = refl },
     )
 
@@ -83,73 +76,41 @@ line_number n k vars number text t h = let f = followed (transition_from k numbe
 abbrev numbers_of : List Transition → List ℕ
 numbers_of lines = map (λ (line : Transition). line.line) lines
 
-abbrev directive_numbers : List Numbered → List ℕ
-directive_numbers ts = map (λ (text : Numbered). text.0) (filter (λ (text : Numbered). is_transition_line text.1) ts)
+abbrev transition_lines : List Numbered → List Numbered
+transition_lines ts = filter (λ (text : Numbered). is_transition_line text.1) ts
 
-numbers_step : (n k : ℕ) (vars : List Var) (b : Bool) (x : Numbered) (ts : List Numbered) → is_transition_line x.1 ≡ b → IsRead n k vars x
-    → numbers_of (transitions_written n k vars ts) ≡ directive_numbers ts → numbers_of (transitions_written n k vars (x ∷ ts)) ≡ directive_numbers (x ∷ ts)
-numbers_step n k vars false x ts e r ih =
-    ap (λ (b : Bool). numbers_of (cons_option (if b then transition_of n k vars x.0 x.1 else None) (transitions_written n k vars ts))) e ∙ ih
-    ∙ sym (ap (λ (b : Bool). map (λ (text : Numbered). text.0)
-    (if b then x ∷ filter (λ (text : Numbered). is_transition_line text.1) ts else filter (λ (text : Numbered). is_transition_line text.1) ts)) e)
-numbers_step n k vars true x ts e r ih =
-    let t = r e in
-    ap (λ (b : Bool). numbers_of (cons_option (if b then transition_of n k vars x.0 x.1 else None) (transitions_written n k vars ts))) e
-    ∙ ap (λ (o : Option Transition). numbers_of (cons_option o (transitions_written n k vars ts))) t.1
-    ∙ ap (λ (m : ℕ). m ∷ numbers_of (transitions_written n k vars ts)) (line_number n k vars x.0 x.1 t.0 t.1)
-    ∙ ap (λ (ms : List ℕ). x.0 ∷ ms) ih
-    ∙ sym (ap (λ (b : Bool). map (λ (text : Numbered). text.0)
-    (if b then x ∷ filter (λ (text : Numbered). is_transition_line text.1) ts else filter (λ (text : Numbered). is_transition_line text.1) ts)) e)
+-- what is told of each transition that is read, told of their lines one by one
+module _ {X : Type 0} (n k : ℕ) (vars : List Var) (f : Transition → X) (g : Numbered → X)
+    (same : (x : Numbered) (t : Transition) → transition_of n k vars x.0 x.1 ≡ Some t → f t ≡ g x) where
+  told_step : (b : Bool) (x : Numbered) (ts : List Numbered) → is_transition_line x.1 ≡ b → IsRead n k vars x
+      → map f (transitions_written n k vars ts) ≡ map g (transition_lines ts) → map f (transitions_written n k vars (x ∷ ts)) ≡ map g (transition_lines (x ∷ ts))
+  told_step false x ts e r ih =
+      ap (λ (b : Bool). map f (cons_option (if b then transition_of n k vars x.0 x.1 else None) (transitions_written n k vars ts))) e ∙ ih
+      ∙ sym (ap (λ (b : Bool). map g (if b then x ∷ transition_lines ts else transition_lines ts)) e)
+  told_step true x ts e r ih =
+      let t = r e in
+      ap (λ (b : Bool). map f (cons_option (if b then transition_of n k vars x.0 x.1 else None) (transitions_written n k vars ts))) e
+      ∙ ap (λ (o : Option Transition). map f (cons_option o (transitions_written n k vars ts))) t.1
+      ∙ ap (λ (y : X). y ∷ map f (transitions_written n k vars ts)) (same x t.0 t.1) ∙ ap (λ (ys : List X). g x ∷ ys) ih
+      ∙ sym (ap (λ (b : Bool). map g (if b then x ∷ transition_lines ts else transition_lines ts)) e)
 
-numbers_are : (n k : ℕ) (vars : List Var) (ts : List Numbered) → All (IsRead n k vars) ts → numbers_of (transitions_written n k vars ts) ≡ directive_numbers ts
-numbers_are n k vars [] h = refl
-numbers_are n k vars (x ∷ ts) h =
-    numbers_step n k vars (is_transition_line x.1) x ts refl (All-head (IsRead n k vars) x ts h) (numbers_are n k vars ts (All-tail (IsRead n k vars) x ts h))
-
--- the lines of transitions, read one by one
-lines_step : (n k : ℕ) (vars : List Var) (b : Bool) (x : Numbered) (ts : List Numbered) → is_transition_line x.1 ≡ b → IsRead n k vars x
-    → map Some (transitions_written n k vars ts) ≡ map (λ (text : Numbered). transition_of n k vars text.0 text.1)
-    (filter (λ (text : Numbered). is_transition_line text.1) ts)
-    → map Some (transitions_written n k vars (x ∷ ts)) ≡ map (λ (text : Numbered). transition_of n k vars text.0 text.1)
-    (filter (λ (text : Numbered). is_transition_line text.1) (x ∷ ts))
-lines_step n k vars false x ts e r ih =
-    ap (λ (b : Bool). map Some (cons_option (if b then transition_of n k vars x.0 x.1 else None) (transitions_written n k vars ts))) e ∙ ih
-    ∙ sym (ap (λ (b : Bool). map (λ (text : Numbered). transition_of n k vars text.0 text.1)
-    (if b then x ∷ filter (λ (text : Numbered). is_transition_line text.1) ts else filter (λ (text : Numbered). is_transition_line text.1) ts)) e)
-lines_step n k vars true x ts e r ih =
-    let t = r e in
-    ap (λ (b : Bool). map Some (cons_option (if b then transition_of n k vars x.0 x.1 else None) (transitions_written n k vars ts))) e
-    ∙ ap (λ (o : Option Transition). map Some (cons_option o (transitions_written n k vars ts))) t.1
-    ∙ ap (λ (o : Option Transition). o ∷ map Some (transitions_written n k vars ts)) (sym t.1)
-    ∙ ap (λ (os : List (Option Transition)). transition_of n k vars x.0 x.1 ∷ os) ih
-    ∙ sym (ap (λ (b : Bool). map (λ (text : Numbered). transition_of n k vars text.0 text.1)
-    (if b then x ∷ filter (λ (text : Numbered). is_transition_line text.1) ts else filter (λ (text : Numbered). is_transition_line text.1) ts)) e)
-
-lines_read : (n k : ℕ) (vars : List Var) (ts : List Numbered) → All (IsRead n k vars) ts
-    → map Some (transitions_written n k vars ts) ≡ map (λ (text : Numbered). transition_of n k vars text.0 text.1)
-    (filter (λ (text : Numbered). is_transition_line text.1) ts)
-lines_read n k vars [] h = refl
-lines_read n k vars (x ∷ ts) h =
-    lines_step n k vars (is_transition_line x.1) x ts refl (All-head (IsRead n k vars) x ts h) (lines_read n k vars ts (All-tail (IsRead n k vars) x ts h))
+  told : (ts : List Numbered) → All (IsRead n k vars) ts → map f (transitions_written n k vars ts) ≡ map g (transition_lines ts)
+  told [] h = refl
+  told (x ∷ ts) h =
+      told_step (is_transition_line x.1) x ts refl (All-head (IsRead n k vars) x ts h) (told ts (All-tail (IsRead n k vars) x ts h))
 
 -- where all three settings are known, each descriptor gives one of them
-same_some : {X : Type 0} (o : Option X) (x y : X) → o ≡ Some x → o ≡ Some y → Some x ≡ Some y
-same_some o x y a b = sym a ∙ b
-
 has_setting : (table : Table) (on : Option ℕ) (oh : Option Neighborhood) (oy : Option Symmetry) (text : List ℕ)
     → on ≡ Some table.n_states → oh ≡ Some table.neighborhood → oy ≡ Some table.symmetry → Settled on oh oy text → HasSetting table text
-has_setting table on oh oy text n h y (inl s) = inl (s.0, s.2 ∙ same_some on s.1 table.n_states s.3 n)
-has_setting table on oh oy text n h y (inr (inl s)) = inr (inl (s.0, s.2 ∙ same_some oh s.1 table.neighborhood s.3 h))
-has_setting table on oh oy text n h y (inr (inr s)) = inr (inr (s.0, s.2 ∙ same_some oy s.1 table.symmetry s.3 y))
+has_setting table on oh oy text n h y (inl s) = inl (s.0, s.2 ∙ sym s.3 ∙ n)
+has_setting table on oh oy text n h y (inr (inl s)) = inr (inl (s.0, s.2 ∙ sym s.3 ∙ h))
+has_setting table on oh oy text n h y (inr (inr s)) = inr (inr (s.0, s.2 ∙ sym s.3 ∙ y))
 
 have_settings : (table : Table) (on : Option ℕ) (oh : Option Neighborhood) (oy : Option Symmetry) → on ≡ Some table.n_states → oh ≡ Some table.neighborhood
     → oy ≡ Some table.symmetry
     → (ts : List Numbered) → AreSettled on oh oy ts → All (λ (text : Numbered). is_descriptor text.1 ≡ true → HasSetting table text.1) ts
-have_settings table on oh oy n h y [] a = All-nil (λ (text : Numbered). is_descriptor text.1 ≡ true → HasSetting table text.1)
-have_settings table on oh oy n h y (t ∷ ts) a =
-    All-cons (λ (text : Numbered). is_descriptor text.1 ≡ true → HasSetting table text.1) t ts
-    (λ d. has_setting table on oh oy t.1 n h y (All-head (λ (u : Numbered). is_descriptor u.1 ≡ true → Settled on oh oy u.1) t ts a d))
-    (have_settings table on oh oy n h y ts (All-tail (λ (u : Numbered). is_descriptor u.1 ≡ true → Settled on oh oy u.1) t ts a))
+have_settings table on oh oy n h y = All-weaker (λ (text : Numbered). is_descriptor text.1 ≡ true → Settled on oh oy text.1)
+    (λ text. is_descriptor text.1 ≡ true → HasSetting table text.1) (λ text s d. has_setting table on oh oy text.1 n h y (s d))
 
 module _ (table : Table) (ts : List Numbered) (en : states_of (texts_of ts) ≡ Some table.n_states)
     (eh : neighborhood_of (texts_of ts) ≡ Some table.neighborhood)
@@ -178,10 +139,12 @@ module _ (table : Table) (ts : List Numbered) (en : states_of (texts_of ts) ≡ 
       record {
         settings = have_settings table (states_of (texts_of ts)) (neighborhood_of (texts_of ts)) (symmetry_of (texts_of ts)) en eh ey ts stand.settled;
         variables = subst (λ (vars : List Var). AreVariables table.n_states vars ts) same (stand.variables table.n_states en);
-        transitions = ap (map Some) (sym written) ∙ lines_read table.n_states (neighbour_count table.neighborhood) V ts read
+        transitions = ap (map Some) (sym written) ∙ told table.n_states (neighbour_count table.neighborhood) V Some
+            (λ text. transition_of table.n_states (neighbour_count table.neighborhood) V text.0 text.1) (λ x t e. sym e) ts read
             ∙ ap (λ (vars : List Var). map (λ (text : Numbered). transition_of table.n_states (neighbour_count table.neighborhood) vars text.0 text.1)
-            (filter (λ (text : Numbered). is_transition_line text.1) ts)) same;
-        numbers = ap numbers_of (sym written) ∙ numbers_are table.n_states (neighbour_count table.neighborhood) V ts read;
+            (transition_lines ts)) same;
+        numbers = ap numbers_of (sym written) ∙ told table.n_states (neighbour_count table.neighborhood) V (λ line. line.line) (λ text. text.0)
+            (λ x t e. line_number table.n_states (neighbour_count table.neighborhood) V x.0 x.1 t e) ts read;
       }
 
 pub nothing_dropped : NothingDropped

@@ -211,15 +211,8 @@ run (line ∷ more) lines r runs =
     subst IsTableFile (append_assoc lines (line ∷ []) more) (run more (lines ++ line ∷ []) m.1 rest)
 
 abbrev parsed_parts : Option (List ℕ) → Section → Option ℕ → Option Neighborhood → Option Symmetry → List Var → List Transition → Parsed
-parsed_parts name section on oh oy vars lines = record {
-  name = name;
-  section = section;
-  n_states = on;
-  neighborhood = oh;
-  symmetry = oy;
-  vars = vars;
-  lines = lines;
-}
+parsed_parts name section on oh oy vars lines =
+    record { name = name; section = section; n_states = on; neighborhood = oh; symmetry = oy; vars = vars; lines = lines }
 
 abbrev Ends : Parsed → Type 0
 Ends parsed = (keeps : List Bool) × Runs parsed (kept keeps continuations)

@@ -1,5 +1,5 @@
 -- What a line gives by counts, from the groups of its open inputs and the places that its settled inputs leave free.
-use Rattle.std.proofs.Common.{◌≡◌, ℕ, ◌+◌, ◌-◌, ◌<◌, List, [], ◌∷◌, map, take, drop, length, get_or, cond, nat_eq, Bool, true, false, refl, ap, sym, ◌∙◌, subst, inl, inr, arith, length-drop}
+use Rattle.std.proofs.Common.{◌≡◌, ℕ, ◌+◌, ◌-◌, ◌<◌, List, [], ◌∷◌, map, take, drop, length, get_or, cond, nat_eq, Bool, true, false, refl, ap, sym, ◌∙◌, subst, inl, inr, arith, length-drop, eqb-true}
 use Rattle.std.specs.Prelude.{Option, Some, None, slice_get, IfSome, All}
 use Rattle.std.specs.List.{sum_by}
 use Rattle.std.specs.Option.{option_map_or}
@@ -28,10 +28,7 @@ use Rattle.life_table.specs.declared.groups.Group.{Group}
 -- the centre's variable has the centre's state
 centre_is : (choice : ℕ → ℕ) (i : ℕ) (first : Entry) → is_variable i first ≡ true → state_of choice first ≡ choice i
 centre_is choice i (entries.Fixed s) h = absurd (let z : ⊥ = cc in z)
-centre_is choice i (entries.Var j) h = elim (eqb_tells i j) [
-  | inl same ↦ ap choice (sym same.1)
-  | inr other ↦ absurd (is_clash (nat_eq i j) h other.0)
-]
+centre_is choice i (entries.Var j) h = ap choice (sym (eqb-true i j h))
 
 -- one input is settled or open
 one_entry : (choice : ℕ → ℕ) (first : Entry) (centre t : ℕ) → state_of choice first ≡ centre → (e : Entry) →
@@ -73,10 +70,7 @@ pub record IsCentred (first : Entry) (centre : ℕ) (choice new : ℕ → ℕ) :
 
 centred : (vars : List Var) (first : Entry) (centre : ℕ) → can_be_state vars first centre ≡ true → (choice : ℕ → ℕ) → IsChoice vars choice → (new : ℕ → ℕ)
     × IsChoice vars new × IsCentred first centre choice new
-centred vars (entries.Fixed s) centre h choice is = elim (eqb_tells s centre) [
-  | inl same ↦ (choice, is, record { first_is = same.1; others = λ i open_i. refl })
-  | inr other ↦ absurd (is_clash (nat_eq s centre) h other.0)
-]
+centred vars (entries.Fixed s) centre h choice is = (choice, is, record { first_is = eqb-true s centre h; others = λ i open_i. refl })
 centred vars (entries.Var j) centre h choice is = (
   changed choice j centre,
   changed_choice vars choice j centre is (some_holds (λ var. has_state var centre) (slice_get vars j) h),

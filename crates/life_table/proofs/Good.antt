@@ -6,7 +6,7 @@ use Rattle.std.specs.Option.{option_map_or}
 use Rattle.std.proofs.lemmas.Bool.{ltb-false}
 use Rattle.std.proofs.lemmas.List.{get_or_append_left, get_or_push}
 use Rattle.std.proofs.lemmas.List.Sums.{fails_before_first}
-use Rattle.std.proofs.lemmas.List.Elements.{All-nil, All-head, All-tail}
+use Rattle.std.proofs.lemmas.List.Elements.{All-push, All-nil, All-head, All-tail}
 use Rattle.std.proofs.lemmas.Bool.Decides.{eqb_tells}
 use Rattle.std.proofs.lemmas.Option.{slice_get_within, slice_get-get_or, get_or_from_slice_get}
 use Rattle.std.proofs.lemmas.Slice.Eq.{bytes_eq-Decides}
@@ -28,7 +28,6 @@ use Rattle.life_table.specs.declared.table.Entry.TheVariants as entries
 use Rattle.life_table.specs.declared.table.Transition.{Transition}
 use Rattle.life_table.proofs.Fronts.{any_more}
 use Rattle.life_table.proofs.Cases.{Says, states, neighbors, orders, variable, transition, Case, passed, named, ahead, opens, ends, silent, says, behind}
-use Rattle.life_table.proofs.Texts.{all_more}
 use Rattle.life_table.proofs.Values.{tested, below_limit, is_variable_written, is_transition}
 use Rattle.life_table.proofs.Parts.{is_false}
 
@@ -184,7 +183,7 @@ module _ (parsed : Parsed) (n : ℕ) (h : Neighborhood) (g : IsGood parsed) (en 
     listed = g.listed;
     names = apart_more parsed.vars var g.names none;
     variables = λ m im. (let same : n ≡ m = (let z : Some n ≡ Some m = sym en ∙ im in cc) in
-        subst (λ (m : ℕ). All (IsVariable m) (parsed.vars ++ var ∷ [])) same (all_more (IsVariable n) parsed.vars var (g.variables n en) is));
+        subst (λ (m : ℕ). All (IsVariable m) (parsed.vars ++ var ∷ [])) same (All-push (IsVariable n) parsed.vars var (g.variables n en) is));
     no_variables = λ im. absurd (let z : Some n ≡ None = sym en ∙ im in let w : ⊥ = cc in w);
     no_transitions = g.no_transitions;
     none_without = g.none_without;
@@ -207,7 +206,7 @@ module _ (parsed : Parsed) (n : ℕ) (h : Neighborhood) (g : IsGood parsed) (en 
         let same_h : h ≡ k = (let z : Some h ≡ Some k = sym eh ∙ ik in cc) in
         subst (λ (m : ℕ). All (IsTransition m (neighbour_count k) parsed.vars) (parsed.lines ++ t ∷ [])) same_n
         (subst (λ (k : Neighborhood). All (IsTransition n (neighbour_count k) parsed.vars) (parsed.lines ++ t ∷ [])) same_h
-        (all_more (IsTransition n (neighbour_count h) parsed.vars) parsed.lines t (g.transitions n h en eh) is)));
+        (All-push (IsTransition n (neighbour_count h) parsed.vars) parsed.lines t (g.transitions n h en eh) is)));
     quiet = quiet;
   }
 
@@ -273,40 +272,32 @@ kept_most : (o : Option ℕ) → ((n : ℕ) → o ≡ Some n → (2 ≤ n) × (n
 kept_most None f = tt
 kept_most (Some n) f = (f n refl).1
 
+-- a line fits zeros behind a directive where the reader says so
+abbrev StaysFit : Parsed → Bool → Directive → Type 0
+StaysFit parsed fit directive = fits_after fit parsed.vars directive ≡ list_any (fits_zero (after parsed directive).vars) (after parsed directive).lines
+
 fits_says : (parsed : Parsed) (number : ℕ) (text : List ℕ) (directive : Directive) (fit : Bool) → IsGood parsed
     → fit ≡ list_any (fits_zero parsed.vars) parsed.lines → Says parsed number text directive
-    → fits_after fit parsed.vars directive ≡ list_any (fits_zero (after parsed directive).vars) (after parsed directive).lines
-fits_says parsed number text directive fit g f (states d k none n e is) = subst
-    (λ (t : Directive). fits_after fit parsed.vars t ≡ list_any (fits_zero (after parsed t).vars) (after parsed t).lines) (sym is) f
-fits_says parsed number text directive fit g f (neighbors d s k none h e agrees is) = subst
-    (λ (t : Directive). fits_after fit parsed.vars t ≡ list_any (fits_zero (after parsed t).vars) (after parsed t).lines) (sym is) f
-fits_says parsed number text directive fit g f (orders d s m k none y e agrees is) = subst
-    (λ (t : Directive). fits_after fit parsed.vars t ≡ list_any (fits_zero (after parsed t).vars) (after parsed t).lines) (sym is) f
-fits_says parsed number text directive fit g f (variable d n h y en eh ey v var e is) =
-    subst (λ (t : Directive). fits_after fit parsed.vars t ≡ list_any (fits_zero (after parsed t).vars) (after parsed t).lines) (sym is)
+    → StaysFit parsed fit directive
+fits_says parsed number text directive fit g f (states d k none n e is) = subst (StaysFit parsed fit) (sym is) f
+fits_says parsed number text directive fit g f (neighbors d s k none h e agrees is) = subst (StaysFit parsed fit) (sym is) f
+fits_says parsed number text directive fit g f (orders d s m k none y e agrees is) = subst (StaysFit parsed fit) (sym is) f
+fits_says parsed number text directive fit g f (variable d n h y en eh ey v var e is) = subst (StaysFit parsed fit) (sym is)
     (f ∙ sym (any_same n (neighbour_count h) parsed.vars var parsed.lines (g.transitions n h en eh)))
-fits_says parsed number text directive fit g f (transition d n h y en eh ey v t e bound quiet is) =
-    subst (λ (t : Directive). fits_after fit parsed.vars t ≡ list_any (fits_zero (after parsed t).vars) (after parsed t).lines) (sym is)
+fits_says parsed number text directive fit g f (transition d n h y en eh ey v t e bound quiet is) = subst (StaysFit parsed fit) (sym is)
     (ap (λ (b : Bool). b || fits_zero parsed.vars t) f ∙ sym (any_more (fits_zero parsed.vars) parsed.lines t))
 
 fits_case : (parsed : Parsed) (number : ℕ) (line : List ℕ) (directive : Directive) (fit : Bool) → IsGood parsed
     → fit ≡ list_any (fits_zero parsed.vars) parsed.lines → Case parsed number line directive
-    → fits_after fit parsed.vars directive ≡ list_any (fits_zero (after parsed directive).vars) (after parsed directive).lines
-fits_case parsed number line directive fit g f (passed s n p is) = subst
-    (λ (t : Directive). fits_after fit parsed.vars t ≡ list_any (fits_zero (after parsed t).vars) (after parsed t).lines) (sym is) f
-fits_case parsed number line directive fit g f (named s n p name e is) = subst
-    (λ (t : Directive). fits_after fit parsed.vars t ≡ list_any (fits_zero (after parsed t).vars) (after parsed t).lines) (sym is) f
-fits_case parsed number line directive fit g f (ahead s name n p is) = subst
-    (λ (t : Directive). fits_after fit parsed.vars t ≡ list_any (fits_zero (after parsed t).vars) (after parsed t).lines) (sym is) f
-fits_case parsed number line directive fit g f (opens s name n p is) = subst
-    (λ (t : Directive). fits_after fit parsed.vars t ≡ list_any (fits_zero (after parsed t).vars) (after parsed t).lines) (sym is) f
-fits_case parsed number line directive fit g f (ends s l d is) = subst
-    (λ (t : Directive). fits_after fit parsed.vars t ≡ list_any (fits_zero (after parsed t).vars) (after parsed t).lines) (sym is) f
-fits_case parsed number line directive fit g f (silent s l e is) = subst
-    (λ (t : Directive). fits_after fit parsed.vars t ≡ list_any (fits_zero (after parsed t).vars) (after parsed t).lines) (sym is) f
+    → StaysFit parsed fit directive
+fits_case parsed number line directive fit g f (passed s n p is) = subst (StaysFit parsed fit) (sym is) f
+fits_case parsed number line directive fit g f (named s n p name e is) = subst (StaysFit parsed fit) (sym is) f
+fits_case parsed number line directive fit g f (ahead s name n p is) = subst (StaysFit parsed fit) (sym is) f
+fits_case parsed number line directive fit g f (opens s name n p is) = subst (StaysFit parsed fit) (sym is) f
+fits_case parsed number line directive fit g f (ends s l d is) = subst (StaysFit parsed fit) (sym is) f
+fits_case parsed number line directive fit g f (silent s l e is) = subst (StaysFit parsed fit) (sym is) f
 fits_case parsed number line directive fit g f (says s l e more) = fits_says parsed number (content line) directive fit g f more
-fits_case parsed number line directive fit g f (behind s is) = subst
-    (λ (t : Directive). fits_after fit parsed.vars t ≡ list_any (fits_zero (after parsed t).vars) (after parsed t).lines) (sym is) f
+fits_case parsed number line directive fit g f (behind s is) = subst (StaysFit parsed fit) (sym is) f
 
 pub kept_start : IsKept nothing_parsed false
 kept_start = record { most = tt; fits = refl; quiet = refl }

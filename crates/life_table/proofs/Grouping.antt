@@ -1,5 +1,5 @@
 -- The groups of a line's open inputs.
-use Rattle.std.proofs.Common.{◌≡◌, ◌≢◌, ℕ, zero, suc, ◌+◌, ◌<◌, ◌≤◌, List, [], ◌∷◌, ◌++◌, length, take, set, get_or, cond, nat_eq, Bool, true, false, refl, ap, sym, ◌∙◌, subst, ◌⊎◌, inl, inr, arith, ◌||◌, eq-eqb}
+use Rattle.std.proofs.Common.{◌≡◌, ◌≢◌, ℕ, zero, suc, ◌+◌, ◌<◌, ◌≤◌, List, [], ◌∷◌, ◌++◌, length, take, set, get_or, cond, nat_eq, Bool, true, false, refl, ap, sym, ◌∙◌, subst, ◌⊎◌, inl, inr, arith, ◌||◌, eq-eqb, ne_eqb}
 use Rattle.std.specs.Prelude.{All, IsTrue}
 use Rattle.std.specs.List.{list_any}
 use Rattle.std.specs.List.Sorted.{IsPermutation}
@@ -10,7 +10,7 @@ use Rattle.std.proofs.lemmas.List.Folds.{list_any-append}
 use Rattle.std.proofs.Math.Seq.{take-set-lt}
 use Rattle.std.proofs.lemmas.List.{get_or-take, length-take-le, take_more_set}
 use Rattle.std.proofs.lemmas.List.Sums.{sum_by-cons, sum_by_push}
-use Rattle.std.proofs.lemmas.Bool.{or_parts, or_from, or_cases, or_left, or_right}
+use Rattle.std.proofs.lemmas.Bool.{eqb-false, or_parts, or_from, or_cases, or_left, or_right}
 use Rattle.life_table.specs.Valid.{IsEntry, is_variable}
 use Rattle.life_table.specs.Taking.{of_state, open_state, wanted, add_to, has_group, IsDistinct, first_variable, IsGrouped, AreGroups}
 use Rattle.life_table.proofs.Free.{of_sum, zero_of}
@@ -42,12 +42,6 @@ wanted_add choice t number (g ∷ groups) = elim (eqb_tells number g.variable) [
       omega (arith, e, f, old, r)
 ]
 
-not_same : (a b : ℕ) → a ≢ b → nat_eq a b ≡ false
-not_same a b h = elim (eqb_tells a b) [ inl same ↦ absurd (h same.1) | inr other ↦ other.0 ]
-
-pub are_other : (a b : ℕ) → nat_eq a b ≡ false → a ≢ b
-are_other a b h e = let t : nat_eq a b ≡ true = eq-eqb a b e in absurd (let z : true ≡ false = sym t ∙ h in let y : ⊥ = cc in y)
-
 has_add : (v number : ℕ) (groups : List Group) → has_group v groups ≡ false → nat_eq v number ≡ false → has_group v (add_to number groups) ≡ false
 has_add v number [] h other = or_from (nat_eq v number) false other refl
 has_add v number (g ∷ groups) h other =
@@ -64,7 +58,7 @@ distinct_add number (g ∷ groups) h = elim (eqb_tells number g.variable) [
   | inl same ↦ subst (λ b. IsDistinct (cond b (record { variable = g.variable; times = g.times + 1 } ∷ groups) (g ∷ add_to number groups))) (sym same.0)
       (h.0, h.1)
   | inr diff ↦ subst (λ b. IsDistinct (cond b (record { variable = g.variable; times = g.times + 1 } ∷ groups) (g ∷ add_to number groups))) (sym diff.0)
-      (has_add g.variable number groups h.0 (not_same g.variable number (λ e. diff.1 (sym e))), distinct_add number groups h.1)
+      (has_add g.variable number groups h.0 (ne_eqb g.variable number (λ e. diff.1 (sym e))), distinct_add number groups h.1)
 ]
 
 -- the groups are of other variables than one that none of them has
@@ -96,12 +90,12 @@ all_add P Q number (g ∷ groups) d h keep more new =
 first_add : (number : ℕ) (groups : List Group) → 0 < length groups → (0 < length (add_to number groups))
     × (first_variable (add_to number groups) ≡ first_variable groups)
 first_add number [] h = absurd (omega (arith, h))
-first_add number (g ∷ groups) h = elim (eqb_tells number g.variable) [
-  | inl same ↦ subst (λ b. let new : List Group = cond b (record { variable = g.variable; times = g.times + 1 } ∷ groups) (g ∷ add_to number groups) in
-      (0 < length new) × (first_variable new ≡ g.variable)) (sym same.0) (omega arith, refl)
-  | inr diff ↦ subst (λ b. let new : List Group = cond b (record { variable = g.variable; times = g.times + 1 } ∷ groups) (g ∷ add_to number groups) in
-      (0 < length new) × (first_variable new ≡ g.variable)) (sym diff.0) (omega arith, refl)
-]
+first_add number (g ∷ groups) h = by (nat_eq number g.variable)
+  where
+    by : (b : Bool) → let new : List Group = cond b (record { variable = g.variable; times = g.times + 1 } ∷ groups) (g ∷ add_to number groups) in
+        (0 < length new) × (first_variable new ≡ g.variable)
+    by true = (omega arith, refl)
+    by false = (omega arith, refl)
 
 push_any : (v : ℕ) (es : List Entry) (e : Entry) → list_any (is_variable v) (es ++ e ∷ []) ≡ (list_any (is_variable v) es || (is_variable v e || false))
 push_any v es e = list_any-append (is_variable v) es (e ∷ [])
@@ -136,7 +130,7 @@ module _ (first output : Entry) (es : List Entry) (groups : List Group) (h : IsG
         (λ g p o s. elim (or_cases (list_any (is_variable g.variable) es) (nat_eq g.variable i || false) (sym (push_any g.variable es (entries.Var i)) ∙ s)) [
           | inl old ↦ p old
           | inr new ↦ absurd (is_clash (nat_eq g.variable i || false) new
-              (or_from (nat_eq g.variable i) false (not_same g.variable i (λ e. are_other i g.variable o (sym e))) refl))
+              (or_from (nat_eq g.variable i) false (ne_eqb g.variable i (λ e. eqb-false i g.variable o (sym e))) refl))
         ])
         (λ g p o s. omega arith)
         (λ s. omega arith);
@@ -253,7 +247,7 @@ add_set number (g ∷ groups) zero below others here =
     sym (ap (λ b. cond b (record { variable = g.variable; times = g.times + 1 } ∷ groups) (g ∷ add_to number groups)) (eq-eqb number g.variable (sym here)))
 add_set number (g ∷ groups) (suc k) below others here =
     let r = add_set number groups k (omega (arith, below)) (λ j small. others (suc j) (omega (arith, small))) here in
-    let other = not_same number g.variable (λ e. others 0 (omega arith) (sym e)) in
+    let other = ne_eqb number g.variable (λ e. others 0 (omega arith) (sym e)) in
     ap (λ zs. g ∷ zs) r ∙ sym (ap (λ b. cond b (record { variable = g.variable; times = g.times + 1 } ∷ groups) (g ∷ add_to number groups)) other)
 
 add_push : (number : ℕ) (groups : List Group) → ((j : ℕ) → j < length groups → (get_or groups j no_group).variable ≢ number)
@@ -261,7 +255,7 @@ add_push : (number : ℕ) (groups : List Group) → ((j : ℕ) → j < length gr
 add_push number [] others = refl
 add_push number (g ∷ groups) others =
     let r = add_push number groups (λ j small. others (suc j) (omega (arith, small))) in
-    let other = not_same number g.variable (λ e. others 0 (omega arith) (sym e)) in
+    let other = ne_eqb number g.variable (λ e. others 0 (omega arith) (sym e)) in
     ap (λ zs. g ∷ zs) r ∙ sym (ap (λ b. cond b (record { variable = g.variable; times = g.times + 1 } ∷ groups) (g ∷ add_to number groups)) other)
 
 -- the groups are the first ones of an array

@@ -2,7 +2,7 @@
 use Rattle.std.proofs.Common.{◌≡◌, ℕ, List, [], ◌∷◌, ◌++◌, map, Bool, true, false, not, refl, ap, sym, ◌∙◌, ◌⊎◌, inl, inr}
 use Rattle.std.specs.Prelude.{Option, Some, None, if◌then◌else◌, option_map, option_and_then, All, slice_get, filter}
 use Rattle.std.proofs.lemmas.List.{map-append, append-nil}
-use Rattle.std.proofs.lemmas.List.Elements.{All-nil, All-cons, All-head, All-tail, filter-append}
+use Rattle.std.proofs.lemmas.List.Elements.{All-push, All-weaker, All-head, All-tail, filter-append}
 use Rattle.std.proofs.lemmas.Option.{slice_get_within}
 use Rattle.std.proofs.lemmas.Bool.{and_right}
 use Rattle.life_table.specs.Reading.{Numbered, all_some, is_descriptor, key_of, setting_of, is_states_key, is_neighborhood_key, is_symmetry_key, states_named, neighborhood_named, symmetry_named, is_variable_line, entry_of, states_of_entry, states_listed, between_commas, within_braces, name_text, list_text, variable_states, variable_of, union_of}
@@ -12,8 +12,8 @@ use Rattle.life_table.specs.declared.table.Symmetry.{Symmetry}
 use Rattle.life_table.specs.declared.table.Var.{Var}
 use Rattle.life_table.specs.declared.table.Entry.{Entry}
 use Rattle.life_table.specs.declared.table.Entry.TheVariants as entries
-use Rattle.life_table.proofs.Texts.{split_some, entry_kept, AreDescriptors, all_more}
-use Rattle.life_table.proofs.Values.{mapped, followed, states_case}
+use Rattle.life_table.proofs.Texts.{mapped, followed, some_kept, entry_kept, AreDescriptors}
+use Rattle.life_table.proofs.Values.{set_named, states_case}
 use Rattle.life_table.proofs.Good.{get_more}
 
 -- 1. Descriptors
@@ -45,24 +45,14 @@ module _ (on on' : Option ℕ) (oh oh' : Option Neighborhood) (oy oy' : Option S
   settled_kept text (inr (inr s)) = inr (inr (s.0, s.1, s.2, y s.1 s.3))
 
   all_kept : (ts : List Numbered) → AreSettled on oh oy ts → AreSettled on' oh' oy' ts
-  all_kept [] a = All-nil (λ (t : Numbered). is_descriptor t.1 ≡ true → Settled on' oh' oy' t.1)
-  all_kept (t ∷ ts) a =
-      All-cons (λ (u : Numbered). is_descriptor u.1 ≡ true → Settled on' oh' oy' u.1) t ts
-      (λ d. settled_kept t.1 (All-head (λ (u : Numbered). is_descriptor u.1 ≡ true → Settled on oh oy u.1) t ts a d))
-      (all_kept ts (All-tail (λ (u : Numbered). is_descriptor u.1 ≡ true → Settled on oh oy u.1) t ts a))
+  all_kept = All-weaker (λ (t : Numbered). is_descriptor t.1 ≡ true → Settled on oh oy t.1) (λ t. is_descriptor t.1 ≡ true → Settled on' oh' oy' t.1)
+      (λ t s d. settled_kept t.1 (s d))
 
   pub settled_more : (ts : List Numbered) (x : Numbered) → AreSettled on oh oy ts → (is_descriptor x.1 ≡ true → Settled on' oh' oy' x.1)
       → AreSettled on' oh' oy' (ts ++ x ∷ [])
-  settled_more ts x a s = all_more (λ (t : Numbered). is_descriptor t.1 ≡ true → Settled on' oh' oy' t.1) ts x (all_kept ts a) s
+  settled_more ts x a s = All-push (λ (t : Numbered). is_descriptor t.1 ≡ true → Settled on' oh' oy' t.1) ts x (all_kept ts a) s
 
 -- 2. One more variable changes no list of states that was read
-
-module _ {W X : Type 0} (f g : W → Option X) (more : (w : W) (x : X) → f w ≡ Some x → g w ≡ Some x) where
-  some_kept : (ws : List W) (xs : List X) → all_some (map f ws) ≡ Some xs → all_some (map g ws) ≡ Some xs
-  some_kept [] xs h = h
-  some_kept (w ∷ ws) xs h =
-      let s = split_some (f w) (map f ws) xs h in
-      ap (λ (o : Option X). all_some (o ∷ map g ws)) (more w s.0 s.2) ∙ ap (option_map (λ (ys : List X). s.0 ∷ ys)) (some_kept ws s.1 s.3) ∙ ap Some (sym s.4)
 
 module _ (n : ℕ) (vars : List Var) (v : Var) where
   entry_states : (e : Entry) (states : List ℕ) → states_of_entry vars e ≡ Some states → states_of_entry (vars ++ v ∷ []) e ≡ Some states
@@ -71,8 +61,7 @@ module _ (n : ℕ) (vars : List Var) (v : Var) where
       let m = mapped (λ (var : Var). var.states) (slice_get vars i) states h in
       ap (option_map (λ (var : Var). var.states)) (get_more vars v i (slice_get_within vars i m.0 m.1) ∙ m.1) ∙ ap Some (sym m.2)
 
-  word_states : (word states : List ℕ) → option_and_then (states_of_entry vars) (entry_of n vars word) ≡ Some states
-      → option_and_then (states_of_entry (vars ++ v ∷ [])) (entry_of n (vars ++ v ∷ []) word) ≡ Some states
+  word_states : (word states : List ℕ) → set_named n vars word ≡ Some states → set_named n (vars ++ v ∷ []) word ≡ Some states
   word_states word states h =
       let f = followed (states_of_entry vars) (entry_of n vars word) states h in
       ap (option_and_then (states_of_entry (vars ++ v ∷ []))) (entry_kept n vars v word f.0 f.1) ∙ entry_states f.0 states f.2
@@ -80,11 +69,8 @@ module _ (n : ℕ) (vars : List Var) (v : Var) where
   pub list_kept : (text states : List ℕ) → states_listed n vars text ≡ Some states → states_listed n (vars ++ v ∷ []) text ≡ Some states
   unfolding states_listed
   list_kept text states h =
-      let m = mapped union_of (all_some (map (λ (word : List ℕ). option_and_then (states_of_entry vars) (entry_of n vars word)) (between_commas text))) states
-      h in
-      ap (option_map union_of) (some_kept (λ (word : List ℕ). option_and_then (states_of_entry vars) (entry_of n vars word))
-      (λ (word : List ℕ). option_and_then (states_of_entry (vars ++ v ∷ [])) (entry_of n (vars ++ v ∷ []) word)) word_states (between_commas text) m.0 m.1)
-      ∙ ap Some (sym m.2)
+      let m = mapped union_of (all_some (map (set_named n vars) (between_commas text))) states h in
+      ap (option_map union_of) (some_kept (set_named n vars) (set_named n (vars ++ v ∷ [])) word_states (between_commas text) m.0 m.1) ∙ ap Some (sym m.2)
 
 -- 3. Variables
 

@@ -17,8 +17,8 @@ use Rattle.life_table.specs.declared.table.Symmetry.TheVariants.{Identity, Rotat
 use Rattle.life_table.specs.declared.table.Transition.{Transition}
 use Rattle.life_table.specs.declared.table.Var.{Var}
 use Rattle.life_table.proofs.Cases.{then_part, else_part, not_some}
-use Rattle.life_table.proofs.Texts.{split_some}
-use Rattle.life_table.proofs.Values.{mapped, followed, tested, tested_not, below_limit}
+use Rattle.life_table.proofs.Texts.{mapped, followed, split_some}
+use Rattle.life_table.proofs.Values.{tested, tested_not, below_limit}
 
 -- ---- tests that were taken
 

@@ -1,11 +1,13 @@
 -- A cell of state 0 among neighbours of state 0 keeps it.
-use Rattle.std.proofs.Common.{◌≡◌, ℕ, zero, suc, ◌+◌, ◌∷◌, ◌++◌, List, [], map, length, Bool, true, false, refl, ap, sym, ◌∙◌, subst, ◌⊎◌, inl, inr, arith, ◌||◌, get_or}
-use Rattle.std.specs.Prelude.{Contains, All, IsTrue, IfSome, slice_get, replicate, Option, Some, ◌==◌, if◌then◌else◌, ◌&&◌}
-use Rattle.std.specs.List.{list_any, list_all}
+use Rattle.std.proofs.Common.{◌≡◌, ℕ, zero, suc, ◌+◌, ◌∷◌, ◌++◌, List, [], map, length, Bool, true, false, refl, ap, sym, ◌∙◌, subst, ◌⊎◌, inl, inr, arith, ◌||◌, get_or, eqb-true, length-append}
+use Rattle.std.specs.Prelude.{Contains, All, IsTrue, IfSome, slice_get, replicate, Option, Some, ◌==◌, if◌then◌else◌}
+use Rattle.std.specs.List.{list_any}
 use Rattle.std.specs.Option.{option_map_or}
+use Rattle.std.proofs.Math.Seq.{take-append_seam, get_or-append_seam}
 use Rattle.std.proofs.lemmas.Bool.Decides.{eqb_tells}
 use Rattle.std.proofs.lemmas.Option.{slice_get_cases}
-use Rattle.std.proofs.lemmas.List.Elements.{All-nil, All-cons, All-head, All-tail}
+use Rattle.std.proofs.lemmas.List.Elements.{All-nil, All-cons, All-head, All-tail, All-take}
+use Rattle.std.proofs.lemmas.List.Sums.{AllPass-from_list_all, list_all-from_AllPass}
 use Rattle.std.proofs.lemmas.Bool.{cases_Bool}
 use Rattle.life_table.specs.Orders.{images, orders, insertions}
 use Rattle.life_table.specs.Meaning.{IsChoice, HasState, has_state, state_of, Gives, GivesNothing}
@@ -143,10 +145,7 @@ zero_value n vars choice is (entries.Var j) entry h = elim (slice_get_cases vars
 ]
 
 allowed_value : (vars : List Var) (choice : ℕ → ℕ) → TakesZero vars choice → (e : Entry) → allows_zero vars e ≡ true → state_of choice e ≡ 0
-allowed_value vars choice quiet (entries.Fixed s) h = elim (eqb_tells s 0) [
-  | inl same ↦ same.1
-  | inr other ↦ absurd (let e : true ≡ false = sym h ∙ other.0 in let z : ⊥ = cc in z)
-]
+allowed_value vars choice quiet (entries.Fixed s) h = eqb-true s 0 h
 allowed_value vars choice quiet (entries.Var i) h = elim (slice_get_cases vars i).1 [
   | inl some ↦ quiet i some.0 some.2 (subst (λ (o : Option Var). option_map_or (λ (w : Var). has_state w 0) o false ≡ true) some.2 h)
   | inr none ↦ absurd (let e : false ≡ true = subst (λ (o : Option Var). option_map_or (λ (w : Var). has_state w 0) o false ≡ true) none.1 h in
@@ -190,29 +189,13 @@ first_fit vars (x ∷ xs) q = elim (cases_Bool (fits_zero vars x)) [
   ]
 ]
 
--- a test that each element passes, or one doesn't
-all_pass : (p : Entry → Bool) (es : List Entry) → list_all p es ≡ true → All (λ e. p e ≡ true) es
-all_pass p [] h = All-nil (λ e. p e ≡ true)
-all_pass p (e ∷ es) h = elim (cases_Bool (p e)) [
-  | inl does ↦ All-cons (λ e. p e ≡ true) e es does (all_pass p es (subst (λ (b : Bool). (b && list_all p es) ≡ true) does h))
-  | inr not_so ↦ absurd (let e : false ≡ true = subst (λ (b : Bool). (b && list_all p es) ≡ true) not_so h in let z : ⊥ = cc in z)
-]
-
-all_passed : (p : Entry → Bool) (es : List Entry) → All (λ e. p e ≡ true) es → list_all p es ≡ true
-all_passed p [] h = refl
-all_passed p (e ∷ es) h =
-    let a : p e ≡ true = All-head (λ e. p e ≡ true) e es h in
-    let b : list_all p es ≡ true = all_passed p es (All-tail (λ e. p e ≡ true) e es h) in
-    subst (λ (b : Bool). (b && list_all p es) ≡ true) (sym a) b
-
+-- the elements before one, and that one
 before_split : {X : Type 0} (P : X → Type 0) (before : List X) (x : X) (after : List X) → All P (before ++ x ∷ after) → All P before
-before_split P [] x after h = All-nil P
-before_split P (y ∷ before) x after h = All-cons P y before (All-head P y (before ++ x ∷ after) h)
-    (before_split P before x after (All-tail P y (before ++ x ∷ after) h))
+before_split P before x after h = subst (All P) (take-append_seam before (x ∷ after)) (All-take P (length before) (before ++ x ∷ after) h)
 
 at_split : {X : Type 0} (P : X → Type 0) (before : List X) (x : X) (after : List X) → All P (before ++ x ∷ after) → P x
-at_split P [] x after h = All-head P x after h
-at_split P (y ∷ before) x after h = at_split P before x after (All-tail P y (before ++ x ∷ after) h)
+at_split P before x after h =
+    subst P (get_or-append_seam before x after x) (h (length before) x (omega (arith, length-append before (x ∷ after))))
 
 -- the law
 
@@ -227,17 +210,14 @@ module _ (n : Neighborhood) (symmetry : Symmetry) (vars : List Var) where
       let values = fits_if_gives line s g in
       let allowed : All (λ e. allows_zero vars e ≡ true) line.inputs = λ k d below.
       zero_value n_states vars g.gives.choice g.gives.is_choice (get_or line.inputs k d) (t.inputs k d below) (values k d below) in
-      absurd (let e : true ≡ false = sym (all_passed (allows_zero vars) line.inputs allowed) ∙ not_so in let z : ⊥ = cc in z)
+      absurd (let e : true ≡ false = sym (list_all-from_AllPass (allows_zero vars) line.inputs allowed) ∙ not_so in let z : ⊥ = cc in z)
 
   all_silent : (n_states : ℕ) (lines : List Transition) → All (IsTransition n_states (neighbour_count n) vars) lines
       → All (λ line. fits_zero vars line ≡ false) lines → All (GivesNothing symmetry vars 0 (zeros n)) lines
   all_silent n_states lines t f = λ k d below. silent n_states (get_or lines k d) (t k d below) (f k d below)
 
   quiet_fixed : (s : ℕ) (e : Entry) → e ≡ entries.Fixed s → is_quiet_output e ≡ true → s ≡ 0
-  quiet_fixed s e is q = elim (eqb_tells s 0) [
-    | inl same ↦ same.1
-    | inr other ↦ absurd (let no : is_quiet_output e ≡ false = ap is_quiet_output is ∙ other.0 in let z : true ≡ false = sym q ∙ no in let w : ⊥ = cc in w)
-  ]
+  quiet_fixed s e is q = eqb-true s 0 (sym (ap is_quiet_output is) ∙ q)
 
   output_zero : (n_states : ℕ) (line : Transition) → IsTransition n_states (neighbour_count n) vars line → ((s : ℕ) → line.output ≡ entries.Fixed s → s ≡ 0) →
       (choice : ℕ → ℕ) → All (λ e. state_of choice e ≡ 0) line.inputs → (e : Entry) → line.output ≡ e → state_of choice e ≡ 0
@@ -253,7 +233,7 @@ zero_law n_states n symmetry vars lines sound = elim (first_fit vars lines sound
       let t : IsTransition n_states (neighbour_count n) vars f.line = at_split (IsTransition n_states (neighbour_count n) vars) f.before f.line f.after all in
       let quiet = λ (s : ℕ) (is : f.line.output ≡ entries.Fixed s). quiet_fixed n symmetry vars s f.line.output is f.quiet in
       let c = quiet_choice n_states vars sound.variables in
-      let fits : All (λ e. allows_zero vars e ≡ true) f.line.inputs = all_pass (allows_zero vars) f.line.inputs f.fits in
+      let fits : All (λ e. allows_zero vars e ≡ true) f.line.inputs = AllPass-from_list_all (allows_zero vars) f.line.inputs f.fits in
       let values : All (λ e. state_of c.0 e ≡ 0) f.line.inputs = λ k d below. allowed_value vars c.0 c.2 (get_or f.line.inputs k d) (fits k d below) in
       inl (record {
         before = f.before;

@@ -4,6 +4,7 @@ use Rattle.std.proofs.Common.{◌≡◌, ℕ, List, [], ◌∷◌, ◌++◌, Boo
 use Rattle.std.specs.Prelude.{Option, Some, None, if◌then◌else◌, is_some, option_to_list, All, codes, bytes_eq}
 use Rattle.std.specs.List.{cons_option}
 use Rattle.std.proofs.lemmas.List.{append-nil}
+use Rattle.std.proofs.lemmas.List.Elements.{All-push}
 use Rattle.std.proofs.lemmas.Slice.Eq.{bytes_eq-Decides}
 use Rattle.std.proofs.lemmas.Bool.{or_cases}
 use Rattle.life_table.specs.Valid.{neighbour_count}
@@ -20,7 +21,7 @@ use Rattle.life_table.specs.declared.table.Var.{Var}
 use Rattle.life_table.specs.declared.table.Transition.{Transition}
 use Rattle.life_table.proofs.Cases.{Says, states, neighbors, orders, variable, transition}
 use Rattle.life_table.proofs.Keeping.{AreSettled, Settled, settled_more, Stays, stays_same, stays_none, AreVariables, variables_none, variables_new, variables_same}
-use Rattle.life_table.proofs.Texts.{setting_same, setting_new, this_key, other_key, no_descriptor, written, variables_more, transitions_more, IsRead, transitions_kept, AreDescriptors, no_variables, no_transitions, none_to_read, descriptors_more, all_more, on_line}
+use Rattle.life_table.proofs.Texts.{setting_same, setting_new, this_key, other_key, no_descriptor, written, variables_more, transitions_more, IsRead, transitions_kept, AreDescriptors, no_variables, no_transitions, none_to_read, on_line}
 
 -- the texts so far: all are descriptors until all three settings are given, and each transition's line is read
 pub record TextsStand (ts : List Numbered) : Type 0 where
@@ -31,20 +32,13 @@ pub record TextsStand (ts : List Numbered) : Type 0 where
   pub variables : (n : ℕ) → states_of (texts_of ts) ≡ Some n → AreVariables n (variables_written n (texts_of ts)) ts
 
 -- no key is another
-states_alone : (key : List ℕ) → is_states_key key ≡ true → is_neighborhood_key key ≡ false
-states_alone key e = let k : key ≡ codes "n_states" = (bytes_eq-Decides key (codes "n_states")).0 e in
-    subst (λ (w : List ℕ). is_neighborhood_key w ≡ false) (sym k) refl
-
-states_alone_too : (key : List ℕ) → is_states_key key ≡ true → is_symmetry_key key ≡ false
-states_alone_too key e = let k : key ≡ codes "n_states" = (bytes_eq-Decides key (codes "n_states")).0 e in
-    subst (λ (w : List ℕ). is_symmetry_key w ≡ false) (sym k) refl
+alone : (is_key : List ℕ → Bool) (own key : List ℕ) → is_key own ≡ false → bytes_eq key own ≡ true → is_key key ≡ false
+alone is_key own key other e = subst (λ (w : List ℕ). is_key w ≡ false) (sym ((bytes_eq-Decides key own).0 e)) other
 
 neighbors_alone : (key : List ℕ) → is_neighborhood_key key ≡ true → is_symmetry_key key ≡ false
 neighbors_alone key e = elim (or_cases (bytes_eq key (codes "neighborhood")) (bytes_eq key (codes "neighbourhood")) e) [
-  | inl a ↦ (let k : key ≡ codes "neighborhood" = (bytes_eq-Decides key (codes "neighborhood")).0 a in
-      subst (λ (w : List ℕ). is_symmetry_key w ≡ false) (sym k) refl)
-  | inr b ↦ (let k : key ≡ codes "neighbourhood" = (bytes_eq-Decides key (codes "neighbourhood")).0 b in
-      subst (λ (w : List ℕ). is_symmetry_key w ≡ false) (sym k) refl)
+  | inl a ↦ alone is_symmetry_key (codes "neighborhood") key refl a
+  | inr b ↦ alone is_symmetry_key (codes "neighbourhood") key refl b
 ]
 
 -- one said of five equal parts
@@ -87,7 +81,7 @@ module _ (name : Option (List ℕ)) (ts : List Numbered) (number : ℕ) (text : 
   -- one more descriptor
   module _ (d : is_descriptor text ≡ true) (all : AreDescriptors ts) where
     more_described : AreDescriptors (ts ++ x ∷ [])
-    more_described = descriptors_more ts x all d
+    more_described = All-push (λ (t : Numbered). is_descriptor t.1 ≡ true) ts x all d
 
     described_vars : variables_in on' (texts_of (ts ++ x ∷ [])) ≡ variables_in on (texts_of ts)
     described_vars = no_variables on' (ts ++ x ∷ []) more_described ∙ sym (no_variables on ts all)
@@ -190,8 +184,8 @@ module _ (name : Option (List ℕ)) (ts : List Numbered) (number : ℕ) (text : 
   says_states d k none n e =
       let all : AreDescriptors ts = stand.early (not_described (is_some on) (is_some oh) (is_some oy) (inl (ap (λ (o : Option ℕ). is_some o) none))) in
       let states : on' ≡ Some n = setting_new is_states_key states_named ts x (this_key is_states_key text d k) none ∙ e in
-      let neighbors : oh' ≡ oh = setting_same is_neighborhood_key neighborhood_named ts x (other_key is_neighborhood_key text (states_alone (key_of text) k)) in
-      let symmetry : oy' ≡ oy = setting_same is_symmetry_key symmetry_named ts x (other_key is_symmetry_key text (states_alone_too (key_of text) k)) in (
+      let neighbors : oh' ≡ oh = setting_same is_neighborhood_key neighborhood_named ts x (other_key is_neighborhood_key text (alone is_neighborhood_key (codes "n_states") (key_of text) refl k)) in
+      let symmetry : oy' ≡ oy = setting_same is_symmetry_key symmetry_named ts x (other_key is_symmetry_key text (alone is_symmetry_key (codes "n_states") (key_of text) refl k)) in (
         parsed_same name Open on' (Some n) oh' oh oy' oy _ _ _ _ states neighbors symmetry
             (described_vars d all) (described_lines d all),
         described_stand d all (stays_none on on' none) (stays_same oh oh' neighbors) (stays_same oy oy' symmetry) (inl (k, n, e, states)),
@@ -244,7 +238,7 @@ module _ (name : Option (List ℕ)) (ts : List Numbered) (number : ℕ) (text : 
         parsed_same name Open on' on oh' oh oy' oy _ _ _ _ (states_same d n h y en eh ey) (neighbors_same d n h y en eh ey) (symmetry_same d n h y en eh ey)
             (vars ∙ ap (λ (vs : List Var). vs ++ var ∷ []) (sym (vars_are d n h y en eh ey))) lines,
         stand_then d n h y en eh ey (subst (λ (vs : List Var). All (IsRead n (neighbour_count h) vs) (ts ++ x ∷ [])) (sym there)
-            (all_more (IsRead n (neighbour_count h) (V d n h y en eh ey ++ var ∷ [])) ts x kept.1 last))
+            (All-push (IsRead n (neighbour_count h) (V d n h y en eh ey ++ var ∷ [])) ts x kept.1 last))
             (subst (λ (vs : List Var). AreVariables n vs (ts ++ x ∷ [])) (sym there)
             (variables_new n (V d n h y en eh ey) var ts x (stand.variables n en) (ap (λ (b : Bool). b && not (is_descriptor text)) v ∙ ap not d)
             (ap (λ (vs : List Var). variable_of n vs text) (sym (vars_are d n h y en eh ey)) ∙ e))),
@@ -267,7 +261,7 @@ module _ (name : Option (List ℕ)) (ts : List Numbered) (number : ℕ) (text : 
         parsed_same name Open on' on oh' oh oy' oy _ _ _ _ (states_same d n h y en eh ey) (neighbors_same d n h y en eh ey) (symmetry_same d n h y en eh ey)
             (vars ∙ sym (vars_are d n h y en eh ey)) lines,
         stand_then d n h y en eh ey (subst (λ (vs : List Var). All (IsRead n (neighbour_count h) vs) (ts ++ x ∷ [])) (sym there)
-            (all_more (IsRead n (neighbour_count h) (V d n h y en eh ey)) ts x (all_read d n h y en eh ey) (λ is. (t, read))))
+            (All-push (IsRead n (neighbour_count h) (V d n h y en eh ey)) ts x (all_read d n h y en eh ey) (λ is. (t, read))))
             (subst (λ (vs : List Var). AreVariables n vs (ts ++ x ∷ [])) (sym there)
             (variables_same n (V d n h y en eh ey) ts x (stand.variables n en) (ap (λ (b : Bool). b && not (is_descriptor text)) v))),
       )

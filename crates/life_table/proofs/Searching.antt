@@ -1,5 +1,5 @@
 -- Groups take free places.
-use Rattle.std.proofs.Common.{◌≡◌, ℕ, zero, suc, ◌+◌, ◌^◌, ◌<◌, ◌≤◌, List, [], ◌∷◌, length, drop, set, get_or, cond, nat_eq, true, false, refl, ◌⊎◌, ap, sym, ◌∙◌, subst, inl, inr, arith, slice_index, replicate, eq-eqb, ◌↔◌}
+use Rattle.std.proofs.Common.{◌≡◌, ℕ, zero, suc, ◌+◌, ◌^◌, ◌<◌, ◌≤◌, List, [], ◌∷◌, length, drop, set, get_or, cond, nat_eq, false, refl, ◌⊎◌, ap, sym, ◌∙◌, subst, inl, inr, arith, slice_index, replicate, eqb-true, eq-eqb, ◌↔◌}
 use Rattle.std.specs.Prelude.{Option, Some, None, slice_get, IfSome, IsTrue}
 use Rattle.std.specs.Int.{bit_at}
 use Rattle.std.proofs.Math.Seq.{drop-cons}
@@ -145,8 +145,7 @@ pub at_end : (vars : List Var) (groups : List Group) (states : List ℕ) (free k
     IsTrue (nat_eq free 0) ↔ Completes vars (drop k groups) states free
 at_end vars groups states free k past below choosable =
     subst (λ gs. IsTrue (nat_eq free 0) ↔ Completes vars gs states free) (sym (drop_all k groups past)) (
-      λ t. completes_none vars states free choosable
-          (elim (eqb_tells free 0) [ inl same ↦ same.1 | inr other ↦ absurd (let e : true ≡ false = sym t ∙ other.0 in let z : ⊥ = cc in z) ]),
+      λ t. completes_none vars states free choosable (eqb-true free 0 t),
       λ c. eq-eqb free 0 (none_completes vars states free below c),
     )
 

@@ -1,5 +1,5 @@
 -- Which neighbours an entry may be, place by place.
-use Rattle.std.proofs.Common.{◌≡◌, ◌≢◌, ℕ, ◌+◌, ◌-◌, ◌*◌, ◌%◌, ◌/◌, ◌^◌, ◌<◌, List, length, get_or, set, slice_index, replicate, cond, nat_lt, Bool, true, false, refl, ap, sym, ◌∙◌, subst, inl, inr, arith, bit_or, bit_and}
+use Rattle.std.proofs.Common.{◌≡◌, ◌≢◌, ℕ, ◌+◌, ◌-◌, ◌*◌, ◌%◌, ◌/◌, ◌^◌, ◌<◌, List, length, get_or, set, slice_index, replicate, cond, nat_lt, Bool, true, false, refl, ap, sym, ◌∙◌, subst, inl, inr, arith, bit_or, bit_and, eqb-true}
 use Rattle.std.specs.Prelude.{IsTrue, Option, Some, None, slice_get}
 use Rattle.std.specs.Int.{bit_at, w16}
 use Rattle.std.proofs.lemmas.Bool.Decides.{eqb_tells}
@@ -117,10 +117,8 @@ pub seen_is : (vars : List Var) (others around fixed listed : List ℕ) → ((k 
     ((i k : ℕ) → i < length vars → i < 64 → k < 16 → (var : Var) → var ≡ get_or vars i var → IsTrue (has_state var (slice_index around k))
     → bit_at (slice_index listed i) k ≡ 1) →
     IsSeen vars others (record { fixed = fixed; listed = listed })
-seen_is vars others around fixed listed same states variables (entries.Fixed s) k room h = elim (eqb_tells s (slice_index others (k % length others))) [
-  | inl is ↦ ap (λ n. bit_at (slice_index fixed n) k) (is.1 ∙ sym (same k room)) ∙ states k room
-  | inr other ↦ absurd (let e : true ≡ false = sym h ∙ other.0 in let z : ⊥ = cc in z)
-]
+seen_is vars others around fixed listed same states variables (entries.Fixed s) k room h =
+    ap (λ n. bit_at (slice_index fixed n) k) (eqb-true s (slice_index others (k % length others)) h ∙ sym (same k room)) ∙ states k room
 seen_is vars others around fixed listed same states variables (entries.Var i) k room h = elim (cases_Bool (nat_lt i 64)) [
   | inl is_listed ↦
       let below : i < 64 = grind (arith, nat_tests, is_listed) in

@@ -1,5 +1,5 @@
 -- Lines that may fit some order of the neighbours: as many inputs may be one of some states as there are neighbours of one.
-use Rattle.std.proofs.Common.{◌≡◌, ℕ, suc, ◌+◌, ◌-◌, ◌*◌, ◌<◌, ◌≤◌, ◌∷◌, List, [], take, length, get_or, set, slice_index, cond, Bool, true, false, nat_eq, ap, sym, ◌∙◌, subst, ◌⊎◌, inl, inr, refl, arith, eq-eqb, ◌||◌, length-take, bit_or, drop}
+use Rattle.std.proofs.Common.{◌≡◌, ℕ, suc, ◌+◌, ◌-◌, ◌*◌, ◌<◌, ◌≤◌, ◌∷◌, List, [], take, length, get_or, set, slice_index, cond, Bool, true, false, nat_eq, ap, sym, ◌∙◌, subst, ◌⊎◌, inl, inr, refl, arith, eq-eqb, ◌||◌, length-take, bit_or, drop, eqb-true}
 use Rattle.std.specs.Prelude.{Contains, count_by}
 use Rattle.std.specs.Int.{bit_at}
 use Rattle.std.specs.List.{sum_by}
@@ -13,7 +13,6 @@ use Rattle.life_table.specs.Index.{is_among, AreCounts, MayBeBehind, MayFit, May
 use Rattle.life_table.specs.Orders.{orders}
 use Rattle.life_table.specs.Meaning.{count_of}
 use Rattle.life_table.proofs.Counts.{sum-order, count-order, count-cons, is_one}
-use Rattle.life_table.proofs.Grouping.{is_clash}
 use Rattle.life_table.proofs.Seeing.{or_left as bits_left, or_right as bits_right}
 use Rattle.life_table.proofs.Deciding.{rest_of}
 use Rattle.life_table.specs.declared.block.Block.{Block}
@@ -22,10 +21,7 @@ use Rattle.life_table.specs.declared.some_order.Counts.{Counts}
 -- which of the states it is
 pub is_among_at : (states : List ℕ) (s : ℕ) → is_among states s ≡ true → (i : ℕ) × (i < length states) × (slice_index states i ≡ s)
 is_among_at states s h =
-    let there = Contains-from_any {eq = λ q t. nat_eq t q} (λ x y e. elim (eqb_tells y x) [
-      | inl same ↦ sym same.1
-      | inr other ↦ absurd (let z : true ≡ false = sym e ∙ other.0 in cc)
-    ]) s states h in
+    let there = Contains-from_any {eq = λ q t. nat_eq t q} (λ x y e. sym (eqb-true y x e)) s states h in
     (there.0, there.1, get_or_default states there.0 0 s there.1 ∙ there.2)
 
 -- what is counted with one more number: it was counted before, or the number counts
@@ -84,10 +80,7 @@ module _ (others states : List ℕ) (i count : ℕ) (inside : i < length others)
       → is_among (take count states) s ≡ true
   among_before there s h = elim (one_of s h) [
     | inl before ↦ each s before
-    | inr here ↦ each s (elim (eqb_tells (slice_index others i) s) [
-      | inl same ↦ subst (λ t. is_among (take i others) t ≡ true) same.1 there
-      | inr other ↦ absurd (is_clash (nat_eq (slice_index others i) s) here other.0)
-    ])
+    | inr here ↦ each s (subst (λ t. is_among (take i others) t ≡ true) (eqb-true (slice_index others i) s here) there)
   ]
 
   pub among_pushed : count < length states → (s : ℕ) → is_among (take (i + 1) others) s ≡ true

@@ -5,7 +5,7 @@ use Rattle.std.specs.Prelude.{Option, Some, None, if◌then◌else◌, option_ma
 use Rattle.std.specs.List.{fold, position_or_len, position, cons_option}
 use Rattle.std.proofs.lemmas.List.Folds.{position_or_len_push}
 use Rattle.std.proofs.lemmas.List.Sums.{fold-append}
-use Rattle.std.proofs.lemmas.List.Elements.{All-nil, All-cons, All-head, All-tail, filter_map-append}
+use Rattle.std.proofs.lemmas.List.Elements.{All-nil, All-cons, All-head, All-tail, All-weaker, filter_map-append}
 use Rattle.std.proofs.lemmas.Option.{cond_some}
 use Rattle.std.proofs.lemmas.List.{map-append}
 use Rattle.life_base.specs.Text.{is_digit_text}
@@ -94,6 +94,15 @@ transitions_more n k vars ts x = filter_map-append (on_line n k vars) ts (x ∷ 
 
 -- 4. One more variable changes no entry that was read
 
+-- what an option that is there came from
+pub mapped : {X Y : Type 0} (f : X → Y) (o : Option X) (y : Y) → option_map f o ≡ Some y → (x : X) × (o ≡ Some x) × (y ≡ f x)
+mapped f None y h = absurd (let z : ⊥ = cc in z)
+mapped f (Some x) y h = (x, refl, (let e : Some (f x) ≡ Some y = h in cc))
+
+pub followed : {X Y : Type 0} (f : X → Option Y) (o : Option X) (y : Y) → option_and_then f o ≡ Some y → (x : X) × (o ≡ Some x) × (f x ≡ Some y)
+followed f None y h = absurd (let z : ⊥ = cc in z)
+followed f (Some x) y h = (x, refl, h)
+
 position_kept : (p : Var → Bool) (vars : List Var) (v : Var) (i : ℕ) → position p vars ≡ Some i → position p (vars ++ v ∷ []) ≡ Some i
 position_kept p vars v i h =
     let w = cond_some (nat_lt (position_or_len p vars) (length vars)) (position_or_len p vars) i h in
@@ -105,10 +114,6 @@ position_kept p vars v i h =
     let within : nat_lt (position_or_len p (vars ++ v ∷ [])) (length (vars ++ v ∷ [])) ≡ true = lt-ltb _ _ (omega (arith, same, longer, below)) in
     ap (λ (b : Bool). cond b (Some (position_or_len p (vars ++ v ∷ []))) None) within ∙ ap Some (same ∙ w.1)
 
-map_kept : (o p : Option ℕ) (e : Entry) → ((i : ℕ) → o ≡ Some i → p ≡ Some i) → option_map entries.Var o ≡ Some e → option_map entries.Var p ≡ Some e
-map_kept None p e f h = absurd (let z : ⊥ = cc in z)
-map_kept (Some i) p e f h = ap (option_map entries.Var) (f i refl) ∙ h
-
 entry_by : (digits : Bool) (a o p : Option Entry) (e : Entry) → (o ≡ Some e → p ≡ Some e) → (if digits then a else o) ≡ Some e
     → (if digits then a else p) ≡ Some e
 entry_by true a o p e f h = h
@@ -119,7 +124,9 @@ unfolding entry_of
 entry_kept n vars v word e h =
     entry_by (is_digit_text word) (option_map entries.Fixed (number_below n word)) (option_map entries.Var (variable_named vars word))
     (option_map entries.Var (variable_named (vars ++ v ∷ []) word)) e
-    (map_kept (variable_named vars word) (variable_named (vars ++ v ∷ []) word) e (position_kept (λ (w : Var). bytes_eq w.name word) vars v)) h
+    (λ (there : option_map entries.Var (variable_named vars word) ≡ Some e).
+    let m = mapped entries.Var (variable_named vars word) e there in
+    ap (option_map entries.Var) (position_kept (λ (w : Var). bytes_eq w.name word) vars v m.0 m.1) ∙ ap Some (sym m.2)) h
 
 -- the first of the options is there, and the others are
 pub split_some : {X : Type 0} (o : Option X) (os : List (Option X)) (xs : List X) → all_some (o ∷ os) ≡ Some xs → (x : X) × (rest : List X) × (o ≡ Some x)
@@ -132,31 +139,26 @@ split_some (Some x) os xs h = split_again x (all_some os) xs h
     split_again x None xs h = absurd (let z : ⊥ = cc in z)
     split_again {X} x (Some rest) xs h = (x, rest, refl, refl, (let g : Some (x ∷ rest) ≡ Some xs = h in cc))
 
-words_kept : (n : ℕ) (vars : List Var) (v : Var) (words : List (List ℕ)) (es : List Entry)
-    → all_some (map (entry_of n vars) words) ≡ Some es → all_some (map (entry_of n (vars ++ v ∷ [])) words) ≡ Some es
-words_kept n vars v [] es h = h
-words_kept n vars v (word ∷ words) es h =
-    let s = split_some (entry_of n vars word) (map (entry_of n vars) words) es h in
-    let first = entry_kept n vars v word s.0 s.2 in
-    let rest = words_kept n vars v words s.1 s.3 in
-    ap (λ (o : Option Entry). all_some (o ∷ map (entry_of n (vars ++ v ∷ [])) words)) first ∙ ap (option_map (λ (xs : List Entry). s.0 ∷ xs)) rest
+-- what each word of a list gives stays, where what a word gives stays
+pub some_kept : {W X : Type 0} (f g : W → Option X) → ((w : W) (x : X) → f w ≡ Some x → g w ≡ Some x) → (ws : List W) (xs : List X)
+    → all_some (map f ws) ≡ Some xs → all_some (map g ws) ≡ Some xs
+some_kept f g more [] xs h = h
+some_kept {W} {X} f g more (w ∷ ws) xs h =
+    let s = split_some (f w) (map f ws) xs h in
+    ap (λ (o : Option X). all_some (o ∷ map g ws)) (more w s.0 s.2) ∙ ap (option_map (λ (ys : List X). s.0 ∷ ys)) (some_kept f g more ws s.1 s.3)
     ∙ ap Some (sym s.4)
 
 pub entries_kept : (n : ℕ) (vars : List Var) (v : Var) (text : List ℕ) (es : List Entry) → entries_of n vars text ≡ Some es → entries_of n (vars ++ v ∷ []) text
     ≡ Some es
 unfolding entries_of
-entries_kept n vars v text es h = words_kept n vars v (transition_words text) es h
-
-then_kept : (o p : Option (List Entry)) (f : List Entry → Option Transition) (t : Transition) → ((es : List Entry) → o ≡ Some es → p ≡ Some es)
-    → option_and_then f o ≡ Some t → option_and_then f p ≡ Some t
-then_kept None p f t k h = absurd (let z : ⊥ = cc in z)
-then_kept (Some es) p f t k h = ap (option_and_then f) (k es refl) ∙ h
+entries_kept n vars v text es h = some_kept (entry_of n vars) (entry_of n (vars ++ v ∷ [])) (entry_kept n vars v) (transition_words text) es h
 
 pub transition_kept : (n k : ℕ) (vars : List Var) (v : Var) (number : ℕ) (text : List ℕ) (t : Transition)
     → transition_of n k vars number text ≡ Some t → transition_of n k (vars ++ v ∷ []) number text ≡ Some t
 unfolding transition_of
-transition_kept n k vars v number text t h = then_kept (entries_of n vars text) (entries_of n (vars ++ v ∷ []) text) (transition_from k number) t
-    (entries_kept n vars v text) h
+transition_kept n k vars v number text t h =
+    let f = followed (transition_from k number) (entries_of n vars text) t h in
+    ap (option_and_then (transition_from k number)) (entries_kept n vars v text f.0 f.1) ∙ f.2
 
 -- each transition's line is read
 abbrev pub IsRead : ℕ → ℕ → List Var → Numbered → Type 0
@@ -219,19 +221,5 @@ no_transitions (Some n) None vars ts h = refl
 no_transitions (Some n) (Some h) vars ts d = no_transitions_written n (neighbour_count h) vars ts d
 
 pub none_to_read : (n k : ℕ) (vars : List Var) (ts : List Numbered) → AreDescriptors ts → All (IsRead n k vars) ts
-none_to_read n k vars [] h = All-nil (IsRead n k vars)
-none_to_read n k vars (t ∷ ts) h =
-    let d = All-head (λ (u : Numbered). is_descriptor u.1 ≡ true) t ts h in
-    All-cons (IsRead n k vars) t ts
-    (λ is. absurd (let e : false ≡ true = sym (ap (λ (b : Bool). not b && not (is_variable_line t.1)) d) ∙ is in let z : ⊥ = cc in z))
-    (none_to_read n k vars ts (All-tail (λ (u : Numbered). is_descriptor u.1 ≡ true) t ts h))
-
-pub descriptors_more : (ts : List Numbered) (x : Numbered) → AreDescriptors ts → is_descriptor x.1 ≡ true → AreDescriptors (ts ++ x ∷ [])
-descriptors_more [] x h e = All-cons (λ (u : Numbered). is_descriptor u.1 ≡ true) x [] e h
-descriptors_more (t ∷ ts) x h e =
-    All-cons (λ (u : Numbered). is_descriptor u.1 ≡ true) t (ts ++ x ∷ []) (All-head (λ (u : Numbered). is_descriptor u.1 ≡ true) t ts h)
-    (descriptors_more ts x (All-tail (λ (u : Numbered). is_descriptor u.1 ≡ true) t ts h) e)
-
-pub all_more : {X : Type 0} (P : X → Type 0) (xs : List X) (x : X) → All P xs → P x → All P (xs ++ x ∷ [])
-all_more P [] x h e = All-cons P x [] e h
-all_more P (y ∷ xs) x h e = All-cons P y (xs ++ x ∷ []) (All-head P y xs h) (all_more P xs x (All-tail P y xs h) e)
+none_to_read n k vars = All-weaker (λ (t : Numbered). is_descriptor t.1 ≡ true) (IsRead n k vars) (λ t d is. absurd (
+    let e : false ≡ true = sym (ap (λ (b : Bool). not b && not (is_variable_line t.1)) d) ∙ is in let z : ⊥ = cc in z))

@@ -1,5 +1,5 @@
 -- The values that lines write are parts of a rule table.
-use Rattle.std.proofs.Common.{◌≡◌, ℕ, zero, suc, ◌+◌, ◌/◌, ◌%◌, ◌^◌, ◌<◌, ◌≤◌, List, [], ◌∷◌, map, take, length, Bool, true, false, refl, ap, sym, ◌∙◌, subst, ◌&&◌, ◌⊎◌, inl, inr, arith, cond, get_or, max, length-take, eqb-true}
+use Rattle.std.proofs.Common.{◌≡◌, ℕ, zero, suc, ◌+◌, ◌/◌, ◌%◌, ◌^◌, ◌<◌, ◌≤◌, List, [], ◌∷◌, map, take, length, Bool, true, false, refl, ap, sym, ◌∙◌, subst, ◌&&◌, ◌⊎◌, inl, inr, arith, cond, get_or, max, length-take, eqb-true, eq-eqb}
 use Rattle.std.specs.Prelude.{Option, Some, None, if◌then◌else◌, is_some, option_map, option_and_then, All, IsTrue, nat_lt, ◌==◌, slice_get, slice_index, bit_or, bytes_eq}
 use Rattle.std.specs.Int.{bit_at}
 use Rattle.std.specs.List.{fold, list_any, position, slice_split, position_or_len, onto_first}
@@ -16,19 +16,11 @@ use Rattle.life_table.specs.declared.table.Var.{Var}
 use Rattle.life_table.specs.declared.table.Entry.{Entry}
 use Rattle.life_table.specs.declared.table.Entry.TheVariants as entries
 use Rattle.life_table.specs.declared.table.Transition.{Transition}
-use Rattle.life_table.proofs.Texts.{split_some}
+use Rattle.life_table.proofs.Texts.{split_some, mapped, followed}
 use Rattle.life_table.proofs.Cases.{not_some}
 use Rattle.life_table.proofs.Searching.{zeros_at}
 
--- 1. What an option that is there came from
-
-pub mapped : {X Y : Type 0} (f : X → Y) (o : Option X) (y : Y) → option_map f o ≡ Some y → (x : X) × (o ≡ Some x) × (y ≡ f x)
-mapped f None y h = absurd (let z : ⊥ = cc in z)
-mapped f (Some x) y h = (x, refl, (let e : Some (f x) ≡ Some y = h in cc))
-
-pub followed : {X Y : Type 0} (f : X → Option Y) (o : Option X) (y : Y) → option_and_then f o ≡ Some y → (x : X) × (o ≡ Some x) × (f x ≡ Some y)
-followed f None y h = absurd (let z : ⊥ = cc in z)
-followed f (Some x) y h = (x, refl, h)
+-- 1. What a test let through
 
 pub tested : {X : Type 0} (b : Bool) (o : Option X) (x : X) → (if b then o else None) ≡ Some x → (b ≡ true) × (o ≡ Some x)
 tested true o x h = (refl, h)
@@ -83,15 +75,17 @@ is_entry n vars word e h = elim
       | inr b ↦ named_entry n vars word e b
     ]
 
-words_are : (n : ℕ) (vars : List Var) (words : List (List ℕ)) (es : List Entry) → all_some (map (entry_of n vars) words) ≡ Some es → All (IsEntry n vars) es
-words_are n vars [] es h = subst (All (IsEntry n vars)) (let z : Some [] ≡ Some es = h in let e : [] ≡ es = cc in e) (All-nil (IsEntry n vars))
-words_are n vars (word ∷ words) es h =
-    let s = split_some (entry_of n vars word) (map (entry_of n vars) words) es h in
-    subst (All (IsEntry n vars)) (sym s.4) (All-cons (IsEntry n vars) s.0 s.1 (is_entry n vars word s.0 s.2) (words_are n vars words s.1 s.3))
+-- what the words of a list give has a property, if what each word gives has it
+each_some : {X : Type 0} (P : X → Type 0) (f : List ℕ → Option X) → ((word : List ℕ) (x : X) → f word ≡ Some x → P x) → (words : List (List ℕ)) (xs : List X)
+    → all_some (map f words) ≡ Some xs → All P xs
+each_some P f each [] xs h = subst (All P) (let z : Some [] ≡ Some xs = h in let e : [] ≡ xs = cc in e) (All-nil P)
+each_some P f each (word ∷ words) xs h =
+    let s = split_some (f word) (map f words) xs h in
+    subst (All P) (sym s.4) (All-cons P s.0 s.1 (each word s.0 s.2) (each_some P f each words s.1 s.3))
 
 entries_are : (n : ℕ) (vars : List Var) (text : List ℕ) (es : List Entry) → entries_of n vars text ≡ Some es → All (IsEntry n vars) es
 unfolding entries_of
-entries_are n vars text es h = words_are n vars (transition_words text) es h
+entries_are n vars text es h = each_some (IsEntry n vars) (entry_of n vars) (is_entry n vars) (transition_words text) es h
 
 -- 3. Transitions
 
@@ -105,8 +99,7 @@ from_parts n k vars number es t all h bound =
     let q = tested (length es == k + 2)
     (option_map (λ (output : Entry). record { line = number; inputs = take (k + 1) es; output = output }) (slice_get es (k + 1))) t h in
     let m = mapped (λ (output : Entry). record { line = number; inputs = take (k + 1) es; output = output }) (slice_get es (k + 1)) t q.1 in
-    let long : length es ≡ k + 2 = elim (eqb_tells (length es) (k + 2))
-    [ inl same ↦ same.1 | inr other ↦ absurd (let z : true ≡ false = sym q.0 ∙ other.0 in let w : ⊥ = cc in w) ] in
+    let long : length es ≡ k + 2 = eqb-true (length es) (k + 2) q.0 in
     let last : get_or es (k + 1) m.0 ≡ m.0 = get_or_from_slice_get es (k + 1) m.0 m.0 m.1 in
     let output : IsEntry n vars m.0 = subst (IsEntry n vars) last (all (k + 1) m.0 (omega (arith, long))) in
     let P : Transition → Type 0 = λ (u : Transition). is_bound u.inputs u.output ≡ true → IsTransition n k vars u in
@@ -130,12 +123,16 @@ pub record IsSet (n : ℕ) (states : List ℕ) : Type 0 where
   pub some : ¬ ((s : ℕ) → ¬ (bit_at (slice_index states (s / 64)) (s % 64) ≡ 1))
   pub below : (s : ℕ) → bit_at (slice_index states (s / 64)) (s % 64) ≡ 1 → s < n
 
+-- a word of a set of four words
+word_at : (f : ℕ → ℕ) (k : ℕ) → k < 4 → slice_index (map f (0 ∷ 1 ∷ 2 ∷ 3 ∷ [])) k ≡ f k
+word_at f zero h = refl
+word_at f (suc zero) h = refl
+word_at f (suc (suc zero)) h = refl
+word_at f (suc (suc (suc zero))) h = refl
+word_at f (suc (suc (suc (suc k)))) h = absurd (omega (arith, h))
+
 pub union_at : (a b : List ℕ) (k : ℕ) → k < 4 → slice_index (union a b) k ≡ bit_or (slice_index a k) (slice_index b k)
-union_at a b zero h = refl
-union_at a b (suc zero) h = refl
-union_at a b (suc (suc zero)) h = refl
-union_at a b (suc (suc (suc zero))) h = refl
-union_at a b (suc (suc (suc (suc k)))) h = absurd (omega (arith, h))
+union_at a b = word_at (λ k. bit_or (slice_index a k) (slice_index b k))
 
 abbrev bit_of : List ℕ → ℕ → ℕ
 bit_of states s = bit_at (slice_index states (s / 64)) (s % 64)
@@ -156,23 +153,12 @@ union_of_either a b s h = elim (cases_Bool (nat_lt (s / 64) 4)) [
     one_of x y h = elim (eqb_tells x 1) [ inl same ↦ inl same.1 | inr other ↦ inr (omega (arith, h, other.1)) ]
 
 single_at : (s k : ℕ) → k < 4 → slice_index (single s) k ≡ (if k == s / 64 then 2 ^ (s % 64) else 0)
-single_at s zero h = refl
-single_at s (suc zero) h = refl
-single_at s (suc (suc zero)) h = refl
-single_at s (suc (suc (suc zero))) h = refl
-single_at s (suc (suc (suc (suc k)))) h = absurd (omega (arith, h))
-
-single_past : (s k : ℕ) → 4 ≤ k → slice_index (single s) k ≡ 0
-single_past s zero h = absurd (omega (arith, h))
-single_past s (suc zero) h = absurd (omega (arith, h))
-single_past s (suc (suc zero)) h = absurd (omega (arith, h))
-single_past s (suc (suc (suc zero))) h = absurd (omega (arith, h))
-single_past s (suc (suc (suc (suc k)))) h = refl
+single_at s = word_at (λ k. if k == s / 64 then 2 ^ (s % 64) else 0)
 
 single_alone : (s t : ℕ) → bit_of (single s) t ≡ 1 → t ≡ s
 single_alone s t h = elim (cases_Bool (nat_lt (t / 64) 4)) [
   | inr beyond ↦ absurd (
-      let past : slice_index (single s) (t / 64) ≡ 0 = single_past s (t / 64) (grind (arith, beyond)) in
+      let past : slice_index (single s) (t / 64) ≡ 0 = get_or_past (single s) (t / 64) 0 (grind (arith, beyond)) in
       let none : bit_of (single s) t ≡ 0 = ap (λ (w : ℕ). bit_at w (t % 64)) past ∙ bit_at-zero (t % 64) in
       omega (arith, none, h))
   | inl within ↦ elim (eqb_tells (t / 64) (s / 64)) [
@@ -192,13 +178,8 @@ single_alone s t h = elim (cases_Bool (nat_lt (t / 64) 4)) [
 ]
 
 single_there : (s : ℕ) → s < 256 → bit_of (single s) s ≡ 1
-single_there s h =
-    let within : s / 64 < 4 = omega (arith, h) in
-    elim (eqb_tells (s / 64) (s / 64)) [
-      | inl same ↦ ap (λ (w : ℕ). bit_at w (s % 64)) (single_at s (s / 64) within ∙ ap (λ (b : Bool). if b then 2 ^ (s % 64) else 0) same.0)
-          ∙ bit_at-pow_same (s % 64)
-      | inr other ↦ absurd (other.1 refl)
-    ]
+single_there s h = ap (λ (w : ℕ). bit_at w (s % 64))
+    (single_at s (s / 64) (omega (arith, h)) ∙ ap (λ (b : Bool). if b then 2 ^ (s % 64) else 0) (eq-eqb (s / 64) (s / 64) refl)) ∙ bit_at-pow_same (s % 64)
 
 single_set : (n s : ℕ) → s < n → n ≤ 256 → IsSet n (single s)
 single_set n s h m = record {
@@ -213,14 +194,10 @@ IsBelow n states = (s : ℕ) → bit_of states s ≡ 1 → s < n
 union_below : (n : ℕ) (a b : List ℕ) → IsBelow n a → IsBelow n b → IsBelow n (union a b)
 union_below n a b ha hb s h = elim (union_of_either a b s h) [ inl x ↦ ha s x | inr y ↦ hb s y ]
 
-union_keeps : (a b : List ℕ) (s : ℕ) → s < 256 → bit_of a s ≡ 1 → bit_of (union a b) s ≡ 1
-union_keeps a b s h e = let m : bit_of (union a b) s ≡ max (bit_of a s) (bit_of b s) = union_has a b s (omega (arith, h)) in
-    let x : bit_of a s < 2 = bit_at-lt (slice_index a (s / 64)) (s % 64) in
-    let y : bit_of b s < 2 = bit_at-lt (slice_index b (s / 64)) (s % 64) in
-    omega (arith, m, e, x, y)
-
-union_adds : (a b : List ℕ) (s : ℕ) → s < 256 → bit_of b s ≡ 1 → bit_of (union a b) s ≡ 1
-union_adds a b s h e = let m : bit_of (union a b) s ≡ max (bit_of a s) (bit_of b s) = union_has a b s (omega (arith, h)) in
+-- a state of either set is one of the union
+union_takes : (a b : List ℕ) (s : ℕ) → s < 256 → 1 ≤ bit_of a s + bit_of b s → bit_of (union a b) s ≡ 1
+union_takes a b s h e =
+    let m : bit_of (union a b) s ≡ max (bit_of a s) (bit_of b s) = union_has a b s (omega (arith, h)) in
     let x : bit_of a s < 2 = bit_at-lt (slice_index a (s / 64)) (s % 64) in
     let y : bit_of b s < 2 = bit_at-lt (slice_index b (s / 64)) (s % 64) in
     omega (arith, m, e, x, y)
@@ -232,7 +209,7 @@ fold_below n acc (set ∷ sets) h all =
 
 fold_keeps : (acc : List ℕ) (sets : List (List ℕ)) (s : ℕ) → s < 256 → bit_of acc s ≡ 1 → bit_of (fold union acc sets) s ≡ 1
 fold_keeps acc [] s h e = e
-fold_keeps acc (set ∷ sets) s h e = fold_keeps (union acc set) sets s h (union_keeps acc set s h e)
+fold_keeps acc (set ∷ sets) s h e = fold_keeps (union acc set) sets s h (union_takes acc set s h (omega (arith, e)))
 
 zeros_below : (n : ℕ) → IsBelow n (0 ∷ 0 ∷ 0 ∷ 0 ∷ [])
 zeros_below n s h = absurd (let none : bit_of (0 ∷ 0 ∷ 0 ∷ 0 ∷ []) s ≡ 0 = ap (λ (w : ℕ). bit_at w (s % 64)) (zeros_at 4 (s / 64)) ∙ bit_at-zero (s % 64) in
@@ -245,7 +222,7 @@ union_set n most set sets all =
       some = λ none. first.some (λ s there.
           (let small : s < n = first.below s there in
           none s (fold_keeps (union (0 ∷ 0 ∷ 0 ∷ 0 ∷ []) set) sets s (omega (arith, small, most))
-          (union_adds (0 ∷ 0 ∷ 0 ∷ 0 ∷ []) set s (omega (arith, small, most)) there))));
+          (union_takes (0 ∷ 0 ∷ 0 ∷ 0 ∷ []) set s (omega (arith, small, most)) (omega (arith, there))))));
       below = fold_below n (0 ∷ 0 ∷ 0 ∷ 0 ∷ []) (set ∷ sets) (zeros_below n) all;
     }
 
@@ -273,19 +250,14 @@ entry_set n most vars all (entries.Var i) is set h =
     let good : IsVariable n m.0 = subst (IsVariable n) at (all i m.0 (is.variable i refl)) in
     subst (IsSet n) (sym m.2) (variable_set n m.0 good)
 
-word_set : (n : ℕ) → n ≤ 256 → (vars : List Var) → All (IsVariable n) vars → (word : List ℕ) (set : List ℕ)
-    → option_and_then (states_of_entry vars) (entry_of n vars word) ≡ Some set → IsSet n set
+-- the states of the entry that a word writes
+abbrev pub set_named : ℕ → List Var → List ℕ → Option (List ℕ)
+set_named n vars word = option_and_then (states_of_entry vars) (entry_of n vars word)
+
+word_set : (n : ℕ) → n ≤ 256 → (vars : List Var) → All (IsVariable n) vars → (word set : List ℕ) → set_named n vars word ≡ Some set → IsSet n set
 word_set n most vars all word set h =
     let f = followed (states_of_entry vars) (entry_of n vars word) set h in
     entry_set n most vars all f.0 (is_entry n vars word f.0 f.1) set f.2
-
-words_sets : (n : ℕ) → n ≤ 256 → (vars : List Var) → All (IsVariable n) vars → (words : List (List ℕ)) (sets : List (List ℕ))
-    → all_some (map (λ (word : List ℕ). option_and_then (states_of_entry vars) (entry_of n vars word)) words) ≡ Some sets → All (IsSet n) sets
-words_sets n most vars all [] sets h = subst (All (IsSet n)) (let z : Some [] ≡ Some sets = h in let e : [] ≡ sets = cc in e) (All-nil (IsSet n))
-words_sets n most vars all (word ∷ words) sets h =
-    let s = split_some (option_and_then (states_of_entry vars) (entry_of n vars word))
-    (map (λ (w : List ℕ). option_and_then (states_of_entry vars) (entry_of n vars w)) words) sets h in
-    subst (All (IsSet n)) (sym s.4) (All-cons (IsSet n) s.0 s.1 (word_set n most vars all word s.0 s.2) (words_sets n most vars all words s.1 s.3))
 
 -- a text between commas has one word at least
 some_word : (text : List ℕ) → (w : List ℕ) × (ws : List (List ℕ)) × (between_commas text ≡ w ∷ ws)
@@ -300,24 +272,15 @@ some_word text = let s = some_part text in (trim s.0, map trim s.1, ap (map trim
         next true b parts s = ([], parts, refl)
         next false b parts s = (b ∷ s.0, s.1, ap (onto_first b) s.2)
 
-list_set : (n : ℕ) → n ≤ 256 → (vars : List Var) → All (IsVariable n) vars → (words : List (List ℕ)) (w : List ℕ) (ws : List (List ℕ)) → words ≡ w ∷ ws
-    → (states : List ℕ)
-    → option_map union_of (all_some (map (λ (word : List ℕ). option_and_then (states_of_entry vars) (entry_of n vars word)) words)) ≡ Some states
-    → IsSet n states
-list_set n most vars all words w ws e states h =
-    let f = λ (word : List ℕ). option_and_then (states_of_entry vars) (entry_of n vars word) in
-    let g : option_map union_of (all_some (map (λ (word : List ℕ). option_and_then (states_of_entry vars) (entry_of n vars word)) (w ∷ ws))) ≡ Some states =
-    ap (λ (us : List (List ℕ)). option_map union_of (all_some (map (λ (word : List ℕ). option_and_then (states_of_entry vars) (entry_of n vars word)) us)))
-    (sym e) ∙ h in
-    let m = mapped union_of (all_some (map (λ (word : List ℕ). option_and_then (states_of_entry vars) (entry_of n vars word)) (w ∷ ws))) states g in
-    let s = split_some (option_and_then (states_of_entry vars) (entry_of n vars w))
-    (map (λ (word : List ℕ). option_and_then (states_of_entry vars) (entry_of n vars word)) ws) m.0 m.1 in
-    let sets : All (IsSet n) m.0 = words_sets n most vars all (w ∷ ws) m.0 m.1 in
-    subst (IsSet n) (sym (m.2 ∙ ap union_of s.4)) (union_set n most s.0 s.1 (subst (All (IsSet n)) s.4 sets))
-
 listed_set : (n : ℕ) → n ≤ 256 → (vars : List Var) → All (IsVariable n) vars → (text states : List ℕ) → states_listed n vars text ≡ Some states → IsSet n states
 unfolding states_listed
-listed_set n most vars all text states h = let s = some_word text in list_set n most vars all (between_commas text) s.0 s.1 s.2 states h
+listed_set n most vars all text states h =
+    let m = mapped union_of (all_some (map (set_named n vars) (between_commas text))) states h in
+    let sets : All (IsSet n) m.0 = each_some (IsSet n) (set_named n vars) (word_set n most vars all) (between_commas text) m.0 m.1 in
+    let w = some_word text in
+    let s = split_some (set_named n vars w.0) (map (set_named n vars) w.1) m.0
+    (ap (λ (words : List (List ℕ)). all_some (map (set_named n vars) words)) (sym w.2) ∙ m.1) in
+    subst (IsSet n) (sym (m.2 ∙ ap union_of s.4)) (union_set n most s.0 s.1 (subst (All (IsSet n)) s.4 sets))
 
 pub states_case : (n : ℕ) (vars : List Var) (name list states : List ℕ) → variable_states n vars name list ≡ Some states → (variable_named vars name ≡ None)
     × (states_listed n vars (within_braces list) ≡ Some states)

@@ -16,6 +16,7 @@ use Rattle.life_table.specs.declared.some_order.Counts.{Counts}
 use Rattle.life_table.specs.declared.table.Entry.{Entry}
 use Rattle.life_table.specs.declared.table.Entry.TheVariants as entries
 use Rattle.life_table.specs.declared.table.Symmetry.{Symmetry}
+use Rattle.life_table.specs.declared.table.Table.{Table}
 use Rattle.life_table.specs.declared.table.Transition.{Transition}
 use Rattle.life_table.specs.declared.table.Var.{Var}
 use Rattle.life_table.specs.declared.turn.Turns.{Turns}
@@ -101,8 +102,16 @@ module _ (symmetry : Symmetry) (vars : List Var) (centre : ℕ) (others : List �
   MayGive from set = (k : ℕ) (d : Transition) → k < 64 → from + k < length lines
       → (s : ℕ) → Gives symmetry vars (slice_index_or lines (from + k) d) centre others s → bit_at set k ≡ 1
 
+  -- the lines decide so: a state, or that a line with the number of the fault's gives two
+  abbrev pub IsDecided : Result ℕ Fault → Type 0
+  IsDecided answer = MatchResult answer (λ s. Decides symmetry vars centre others lines (Becomes s))
+      (λ fault. (fault.kind ≡ kinds.Ambiguous) × Decides symmetry vars centre others lines (Ambiguous fault.place.line))
+
   -- the lines decide so, or those before a number give nothing
   abbrev pub AnswersAmong : ℕ → Option (Result ℕ Fault) → Type 0
   AnswersAmong end result = MatchOption result (All (GivesNothing symmetry vars centre others) (take end lines))
-      (λ answer. MatchResult answer (λ s. Decides symmetry vars centre others lines (Becomes s))
-      (λ fault. (fault.kind ≡ kinds.Ambiguous) × Decides symmetry vars centre others lines (Ambiguous fault.place.line)))
+      IsDecided
+
+-- a table tells this of a cell with these states, the centre's first
+abbrev pub TellsNext : Table → List ℕ → Result ℕ Fault → Type 0
+TellsNext table cells = IsDecided table.symmetry table.vars (slice_index cells 0) (drop 1 cells) table.lines

@@ -1,7 +1,7 @@
 //! Entries of variables and transitions.
 
-ghost use Rattle.std.specs.Prelude.{◌≡◌, ◌≤◌, map, IfOk, IfErr, option_map, option_and_then};
-ghost use Rattle.life_table.specs.Words.{entry_of, single, union, states_of_entry, states_listed, entries_of, all_some, between_commas, bytes_alone, IsMemory};
+ghost use Rattle.std.specs.Prelude.{◌≡◌, ◌≤◌, IfOk, IfErr, option_map, option_and_then};
+ghost use Rattle.life_table.specs.Words.{entry_of, single, union, states_of_entry, states_listed, entries_of, AreEntriesOf, between_commas, bytes_alone, IsMemory};
 
 use crate::by_name::Variables;
 use crate::table::Entry;
@@ -88,9 +88,8 @@ impl<'a> Scope<'a> {
     /// The entries of a text between its commas, if each is one.
     fn between_commas(&self, alloc: Global, text: &[u8]) -> Result<Option<Vec<Entry>>, Kind>
         requires most { self.now.n_states ≤ 256 }
-        ensures ok { IfOk result (λ found. option_map (λ entries. entries.items) found
-            ≡ all_some
-            (map (entry_of self.now.n_states self.now.vars.now) (between_commas text.now))) }
+        ensures ok { IfOk result
+            (AreEntriesOf self.now.n_states self.now.vars.now (between_commas text.now)) }
         ensures err { IfErr result IsMemory }
     {
         let mut entries = Vec::new(alloc);
@@ -109,9 +108,8 @@ impl<'a> Scope<'a> {
     /// The entries of a text without commas, one for each byte that isn't whitespace, if each is one.
     fn of_bytes(&self, alloc: Global, text: &[u8]) -> Result<Option<Vec<Entry>>, Kind>
         requires most { self.now.n_states ≤ 256 }
-        ensures ok { IfOk result (λ found. option_map (λ entries. entries.items) found
-            ≡ all_some
-            (map (entry_of self.now.n_states self.now.vars.now) (bytes_alone text.now))) }
+        ensures ok { IfOk result
+            (AreEntriesOf self.now.n_states self.now.vars.now (bytes_alone text.now)) }
         ensures err { IfErr result IsMemory }
     {
         let mut entries = Vec::new(alloc);

@@ -1,6 +1,6 @@
 //! A table with an index of its lines.
 ghost use Rattle.std.specs.Prelude.{◌≡◌, ℕ, ◌+◌, ◌*◌, ◌<◌, ◌≤◌, ◌∷◌, [], List, Contains, length, take, drop, All, Option, MatchResult, slice_index};
-ghost use Rattle.life_table.specs.Words.{bit_at, GivesNothing, Decides, Becomes, Ambiguous, neighbour_count, cells_of, images, AnswersAmong, MayGive, MayFit, AreBlocks, IsQuery, Asks, IsSite, IsLineAt, GoesRound, TurnsAreImages, centre_of, others_of};
+ghost use Rattle.life_table.specs.Words.{bit_at, GivesNothing, Decides, Becomes, Ambiguous, neighbour_count, cells_of, images, AnswersAmong, TellsNext, MayGive, MayFit, AreBlocks, IsQuery, Asks, IsSite, IsLineAt, GoesRound, TurnsAreImages, centre_of, others_of};
 
 use crate::block::{Block, LINES};
 use crate::found::Found;
@@ -150,11 +150,7 @@ fn next_by_blocks(table: &Table, blocks: &[Block], around: &Neighbours) -> Resul
     requires neighbours { length (cells_of around.now)
         ≡ neighbour_count table.now.neighborhood + 1 }
     requires blocks { AreBlocks table.now.vars table.now.lines blocks.now }
-    ensures { MatchResult result (λ s. Decides table.now.symmetry table.now.vars
-        (slice_index (cells_of around.now) 0) (drop 1 (cells_of around.now)) table.now.lines
-        (Becomes s)) (λ fault. (fault.kind ≡ Kind.Ambiguous)
-        × Decides table.now.symmetry table.now.vars (slice_index (cells_of around.now) 0)
-        (drop 1 (cells_of around.now)) table.now.lines (Ambiguous fault.place.line)) }
+    ensures { TellsNext table.now (cells_of around.now) result }
 {
     let cells = around.as_slice();
     let vars = table.vars.as_slice();
@@ -220,11 +216,7 @@ impl<'a> Index<'a> {
         requires neighbours { length (cells_of around.now)
             ≡ neighbour_count self.now.neighborhood + 1 }
         requires states { All (λ s. s < self.now.n_states) (cells_of around.now) }
-        ensures { MatchResult result (λ s. Decides self.now.symmetry self.now.vars
-            (slice_index (cells_of around.now) 0) (drop 1 (cells_of around.now)) self.now.lines
-            (Becomes s)) (λ fault. (fault.kind ≡ Kind.Ambiguous)
-            × Decides self.now.symmetry self.now.vars (slice_index (cells_of around.now) 0)
-            (drop 1 (cells_of around.now)) self.now.lines (Ambiguous fault.place.line)) }
+        ensures { TellsNext self.now (cells_of around.now) result }
     {
         if self.blocks.is_empty() {
             return self.table.next(around);

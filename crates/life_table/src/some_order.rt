@@ -207,34 +207,20 @@ impl Block {
         rest
     }
 
-    /// Of these lines those that have inputs enough for the neighbours of all states but one, whichever that is.
-    fn with_all_but_one(&self, others: &[State], states: &[State], lines: u64) -> u64
-        requires room { length others.now ≤ 8 }
-        requires few { length states.now ≤ 8 }
-        ensures { KeepsOrders self.now others.now lines result }
-    {
-        let mut rest = lines;
-        for i in 0..states.len() {
-            if rest == 0 {
-                return rest;
-            }
-            let (some, count) = chosen(states, 255 ^ 1 << i);
-            rest &= self.with_enough_among(others, &some[..count]);
-        }
-        rest
-    }
-
-    /// Of these lines those that have inputs enough for the neighbours of every choice of states.
+    /// Of these lines those that have inputs enough for the neighbours of every choice of states. Those of all states but one leave the fewest lines,
+    /// so they come first.
     fn with_every_choice(&self, others: &[State], states: &[State], lines: u64) -> u64
         requires room { length others.now ≤ 8 }
         requires few { length states.now ≤ 8 }
         ensures { KeepsOrders self.now others.now lines result }
     {
+        let n = states.len();
         let mut rest = lines;
-        for bits in 1..1 << states.len() {
+        for i in 1..n + (1 << n) {
             if rest == 0 {
                 return rest;
             }
+            let bits = if i <= n { 255 ^ 1 << (i - 1) } else { i - n };
             let (some, count) = chosen(states, bits);
             rest &= self.with_enough_among(others, &some[..count]);
         }
@@ -256,7 +242,6 @@ impl Block {
         if lines.count_ones() <= FEW {
             return lines;
         }
-        lines = self.with_all_but_one(others, states, lines);
         self.with_every_choice(others, states, lines)
     }
 }

@@ -55,7 +55,6 @@ parts : (g : Over) (m : ℕ) (c : goal.next_of_middle-After-join g m) (cells : �
     → let now = g.S.Squares.content c.next_of-4.new.squares in
     AreParts (next_life c.args.rule.now cells) c.args.level x y (now c.in_ok-nw.nw) (now c.in_ok-ne.ne) (now c.in_ok-sw.sw) (now c.in_ok-se.se)
 parts g m c cells x y binary h =
-    let known = c.requires.known in
     let nw = c.in_ok-nw.ensures in
     let ne = c.in_ok-ne.ensures in
     let sw = c.in_ok-sw.ensures in
@@ -63,10 +62,10 @@ parts g m c cells x y binary h =
     let north = keeps-then nw.keeps ne.keeps in
     parts-of_pieces _ _ g.met.S.Squares.full refl x y ne.keeps sw.keeps se.keeps nw.at ne.at sw.at se.at
     (nw.next cells _ _ binary (western-nine _ cells c.western.ensures (first-of_four c.front.ensures h)))
-    (ne.next cells _ _ binary (eastern-nine _ cells c.eastern.ensures (first-of_four c.front-2.ensures (AreSixteen-kept nw.keeps cells known h))))
-    (sw.next cells _ _ binary (western-nine _ cells c.western-2.ensures (last-of_four c.rear.ensures (AreSixteen-kept north cells known h))))
+    (ne.next cells _ _ binary (eastern-nine _ cells c.eastern.ensures (first-of_four c.front-2.ensures (AreSixteen-kept nw.keeps cells c.requires.known h))))
+    (sw.next cells _ _ binary (western-nine _ cells c.western-2.ensures (last-of_four c.rear.ensures (AreSixteen-kept north cells c.requires.known h))))
     (se.next cells _ _ binary (eastern-nine _ cells c.eastern-2.ensures (last-of_four c.rear-2.ensures
-    (AreSixteen-kept (keeps-then north sw.keeps) cells known h))))
+    (AreSixteen-kept (keeps-then north sw.keeps) cells c.requires.known h))))
 
 pub next_of_middle-returns-clause-next : goal.next_of_middle-returns-clause-next
 next_of_middle-returns-clause-next g m c =

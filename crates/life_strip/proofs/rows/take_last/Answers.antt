@@ -1,10 +1,9 @@
 use Rattle.std.proofs.Common.{◌≡◌, ℕ, ◌+◌, ◌-◌, ◌<◌, ◌++◌, ◌∷◌, [], List, length, get_or, Option, Some, None, length-append, arith, sym, ◌∙◌, ap, refl, subst}
 use Rattle.std.specs.Prelude.{slice_get, option_copied, option_to_list, IsSome, MatchOption}
 use Rattle.std.proofs.Math.Seq.{get_or-append_seam}
-use Rattle.std.proofs.lemmas.Option.{get_or_from_slice_get, slice_get_within}
+use Rattle.std.proofs.lemmas.Option.{same_Some, get_or_from_slice_get, slice_get_within}
 use Rattle.life_strip.specs.declared.spans.Strip.{Strip}
 use Rattle.life_strip.specs.Picture.{IsNotLast}
-use Rattle.life_strip.proofs.SpanLemmas.{Some-is}
 use Rattle.life_strip.proofs.rows.take_last.Goals as goal
 
 -- the last strip is taken, and it has its level
@@ -29,7 +28,7 @@ pub returns-then-last-level : goal.returns-then-last-level
 returns-then-last-level c =
     let at = subst (λ z. slice_get z (length z - 1) ≡ Some c.in-Some.last.now) c.deref.ensures.value
     (sym c.last.ensures.value ∙ ap option_copied c.in-Some.is) in
-    (refl, λ last there same. c.if-last-level.true (ap (λ s. s.level) (Some-is (sym at ∙ there)) ∙ same))
+    (refl, λ last there same. c.if-last-level.true (ap (λ s. s.level) (same_Some _ _ (sym at ∙ there)) ∙ same))
 
 pub returns : goal.returns
 returns c =

@@ -1,7 +1,7 @@
 use Rattle.std.proofs.Common.{◌<◌, get_or, ap, arith}
+use Rattle.std.proofs.lemmas.List.{get_or_default}
 use Rattle.life_strip.specs.declared.spans.Span.{Span}
 use Rattle.life_strip.proofs.WordLemmas.{span-at, gap-at, past-none}
-use Rattle.life_strip.proofs.SpanLemmas.{get_any}
 use Rattle.life_strip.proofs.spans.place_at.Goals as goal
 
 -- of an index that is none of the strip
@@ -9,24 +9,11 @@ abbrev none : Span
 none = record { start = 0; end = 0; square = record { 0 = 0 } }
 
 pub returns-then-index-spans : goal.returns-then-index-spans
-returns-then-index-spans c = record {
-  past = c.requires.past;
-  from = omega (arith, c.requires.column);
-  beyond = c.requires.column;
-  none = λ x from lt. past-none c.args.spans.now c.args.index c.args.column c.requires.past (omega (arith, c.if-index-spans.true)) x from;
-  some = λ x from lt. absurd (omega (arith, from, lt));
-  span = λ d lt. absurd (omega (arith, lt, c.if-index-spans.true));
-  over = λ le. omega arith;
-  order = omega arith;
-  within = λ side before lt. absurd (omega (arith, lt));
-}
-
-pub returns : goal.returns
-returns c =
+returns-then-index-spans c =
     let spans = c.args.spans.now in
     let index = c.args.index in
     let s = get_or spans index none in
-    let inside = c.if-index-spans.false in
+    let inside = c.if-index-spans.true in
     let first = c.max.ensures in
     let ends : c.args.column < s.end = c.requires.ends none inside in
     let some = c.requires.columns index none inside in record {
@@ -36,8 +23,21 @@ returns c =
       none = λ x from lt. gap-at spans index c.args.column none c.requires.past inside x from (omega (arith, first, from, lt))
           (omega (arith, first, from, lt, some));
       some = λ x from lt. span-at spans index c.args.column none c.requires.past inside x (omega (arith, first, from)) (omega (arith, first, from)) lt;
-      span = λ d lt. ap (λ z. z.end) (get_any spans index none d inside);
+      span = λ d lt. ap (λ z. z.end) (get_or_default spans index none d inside);
       over = λ le. absurd (omega (arith, le, inside));
       order = omega (arith, first, ends, some);
       within = λ side before lt. (omega (arith, first, ends, some), (before index none inside).1);
     }
+
+pub returns : goal.returns
+returns c = record {
+  past = c.requires.past;
+  from = omega (arith, c.requires.column);
+  beyond = c.requires.column;
+  none = λ x from lt. past-none c.args.spans.now c.args.index c.args.column c.requires.past (omega (arith, c.if-index-spans.false)) x from;
+  some = λ x from lt. absurd (omega (arith, from, lt));
+  span = λ d lt. absurd (omega (arith, lt, c.if-index-spans.false));
+  over = λ le. omega arith;
+  order = omega arith;
+  within = λ side before lt. absurd (omega (arith, lt));
+}

@@ -24,8 +24,8 @@ begun : (g : Over) (c : goal.After-extend g) → AreBefore c.offset-column.resul
 begun g c k d lt =
     let ex = column_of_run c.args.run c.offset-column.result c.requires.inside c.requires.positive c.offset-column.ensures in
     let ey = row_of_run c.args.run c.offset-row.result c.requires.inside c.offset-row.ensures in (
-      (c.in_ok-go_to_row.ensures.filled.row.sound.within k d lt).0,
-      c.in_ok-go_to_row.ensures.ends c.offset-column.result
+      (c.in_ok-go_to_row.ensures.begun.filled.row.sound.within k d lt).0,
+      c.in_ok-go_to_row.ensures.begun.ends c.offset-column.result
           (next_ends c.args.self.now c.args.run.x c.args.run.y c.offset-column.result c.offset-row.result ex ey c.requires.free) k d lt,
     )
 
@@ -36,9 +36,9 @@ returns-clause-cells g c =
     let K = g.S.Squares.knows c.go_to_row.new.squares in
     let C = g.S.Squares.content c.go_to_row.new.squares in
     let self = c.go_to_row.new.self in
-    let fill = c.in_ok-go_to_row.ensures.filled in
+    let fill = c.in_ok-go_to_row.ensures.begun.filled in
     let row : Strip = record { level = self.row.level; spans = c.extend.new.spans } in
-    let height_is : height (strips_of self.pile) ≡ c.offset-row.result = fill.rows ∙ c.in_ok-go_to_row.ensures.rows in
+    let height_is : height (strips_of self.pile) ≡ c.offset-row.result = fill.rows ∙ c.in_ok-go_to_row.ensures.begun.rows in
     on_ok_map c.extend.result
     (λ extended.
     let columns = extended-columns self.row.spans.items row.spans.items c.offset-column.result (c.offset-column.result + c.args.run.len) c.cell-square.result
@@ -50,7 +50,7 @@ returns-clause-cells g c =
     c.args.run c.offset-column.result c.offset-row.result c.requires.inside ex ey
     (λ i j. picture_pushed C (strips_of self.pile) self.row row c.offset-column.result c.args.run.len c.args.run.state fill.row.level fill.row.level
     states i j
-    ∙ (λ k. if is_in_span c.offset-column.result (height_is k) c.args.run.len i j then c.args.run.state else c.in_ok-go_to_row.ensures.picture i j k)))
+    ∙ (λ k. if is_in_span c.offset-column.result (height_is k) c.args.run.len i j then c.args.run.state else c.in_ok-go_to_row.ensures.begun.picture i j k)))
     c.extend.ensures.columns
 
 pub go_to_row-requires-clause-filled : goal.go_to_row-requires-clause-filled
@@ -63,7 +63,7 @@ returns-clause-filled g c =
     let C = g.S.Squares.content c.go_to_row.new.squares in
     let old = c.go_to_row.new.self.row.spans.items in
     let new = c.extend.new.spans.items in
-    let fill = c.in_ok-go_to_row.ensures.filled in
+    let fill = c.in_ok-go_to_row.ensures.begun.filled in
     let known : IsStrip K C 0 old = subst (λ n. IsStrip K C n old) fill.row.level fill.row.sound.squares in
     on_ok_map c.extend.result
     (λ extended.
@@ -94,7 +94,7 @@ returns-clause-below g c =
     let ey = row_of_run c.args.run c.offset-row.result c.requires.inside c.offset-row.ensures in
     on_ok_map c.extend.result
     (λ extended i j below. below_run (record c.go_to_row.new.self { row = record c.go_to_row.new.self.row { spans = c.extend.new.spans } }) c.args.run.y i j
-    c.offset-row.result ey c.in_ok-go_to_row.ensures.rows below)
+    c.offset-row.result ey c.in_ok-go_to_row.ensures.begun.rows below)
     c.extend.ensures.columns
 
 pub returns-clause-beside : goal.returns-clause-beside
@@ -104,7 +104,7 @@ returns-clause-beside g c =
     on_ok_map c.extend.result
     (λ extended i beside. beside_run (record c.go_to_row.new.self { row = record c.go_to_row.new.self.row { spans = c.extend.new.spans } })
     c.args.run.x c.args.run.y i c.offset-column.result c.offset-row.result c.args.run.len
-    ex ey c.in_ok-go_to_row.ensures.rows (λ k d lt. ((extended (begun g c)).before k d lt).1) beside)
+    ex ey c.in_ok-go_to_row.ensures.begun.rows (λ k d lt. ((extended (begun g c)).before k d lt).1) beside)
     c.extend.ensures.columns
 
 -- the row of a run, counted from the edge of the plane

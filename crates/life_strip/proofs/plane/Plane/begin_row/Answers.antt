@@ -22,13 +22,18 @@ end_row-requires-clause-row g c =
 pub end_row-requires-clause-room : goal.end_row-requires-clause-room
 end_row-requires-clause-room g c = omega (arith, c.requires.filled.rows, c.requires.later, c.requires.inside)
 
-pub returns-clause-picture : goal.returns-clause-picture
-returns-clause-picture g c i j =
-    picture-blank (g.S.Squares.content c.end_row.new.squares) (strips_of c.end_row.new.self) c.replace-begun.new.dest
-    (ap (λ s. s.spans.items) c.replace-begun.ensures.after ∙ c.in_ok-spans.ensures.empty) i j
-    ∙ c.in_ok-end_row.ensures.picture i j
-    ∙ ap (λ s. picture (g.S.Squares.content c.args.squares.now) (strips_of c.args.self.now.pile ++ s ∷ []) i j)
-    c.replace-begun.ensures.value
+pub returns-clause-begun : goal.returns-clause-begun
+returns-clause-begun g c = record {
+  filled = search rules;
+  rows = refl;
+  ends = search rules;
+  picture = λ i j.
+      picture-blank (g.S.Squares.content c.end_row.new.squares) (strips_of c.end_row.new.self) c.replace-begun.new.dest
+      (ap (λ s. s.spans.items) c.replace-begun.ensures.after ∙ c.in_ok-spans.ensures.empty) i j
+      ∙ c.in_ok-end_row.ensures.picture i j
+      ∙ ap (λ s. picture (g.S.Squares.content c.args.squares.now) (strips_of c.args.self.now.pile ++ s ∷ []) i j)
+      c.replace-begun.ensures.value;
+}
 
 -- a square of the rows that are over and of the row before is one of the plane so far
 of-rows : (content : Id → Tree) (xs : List Strip) (begun row : Strip) (rows all : ℕ) → begun ≡ row → rows ≤ all → (P : Tree → Type 0)

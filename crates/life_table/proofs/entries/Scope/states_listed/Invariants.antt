@@ -1,15 +1,11 @@
-use Rattle.std.proofs.Common.{◌≡◌, ◌+◌, List, [], ◌∷◌, length, map, ℕ}
-use Rattle.std.specs.Prelude.{option_and_then, Option}
+use Rattle.std.proofs.Common.{◌≡◌, ◌+◌, [], ◌∷◌, length, map}
 use Rattle.std.specs.Option.{option_map_or}
 use Rattle.life_base.specs.Text.{trim}
-use Rattle.life_table.specs.Reading.{entry_of, all_some, between_commas, states_of_entry}
+use Rattle.life_table.specs.Reading.{all_some, between_commas}
 use Rattle.life_table.specs.Reader.{parts_left}
 use Rattle.life_table.proofs.Listed.{united}
-use Rattle.life_table.specs.declared.table.Var.{Var}
+use Rattle.life_table.proofs.Values.{set_named}
 use Rattle.life_table.proofs.entries.Scope.states_listed.Given as goal
-
-abbrev pub set_named : ℕ → List Var → List ℕ → Option (List ℕ)
-set_named n_states vars word = option_and_then (states_of_entry vars) (entry_of n_states vars word)
 
 abbrev pub invariant-loop-rest : goal.invariant-loop-rest
 invariant-loop-rest l =

@@ -1,6 +1,0 @@
-use Rattle.life_table.specs.Index.{KeepsOrders}
-use Rattle.life_table.proofs.block.Block.with_all_but_one.Given as goal
-
--- the lines that may fit an order stay
-abbrev pub invariant-loop-i : goal.invariant-loop-i
-invariant-loop-i l = KeepsOrders l.self l.others l.lines l.rest
