@@ -8,7 +8,7 @@ const MOST: u32 = 1 << 22;
 
 /// What was read of the way that a byte is written.
 #[derive(Clone, Copy, PartialEq, Eq)]
-enum State {
+enum Escape {
     /// Nothing.
     Between,
     /// A backslash.
@@ -40,62 +40,62 @@ fn with_digit(number: u32, digit: u8) -> Option<u32> {
 #[derive(Drop)]
 struct Bytes {
     read: Vec<u8>,
-    state: State,
+    state: Escape,
     /// How many times the next byte stands there.
     times: u32,
 }
 
 impl Bytes {
     /// Adds a byte, as often as was said in front of it.
-    fn put(&mut self, byte: u8) -> Result<State, Unanswered> {
+    fn put(&mut self, byte: u8) -> Result<Escape, Unanswered> {
         for _ in 0..self.times {
             self.read.push(byte)?;
         }
         self.times = 1;
-        Ok(State::Between)
+        Ok(Escape::Between)
     }
 
     /// Takes a byte behind a backslash.
-    fn take_escape(&mut self, byte: u8) -> Result<State, Unanswered> {
+    fn take_escape(&mut self, byte: u8) -> Result<Escape, Unanswered> {
         match byte {
             b't' => self.put(b'\t'),
             b'r' => self.put(b'\r'),
             b'\\' => self.put(b'\\'),
-            b'x' => Ok(State::Hexadecimal),
-            b'0'..=b'9' => Ok(State::Number(u32::from(byte - b'0'))),
+            b'x' => Ok(Escape::Hexadecimal),
+            b'0'..=b'9' => Ok(Escape::Number(u32::from(byte - b'0'))),
             _ => Err(Unanswered::BadEscape),
         }
     }
 
     /// Takes a byte behind a backslash and a number.
-    fn take_number(&mut self, number: u32, byte: u8) -> Result<State, Unanswered> {
+    fn take_number(&mut self, number: u32, byte: u8) -> Result<Escape, Unanswered> {
         match byte {
-            b'0'..=b'9' => Ok(State::Number(with_digit(number, byte - b'0').ok_or(
+            b'0'..=b'9' => Ok(Escape::Number(with_digit(number, byte - b'0').ok_or(
                 Unanswered::BadEscape,
             )?)),
             b'*' => {
                 self.times = number;
-                Ok(State::Between)
+                Ok(Escape::Between)
             }
             _ => Err(Unanswered::BadEscape),
         }
     }
 
     /// Takes a byte of the text.
-    fn take(&mut self, byte: u8) -> Result<State, Unanswered> {
+    fn take(&mut self, byte: u8) -> Result<Escape, Unanswered> {
         match self.state {
-            State::Between if byte == b'\\' => Ok(State::Backslash),
-            State::Between if byte == b';' => self.put(b'\n'),
-            State::Between => self.put(byte),
-            State::Backslash => self.take_escape(byte),
-            State::Hexadecimal => Ok(State::HighDigit(digit_of(byte).ok_or(
+            Escape::Between if byte == b'\\' => Ok(Escape::Backslash),
+            Escape::Between if byte == b';' => self.put(b'\n'),
+            Escape::Between => self.put(byte),
+            Escape::Backslash => self.take_escape(byte),
+            Escape::Hexadecimal => Ok(Escape::HighDigit(digit_of(byte).ok_or(
                 Unanswered::BadEscape,
             )?)),
-            State::HighDigit(high) => {
+            Escape::HighDigit(high) => {
                 let low = digit_of(byte).ok_or(Unanswered::BadEscape)?;
                 self.put((high << 4) | low)
             }
-            State::Number(number) => self.take_number(number, byte),
+            Escape::Number(number) => self.take_number(number, byte),
         }
     }
 }
@@ -104,13 +104,13 @@ impl Bytes {
 pub(crate) fn bytes_of(alloc: Global, text: &[u8]) -> Result<Vec<u8>, Unanswered> {
     let mut bytes = Bytes {
         read: Vec::new(alloc),
-        state: State::Between,
+        state: Escape::Between,
         times: 1,
     };
     for byte in text {
         bytes.state = bytes.take(*byte)?;
     }
-    if bytes.state != State::Between || bytes.times != 1 {
+    if bytes.state != Escape::Between || bytes.times != 1 {
         return Err(Unanswered::BadEscape);
     }
     Ok(bytes.read)

@@ -11,7 +11,7 @@ use life_base::{Device, Kind};
 use life_cli::plans::{KeysPlan, Plan, Request, Usage};
 use life_cli::{Seeds, open_files, refuse, report, request, work, write_keys};
 use opening::{HeldStreams, hold_closed_streams, open, open_no_folder};
-use progress::{Beside, Progress};
+use progress::{Beside, ProgressLine};
 use std::process::ExitCode;
 use std::{env, io};
 
@@ -56,7 +56,7 @@ fn write_keys_beside(
     held: &HeldStreams,
     seeds: &Seeds,
     plan: &KeysPlan<'_>,
-    progress: &Progress,
+    progress: &ProgressLine,
 ) -> u8 {
     let mut out = Device::new(Beside {
         stream: rt.stdout(),
@@ -86,7 +86,7 @@ fn carry_out_keys(rt: &HostRuntime, held: &HeldStreams, plan: &KeysPlan<'_>) -> 
     let Ok(seeds) = Seeds::drawn(rt) else {
         return refuse(&mut Device::new(rt.stderr()), Kind::ReadFault);
     };
-    let progress = Progress::new(rt, plan);
+    let progress = ProgressLine::new(rt, plan);
     let status = write_keys_beside(rt, held, &seeds, plan, &progress);
     progress.clear();
     status

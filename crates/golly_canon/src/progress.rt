@@ -31,7 +31,7 @@ fn total(plan: &KeysPlan<'_>) -> Option<usize> {
 
 /// The line on standard error. Where that is no terminal, nothing is written and no clock is read.
 #[derive(Drop)]
-pub(crate) struct Progress {
+pub(crate) struct ProgressLine {
     terminal: Stderr,
     // When the run began, where the line is shown.
     begin: Option<Instant>,
@@ -46,12 +46,12 @@ pub(crate) struct Progress {
     stands: Cell<bool>,
 }
 
-impl Progress {
+impl ProgressLine {
     /// The line of a run that begins.
-    pub(crate) fn new(rt: &HostRuntime, plan: &KeysPlan<'_>) -> Progress {
+    pub(crate) fn new(rt: &HostRuntime, plan: &KeysPlan<'_>) -> ProgressLine {
         let terminal = rt.stderr();
         let is_shown = terminal.is_terminal();
-        Progress {
+        ProgressLine {
             terminal,
             begin: if is_shown {
                 Instant::now(rt).ok()
@@ -107,7 +107,7 @@ impl Progress {
 #[derive(Drop)]
 pub(crate) struct Beside<'a, W> {
     pub stream: W,
-    pub progress: &'a Progress,
+    pub progress: &'a ProgressLine,
     /// Whether the stream is the terminal of the line.
     pub clears: bool,
 }

@@ -10,7 +10,7 @@ use Rattle.life_base.specs.declared.rule.Near.{Near}
 use Rattle.life_base.specs.declared.rule.Near.TheVariants.{Moore, VonNeumann}
 use Rattle.life_sweep.specs.Generation.{before, after, next_by_count, next_life}
 use Rattle.life_table.specs.Meaning.{count_of}
-use Rattle.life_block.specs.Bits.{Words, counted_in, place_in, HasSquare, HasBand}
+use Rattle.life_block.specs.Bits.{RowWords, counted_in, place_in, HasSquare, HasBand}
 use Rattle.life_block.specs.Pieces.{ahead}
 use Rattle.life_block.proofs.CountLemmas.{four, eight}
 use Rattle.life_block.proofs.PlaceLemmas.{shl-high}
@@ -112,7 +112,7 @@ four-mirrored : (a b c d : ℕ) → a < 2 → b < 2 → c < 2 → d < 2 → coun
 four-mirrored a b c d la lb lc ld =
     let same : a + b + c + d ≡ a + d + c + b = omega arith in sym (four a b c d la lb lc ld) ∙ same ∙ four a d c b la ld lc lb
 
-module _ (rule : OuterTotalistic) (cells : ℤ → ℤ → ℕ) (x y : ℤ) (w : Words) (hn : HasBand cells x (before y) w.north) (hh : HasBand cells x y w.here)
+module _ (rule : OuterTotalistic) (cells : ℤ → ℤ → ℕ) (x y : ℤ) (w : RowWords) (hn : HasBand cells x (before y) w.north) (hh : HasBand cells x y w.here)
     (hs : HasBand cells x (after y) w.south) where
   -- the state behind a place among four rows
   module _ (r i : ℕ) (lr : r < 4) (li : i < 14) where

@@ -6,7 +6,7 @@ use Rattle.std.proofs.lemmas.Nat.Bits.{bit_at-lt}
 use Rattle.life_base.specs.declared.rule.Near.{Near}
 use Rattle.life_base.specs.declared.rule.Near.TheVariants.{Moore, VonNeumann}
 use Rattle.life_table.specs.Meaning.{count_of}
-use Rattle.life_block.specs.Bits.{Words, counted_in}
+use Rattle.life_block.specs.Bits.{RowWords, counted_in}
 
 -- a state of 0 or 1 counts as itself
 one : (a : ℕ) → a < 2 → cond (nat_eq 1 a) 1 0 ≡ a
@@ -42,7 +42,7 @@ few-four a b c d n la lb lc ld is =
     omega (arith, is, sum, la, lb, lc, ld)
 
 -- eight neighbours at most
-pub few-counted : (near : Near) (w : Words) (i n : ℕ) → n ≡ count_of 1 (counted_in near w i) → n ≤ 8
+pub few-counted : (near : Near) (w : RowWords) (i n : ℕ) → n ≡ count_of 1 (counted_in near w i) → n ≤ 8
 few-counted Moore w i n is =
     few-eight _ _ _ _ _ _ _ _ n (bit_at-lt w.north (i + 1)) (bit_at-lt w.north (i + 2)) (bit_at-lt w.here (i + 2)) (bit_at-lt w.south (i + 2))
     (bit_at-lt w.south (i + 1)) (bit_at-lt w.south i)

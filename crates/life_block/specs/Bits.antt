@@ -3,32 +3,32 @@ use Rattle.std.specs.Prelude.{◌≡◌, ℕ, ◌+◌, ◌-◌, ◌*◌, ◌/◌
 use Rattle.std.specs.Int.{bit_at}
 use Rattle.life_base.specs.declared.rule.Near.{Near}
 use Rattle.life_base.specs.declared.rule.Near.TheVariants.{Moore, VonNeumann}
-use Rattle.life_block.specs.declared.counts.Counts.{Counts}
+use Rattle.life_block.specs.declared.counts.BitCounts.{BitCounts}
 use Rattle.life_block.specs.declared.grid.Four.{Four}
 use Rattle.life_block.specs.Pieces.{AreFourAt, back}
 use Rattle.life_sweep.specs.declared.column.Column.{Column}
 
 -- a word of cells, and those of the rows one further north and south
-abbrev pub Words : Type 0
-Words = Column ℕ
+abbrev pub RowWords : Type 0
+RowWords = Column ℕ
 
 -- the states of the neighbours of place i of the 62 between the first bit and the last, from north around
-abbrev pub neighbours_in : Words → ℕ → List ℕ
+abbrev pub neighbours_in : RowWords → ℕ → List ℕ
 neighbours_in w i =
     bit_at w.north (i + 1) ∷ bit_at w.north (i + 2) ∷ bit_at w.here (i + 2) ∷ bit_at w.south (i + 2)
     ∷ bit_at w.south (i + 1) ∷ bit_at w.south i ∷ bit_at w.here i ∷ bit_at w.north i ∷ []
 
 -- of the four of them that share a side with the place, from north around
-abbrev pub sides_in : Words → ℕ → List ℕ
+abbrev pub sides_in : RowWords → ℕ → List ℕ
 sides_in w i = bit_at w.north (i + 1) ∷ bit_at w.here (i + 2) ∷ bit_at w.south (i + 1) ∷ bit_at w.here i ∷ []
 
 -- of the neighbours that count
-abbrev pub counted_in : Near → Words → ℕ → List ℕ
+abbrev pub counted_in : Near → RowWords → ℕ → List ℕ
 counted_in Moore = neighbours_in
 counted_in VonNeumann = sides_in
 
 -- the number that the four words have in column i
-abbrev pub count_at : Counts → ℕ → ℕ
+abbrev pub count_at : BitCounts → ℕ → ℕ
 count_at c i = bit_at c.ones i + 2 * bit_at c.twos i + 4 * bit_at c.fours i + 8 * bit_at c.eights i
 
 -- the place of a cell among the sixteen of a square of level 2, by its row and its column, where the cells of each quarter stand together

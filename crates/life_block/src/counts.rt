@@ -6,11 +6,11 @@ use life_base::{LifeRule, Near};
 use life_sweep::Column;
 
 /// A word of cells, and those of the rows one further north and south. Bits i and i + 2 stand beside bit i + 1 in its row.
-pub(crate) type Words = Column<u64>;
+pub(crate) type RowWords = Column<u64>;
 
 /// A number of 0 to 15 for each place.
 #[derive(Clone, Copy)]
-pub(crate) struct Counts {
+pub(crate) struct BitCounts {
     pub(crate) ones: u64,
     pub(crate) twos: u64,
     pub(crate) fours: u64,
@@ -27,7 +27,7 @@ fn add(a: u64, b: u64, c: u64) -> (u64, u64)
 }
 
 // How many of the eight neighbours of each place are alive.
-fn live_neighbours(words: &Words) -> Counts
+fn live_neighbours(words: &RowWords) -> BitCounts
     ensures { (i : ℕ) → count_at result i ≡ count_of 1 (neighbours_in words.now i) }
 {
     let (north, north_twos) = add(words.north, words.north >> 1, words.north >> 2);
@@ -37,7 +37,7 @@ fn live_neighbours(words: &Words) -> Counts
     let (all_twos, all_fours) = add(north_twos, here_twos, south_twos);
     let (twos, carried_fours) = add(carried_twos, all_twos, 0);
     let (fours, eights) = add(all_fours, carried_fours, 0);
-    Counts {
+    BitCounts {
         ones,
         twos,
         fours,
@@ -46,13 +46,13 @@ fn live_neighbours(words: &Words) -> Counts
 }
 
 // How many of the four neighbours of each place that share a side with it are alive.
-fn live_sides(words: &Words) -> Counts
+fn live_sides(words: &RowWords) -> BitCounts
     ensures { (i : ℕ) → count_at result i ≡ count_of 1 (sides_in words.now i) }
 {
     let (three, three_twos) = add(words.north >> 1, words.here, words.here >> 2);
     let (ones, carried_twos) = add(three, words.south >> 1, 0);
     let (twos, fours) = add(three_twos, carried_twos, 0);
-    Counts {
+    BitCounts {
         ones,
         twos,
         fours,
@@ -61,7 +61,7 @@ fn live_sides(words: &Words) -> Counts
 }
 
 // How many of the neighbours of each place that count are alive.
-fn live_counted(near: Near, words: &Words) -> Counts
+fn live_counted(near: Near, words: &RowWords) -> BitCounts
     ensures { (i : ℕ) → count_at result i ≡ count_of 1 (counted_in near words.now i) }
 {
     match near {
@@ -78,7 +78,7 @@ fn with_digit(digits: u64, one: bool) -> u64
     if one { digits } else { !digits }
 }
 
-impl Counts {
+impl BitCounts {
     // The columns that have this number.
     fn columns_with(&self, count: u8) -> u64
         requires { count < 16 }
@@ -108,7 +108,7 @@ impl Counts {
 }
 
 /// The next states of the 62 places between the first column and the last, under a B/S rule: bit i is that of place i.
-pub(crate) fn next_word(words: &Words, rule: &LifeRule) -> u64
+pub(crate) fn next_word(words: &RowWords, rule: &LifeRule) -> u64
     ensures { (i : ℕ) → i < 62 → bit_at result i
         ≡ next_by_count rule.now.sets (bit_at words.now.here (i + 1))
         (count_of 1 (counted_in rule.now.near words.now i)) }

@@ -117,10 +117,10 @@ module _ (top : ℕ) (rule : Rule) (levels : List ℕ) (low : top ≤ 255) (few 
   abbrev plain : Bool → List (List ℕ) → Option Line
   plain v words = cond v (quad_of (map value_of words)) None
 
-  abbrev directive : Bool → List (List ℕ) → Option Line
-  directive v words = cond v (quad_of (map (λ word. capped (value_of word)) words)) None
+  abbrev meaning : Bool → List (List ℕ) → Option Line
+  meaning v words = cond v (quad_of (map (λ word. capped (value_of word)) words)) None
 
-  quad_by : (v : Bool) (words : List (List ℕ)) (q : Line) → Some q ≡ directive v words
+  quad_by : (v : Bool) (words : List (List ℕ)) (q : Line) → Some q ≡ meaning v words
       → (broken_by_square top rule levels (Some q) ≡ broken_by_square top rule levels (plain v words))
       × (broken_by_square top rule levels (Some q) ≡ None → plain v words ≡ Some q)
   quad_by false words q h = absurd (no h)
@@ -140,7 +140,7 @@ module _ (top : ℕ) (rule : Rule) (levels : List ℕ) (low : top ≤ 255) (few 
   quad_by true (a ∷ b ∷ c ∷ d ∷ []) q h = cc
   quad_by true (a ∷ b ∷ c ∷ d ∷ e ∷ f ∷ words) q h = cc
 
-  none_by : (v : Bool) (words : List (List ℕ)) → None ≡ directive v words → plain v words ≡ None
+  none_by : (v : Bool) (words : List (List ℕ)) → None ≡ meaning v words → plain v words ≡ None
   none_by false words h = refl
   none_by true (a ∷ b ∷ c ∷ d ∷ e ∷ []) h = cc
   none_by true [] h = refl

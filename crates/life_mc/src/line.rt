@@ -20,7 +20,7 @@ pub enum Line {
 
 /// What a line behind the header is. One that is blank or a comment is nothing.
 #[derive(Drop)]
-pub(crate) enum Directive {
+pub(crate) enum Meaning {
     Nothing,
     RuleLine(Rule),
     GenerationLine(u64),
@@ -65,11 +65,11 @@ fn parse_command(
     rule: &Rule,
     levels: &[u8],
     line: &[u8],
-) -> Result<Option<Directive>, Kind>
+) -> Result<Option<Meaning>, Kind>
     ensures { IsCommandRead MAX_LEVEL rule.now levels.now line.now result }
 {
     if is_blank(line) {
-        return Ok(Some(Directive::Nothing));
+        return Ok(Some(Meaning::Nothing));
     }
     if begins_with(line, b"#FRAME") {
         return Err(Kind::Timeline);
@@ -78,16 +78,16 @@ fn parse_command(
         if !levels.is_empty() {
             return Err(Kind::LateHeader);
         }
-        return Ok(Some(Directive::RuleLine(Rule::parse(alloc, &line[2..])?)));
+        return Ok(Some(Meaning::RuleLine(Rule::parse(alloc, &line[2..])?)));
     }
     if is_command(b'G', line) {
         if !levels.is_empty() {
             return Err(Kind::LateHeader);
         }
-        return Ok(Some(Directive::GenerationLine(read_generation(&line[2..])?)));
+        return Ok(Some(Meaning::GenerationLine(read_generation(&line[2..])?)));
     }
     if begins_with(line, b"#") {
-        return Ok(Some(Directive::Nothing));
+        return Ok(Some(Meaning::Nothing));
     }
     Ok(None)
 }
@@ -98,17 +98,17 @@ pub(crate) fn parse_line(
     rule: &Rule,
     levels: &[u8],
     line: &[u8],
-) -> Result<Directive, Kind>
+) -> Result<Meaning, Kind>
     requires { length levels.now < 2 ^ 64 - 1 }
-    ensures { MatchResult result (λ directive. IsParsed line.now directive
+    ensures { MatchResult result (λ meaning. IsParsed line.now meaning
         × (broken_after MAX_LEVEL rule.now levels.now line.now ≡ None))
         (λ kind. (kind ≡ Memory)
         ⊎ (broken_after MAX_LEVEL rule.now levels.now line.now ≡ Some kind)) }
 {
     if !begins_as_node(line) {
-        if let Some(directive) = parse_command(alloc, rule, levels, line)? {
-            return Ok(directive);
+        if let Some(meaning) = parse_command(alloc, rule, levels, line)? {
+            return Ok(meaning);
         }
     }
-    Ok(Directive::NodeLine(read_node(rule, levels, line)?))
+    Ok(Meaning::NodeLine(read_node(rule, levels, line)?))
 }

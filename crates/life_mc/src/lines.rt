@@ -3,7 +3,7 @@
 ghost use Rattle.std.specs.Prelude.{◌≡◌};
 ghost use Rattle.life_mc.specs.Words.{level_of, IsMemory};
 
-use crate::line::{Directive, Line, parse_line};
+use crate::line::{Line, Meaning, parse_line};
 use life_base::{Kind, LineLog, MAX_LEVEL, Rule, begins_with, is_too_long};
 use std::alloc::Global;
 use std::marker::Model;
@@ -76,33 +76,33 @@ impl Kept {
             self.started = true;
             return Ok(None);
         }
-        let directive = parse_line(self.alloc, &self.rule, &self.levels, line)?;
-        self.keep(directive)
+        let meaning = parse_line(self.alloc, &self.rule, &self.levels, line)?;
+        self.keep(meaning)
     }
 
     /// Keeps what a line is, and answers its square.
-    fn keep(&mut self, directive: Directive) -> Result<Option<Line>, Kind>
-        ensures square { IfOk result (λ square. square ≡ form_square (form_of directive)) }
+    fn keep(&mut self, meaning: Meaning) -> Result<Option<Line>, Kind>
+        ensures square { IfOk result (λ square. square ≡ form_square (form_of meaning)) }
         ensures rule { OnOk result
-            (self.new.rule ≡ unwrap_or (form_rule (form_of directive)) self.old.rule) }
+            (self.new.rule ≡ unwrap_or (form_rule (form_of meaning)) self.old.rule) }
         ensures generation { OnOk result (self.new.generation
-            ≡ unwrap_or (form_generation (form_of directive)) self.old.generation) }
+            ≡ unwrap_or (form_generation (form_of meaning)) self.old.generation) }
         ensures levels { OnOk result
-            (self.new.levels ≡ self.old.levels ++ level_in (form_square (form_of directive))) }
+            (self.new.levels ≡ self.old.levels ++ level_in (form_square (form_of meaning))) }
         ensures started { self.new.started ≡ self.old.started }
         ensures err { IfErr result IsMemory }
     {
-        match directive {
-            Directive::Nothing => Ok(None),
-            Directive::RuleLine(rule) => {
+        match meaning {
+            Meaning::Nothing => Ok(None),
+            Meaning::RuleLine(rule) => {
                 self.rule = rule;
                 Ok(None)
             }
-            Directive::GenerationLine(generation) => {
+            Meaning::GenerationLine(generation) => {
                 self.generation = generation;
                 Ok(None)
             }
-            Directive::NodeLine(square) => {
+            Meaning::NodeLine(square) => {
                 self.levels.push(level_of_square(&square))?;
                 Ok(Some(square))
             }

@@ -9,7 +9,7 @@ use Rattle.life_base.specs.Tree.{Tree, quad, blank}
 use Rattle.life_strip.specs.declared.spans.Span.{Span}
 use Rattle.life_strip.specs.declared.spans.Stretch.{Stretch}
 use Rattle.life_strip.specs.Strip.{id_at, square_or_blank, square_at, quad_at, IsStrip, IsFound, IsBefore, IsNearer, AreBefore, AreWithin, EndsAfter, IsExtended, Rise}
-use Rattle.life_strip.specs.declared.words.Words.{Words}
+use Rattle.life_strip.specs.declared.words.TwoWords.{TwoWords}
 use Rattle.life_strip.specs.Band.{four_at, cell_in, IsWord, west_at, east_at, cells_at}
 use Rattle.std.proofs.Math.ListN.{set, length-set}
 use Rattle.std.proofs.lemmas.List.{get_or_default, get_or-set_same, get_or-set_other}
@@ -243,7 +243,7 @@ nearest-inside {a} {b} {c} {d} {column} {end} {i} {fa} {fb} {fc} {fd} {n} {s} ha
 words-square : {knows knows' : Id → Type 0} {old now : Id → Tree} → Keeps knows knows' old now → (a b c d : List Span) → IsStrip knows old 0 a
     → IsStrip knows old 0 b → IsStrip knows old 0 c → IsStrip knows old 0 d
     → IsStrip knows' now 0 a → IsStrip knows' now 0 b → IsStrip knows' now 0 c → IsStrip knows' now 0 d
-    → (start : ℕ) (upper lower : Words) → IsWord (cell_in now a) start upper.north.cells → IsWord (cell_in now b) start upper.south.cells
+    → (start : ℕ) (upper lower : TwoWords) → IsWord (cell_in now a) start upper.north.cells → IsWord (cell_in now b) start upper.south.cells
     → IsWord (cell_in now c) start lower.north.cells → IsWord (cell_in now d) start lower.south.cells
     → (square column : ℕ) → square < 16 → 4 * column ≡ start + 4 * square → four (cells_at upper lower square) ≡ four_at old a b c d column
 words-square {knows} {knows'} {old} {now} keeps a b c d ka kb kc kd ma mb mc md start upper lower ha hb hc hd square column lt e =
@@ -260,7 +260,7 @@ pub words-wanted : {S : Type 0} {knows : S → Id → Type 0} {content : S → I
     → KeepsSquares knows content stored most old new
     → (a b c d : List Span) → IsStrip (knows old) (content old) 0 a → IsStrip (knows old) (content old) 0 b → IsStrip (knows old) (content old) 0 c
     → IsStrip (knows old) (content old) 0 d
-    → (block : ℕ) (upper lower : Words) → IsWord (cell_in (content new) a) (64 * block) upper.north.cells
+    → (block : ℕ) (upper lower : TwoWords) → IsWord (cell_in (content new) a) (64 * block) upper.north.cells
     → IsWord (cell_in (content new) b) (64 * block) upper.south.cells
     → IsWord (cell_in (content new) c) (64 * block) lower.north.cells → IsWord (cell_in (content new) d) (64 * block) lower.south.cells
     → (square : ℕ) → square < 16 → four (cells_at upper lower square) ≡ four_at (content old) a b c d (16 * block + square)

@@ -6,7 +6,7 @@ use Rattle.std.proofs.lemmas.Nat.{mod-pow-add, and_mask, or_mod, le_or_l, le_or_
 use Rattle.std.proofs.Math.Pow.{pow_mono, mod-mod-pow}
 use Rattle.life_quad.specs.Store.{four}
 use Rattle.life_base.specs.Tree.{Tree, blank}
-use Rattle.life_strip.specs.declared.words.Words.{Words}
+use Rattle.life_strip.specs.declared.words.TwoWords.{TwoWords}
 use Rattle.life_strip.specs.Band.{nibble_of, cells_at}
 
 -- a number below another one has no multiple of it
@@ -38,13 +38,13 @@ low-right : (a b k : ℕ) → b % 2 ^ k ≤ bit_or a b % 2 ^ k
 low-right a b k = subst (λ z. b % 2 ^ k ≤ z) (sym (or_mod a b k)) (le_or_r (a % 2 ^ k) (b % 2 ^ k))
 
 -- a square of level 2 without cells in its four words
-no-cells : (upper lower : Words) (i : ℕ) → nibble_of upper.north.cells i ≡ 0 → nibble_of upper.south.cells i ≡ 0
+no-cells : (upper lower : TwoWords) (i : ℕ) → nibble_of upper.north.cells i ≡ 0 → nibble_of upper.south.cells i ≡ 0
     → nibble_of lower.north.cells i ≡ 0 → nibble_of lower.south.cells i ≡ 0
     → cells_at upper lower i ≡ 0
 no-cells upper lower i a b c d = omega (arith, a, b, c, d)
 
 -- nor where a word has none whose lowest digits are at most those of all four
-no-digits-of : (upper lower : Words) (i n rest : ℕ)
+no-digits-of : (upper lower : TwoWords) (i n rest : ℕ)
     → bit_or (bit_or (bit_or upper.north.cells upper.south.cells) lower.north.cells) lower.south.cells % 2 ^ n ≡ rest
     → ((w : ℕ) → w % 2 ^ n ≤ rest → nibble_of w i ≡ 0) → cells_at upper lower i ≡ 0
 no-digits-of upper lower i n rest same none =
@@ -62,7 +62,7 @@ no-digits-of upper lower i n rest same none =
     (none c (omega (arith, third, three, same))) (none d (omega (arith, fourth, same)))
 
 -- the squares from one on that lie before the first cell of the four words are blank
-pub blank-before : (upper lower : Words) (square mask : ℕ) → mask + 1 ≡ 2 ^ (64 - 4 * square) → (i : ℕ) → square ≤ i
+pub blank-before : (upper lower : TwoWords) (square mask : ℕ) → mask + 1 ≡ 2 ^ (64 - 4 * square) → (i : ℕ) → square ≤ i
     → i < count_leading_zeros 64 (bit_and (bit_or (bit_or (bit_or upper.north.cells upper.south.cells) lower.north.cells) lower.south.cells) mask) / 4
     → cells_at upper lower i ≡ 0
 blank-before upper lower square mask ones i from before =
@@ -91,7 +91,7 @@ low-zeros (suc k) n = by (n % 2) refl (low-zeros k (n / 2))
         subst (λ z. n % 2 ^ z ≡ 0) next (omega (arith, split, half, even))
 
 -- the squares behind the last cell of the four words are blank
-pub blank-behind : (upper lower : Words) (all : ℕ)
+pub blank-behind : (upper lower : TwoWords) (all : ℕ)
     → all ≡ bit_or (bit_or (bit_or upper.north.cells upper.south.cells) lower.north.cells) lower.south.cells → (i : ℕ)
     → 16 - count_trailing_zeros 64 all / 4 ≤ i → i < 16 → cells_at upper lower i ≡ 0
 blank-behind upper lower all same i from within =
@@ -103,7 +103,7 @@ blank-behind upper lower all same i from within =
     let zero : w % 2 ^ (t - (4 + k) + 4 + k) ≤ 0 = subst (λ z. w % 2 ^ z ≤ 0) place le in omega (arith, some, zero)))
 
 -- the columns of squares without cells are blank
-pub blank-columns : (want : ℕ → Tree) (upper lower : Words) (block from after : ℕ) → after ≤ 16
+pub blank-columns : (want : ℕ → Tree) (upper lower : TwoWords) (block from after : ℕ) → after ≤ 16
     → ((i : ℕ) → i < 16 → want (16 * block + i) ≡ four (cells_at upper lower i))
     → ((i : ℕ) → from ≤ i → i < after → cells_at upper lower i ≡ 0)
     → (c : ℕ) → 16 * block + from ≤ c → c < 16 * block + after → want c ≡ blank 2
@@ -113,7 +113,7 @@ blank-columns want upper lower block from after within squares none c le lt =
     ap want place ∙ squares i (omega (arith, lt, within, le)) ∙ ap four (none i (omega (arith, le)) (omega (arith, le, lt)))
 
 -- the columns of squares that are alike have the first of them
-pub same-columns : (want : ℕ → Tree) (upper lower : Words) (block square after : ℕ) → after ≤ 16
+pub same-columns : (want : ℕ → Tree) (upper lower : TwoWords) (block square after : ℕ) → after ≤ 16
     → ((i : ℕ) → i < 16 → want (16 * block + i) ≡ four (cells_at upper lower i))
     → ((i : ℕ) → square ≤ i → i < after → cells_at upper lower i ≡ cells_at upper lower square)
     → (c : ℕ) → 16 * block + square ≤ c → c < 16 * block + after → want c ≡ four (cells_at upper lower square)

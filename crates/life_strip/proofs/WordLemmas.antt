@@ -8,7 +8,7 @@ use Rattle.life_quad.specs.declared.id.Id.{Id}
 use Rattle.life_quad.specs.Store.{two}
 use Rattle.life_base.specs.Tree.{Tree, point, quad, depth, state_at}
 use Rattle.life_strip.specs.declared.spans.Span.{Span}
-use Rattle.life_strip.specs.declared.words.Words.{Words}
+use Rattle.life_strip.specs.declared.words.TwoWords.{TwoWords}
 use Rattle.life_strip.specs.Strip.{id_at, square_or_blank, square_at, quad_at, IsStrip, HaveColumns, IsPast}
 use Rattle.life_strip.specs.Band.{cell_in, binary, IsWord, nibble_of, west_at, east_at}
 use Rattle.life_strip.proofs.SpanLemmas.{double, depth-square_at, id_at-in, id_at-none, id_at-after}
@@ -249,7 +249,7 @@ module _ (knows : Id → Type 0) (content : Id → Tree) where
   cell-point row strip c = sym (point-depth (square_at content 0 row c) (depth-square_at knows content 0 row strip c))
 
   -- the squares of level 1 of two rows, by their words
-  module _ (upper lower : List Span) (u : IsStrip knows content 0 upper) (l : IsStrip knows content 0 lower) (start square : ℕ) (rows : Words)
+  module _ (upper lower : List Span) (u : IsStrip knows content 0 upper) (l : IsStrip knows content 0 lower) (start square : ℕ) (rows : TwoWords)
       (north : IsWord (cell_in content upper) start rows.north.cells) (south : IsWord (cell_in content lower) start rows.south.cells) (lt : square < 16) where
     quad-cells : (c n : ℕ) → (i : ℕ) → i + 1 < 64 → 2 * c ≡ start + i → n ≡ 8 * cell_in content upper (start + i) + 4 * cell_in content upper (start + (i + 1))
         + 2 * cell_in content lower (start + i) + cell_in content lower (start + (i + 1))
@@ -298,11 +298,11 @@ module _ (knows : Id → Type 0) (content : Id → Tree) where
         quad-cells (2 * column + 1) (east_at rows square) (4 * square + 2) (omega (arith, lt)) (omega (arith, e)) (omega (arith, n.1, s.1))
 
 -- each has four binary digits
-pub west-small : (square : ℕ) (rows : Words) → west_at rows square < 16
+pub west-small : (square : ℕ) (rows : TwoWords) → west_at rows square < 16
 west-small square rows =
     let n : nibble_of rows.north.cells square < 16 = omega arith in
     let s : nibble_of rows.south.cells square < 16 = omega arith in
     omega (arith, n, s)
 
-pub east-small : (square : ℕ) (rows : Words) → east_at rows square < 16
+pub east-small : (square : ℕ) (rows : TwoWords) → east_at rows square < 16
 east-small square rows = omega arith

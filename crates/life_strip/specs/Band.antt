@@ -3,7 +3,7 @@ use Rattle.std.specs.Prelude.{◌≡◌, ℕ, ◌+◌, ◌*◌, ◌≤◌, ◌<�
 use Rattle.life_quad.specs.declared.id.Id.{Id}
 use Rattle.life_base.specs.Tree.{Tree, quad, state_at}
 use Rattle.life_strip.specs.declared.spans.Span.{Span}
-use Rattle.life_strip.specs.declared.words.Words.{Words}
+use Rattle.life_strip.specs.declared.words.TwoWords.{TwoWords}
 use Rattle.life_strip.specs.Strip.{quad_at, square_at}
 
 -- the square of level 2 in a column of four rows of cells
@@ -31,12 +31,12 @@ abbrev pub nibble_of : ℕ → ℕ → ℕ
 nibble_of word square = word / 2 ^ (60 - 4 * square) % 16
 
 -- the cells of two words in the columns of one square of level 2: its western and its eastern square of level 1
-abbrev pub west_at : Words → ℕ → ℕ
+abbrev pub west_at : TwoWords → ℕ → ℕ
 west_at rows square = nibble_of rows.north.cells square / 4 * 4 + nibble_of rows.south.cells square / 4
 
-abbrev pub east_at : Words → ℕ → ℕ
+abbrev pub east_at : TwoWords → ℕ → ℕ
 east_at rows square = nibble_of rows.north.cells square % 4 * 4 + nibble_of rows.south.cells square % 4
 
 -- the cells of a square of level 2 of four words
-abbrev pub cells_at : Words → Words → ℕ → ℕ
+abbrev pub cells_at : TwoWords → TwoWords → ℕ → ℕ
 cells_at upper lower square = 4096 * west_at upper square + 256 * east_at upper square + 16 * west_at lower square + east_at lower square

@@ -4,7 +4,7 @@ ghost use Rattle.life_strip.specs.Words.{Tree, SomePart, four, Grows, IsStrip, A
 
 use crate::spans::{Span, extend, find, nearer, stretch_at};
 use crate::spare::Spare;
-use crate::words::{Words, blank_from, blank_to, cells_of, next_square, two_words};
+use crate::words::{TwoWords, blank_from, blank_to, cells_of, next_square, two_words};
 use life_base::{Kind, MAX_LEVEL};
 use life_quad::{Id, Squares};
 use std::ops::Range;
@@ -36,8 +36,8 @@ fn push_square<S: Squares>(
 fn push_block<S: Squares>(
     squares: &mut S,
     spans: &mut Vec<Span>,
-    upper: Words,
-    lower: Words,
+    upper: TwoWords,
+    lower: TwoWords,
     block: u64,
     end: u64,
 ) -> Result<u64, Kind>

@@ -15,7 +15,7 @@ pub(crate) struct Word {
 
 // The words of two rows, one below the other.
 #[derive(Clone, Copy)]
-pub(crate) struct Words {
+pub(crate) struct TwoWords {
     pub(crate) north: Word,
     pub(crate) south: Word,
 }
@@ -91,7 +91,7 @@ pub(crate) fn two_words<S: Squares>(
     north: usize,
     south: usize,
     start: u64,
-) -> Option<Words>
+) -> Option<TwoWords>
     requires start { start ≤ 2 ^ MAX_LEVEL }
     requires upper { IsStrip (S.knows squares.now) (S.content squares.now) 0 upper.now }
     requires lower { IsStrip (S.knows squares.now) (S.content squares.now) 0 lower.now }
@@ -108,7 +108,7 @@ pub(crate) fn two_words<S: Squares>(
 {
     let north = read_word(squares, upper, north, start)?;
     let south = read_word(squares, lower, south, start)?;
-    Some(Words { north, south })
+    Some(TwoWords { north, south })
 }
 
 // The four cells of a word in the columns of a square of level 2.
@@ -120,7 +120,7 @@ fn nibble(word: u64, square: u64) -> u16
 }
 
 // The cells of two rows, each the western and the eastern square of level 1.
-fn halves(rows: Words, square: u64) -> (u16, u16)
+fn halves(rows: TwoWords, square: u64) -> (u16, u16)
     requires { square < 16 }
     ensures west { result.0 ≡ west_at rows square }
     ensures east { result.1 ≡ east_at rows square }
@@ -131,7 +131,7 @@ fn halves(rows: Words, square: u64) -> (u16, u16)
 }
 
 // The cells of a square of level 2, as `Squares::find_small` takes them.
-pub(crate) fn cells_of(upper: Words, lower: Words, square: u64) -> u16
+pub(crate) fn cells_of(upper: TwoWords, lower: TwoWords, square: u64) -> u16
     requires { square < 16 }
     ensures { result ≡ cells_at upper lower square }
 {
@@ -141,7 +141,7 @@ pub(crate) fn cells_of(upper: Words, lower: Words, square: u64) -> u16
 }
 
 // The cells of all four rows.
-fn all_rows(upper: Words, lower: Words) -> u64
+fn all_rows(upper: TwoWords, lower: TwoWords) -> u64
     ensures { result ≡ bit_or
         (bit_or (bit_or upper.north.cells upper.south.cells) lower.north.cells) lower.south.cells }
 {
@@ -149,7 +149,7 @@ fn all_rows(upper: Words, lower: Words) -> u64
 }
 
 // The first square of level 2 from this one on with a cell, or the one behind the last.
-pub(crate) fn blank_to(upper: Words, lower: Words, square: u64) -> u64
+pub(crate) fn blank_to(upper: TwoWords, lower: TwoWords, square: u64) -> u64
     requires { square < 16 }
     ensures within { result ≤ 16 }
     ensures blank { (i : ℕ) → square ≤ i → i < result → cells_at upper lower i ≡ 0 }
@@ -159,7 +159,7 @@ pub(crate) fn blank_to(upper: Words, lower: Words, square: u64) -> u64
 }
 
 // The square of level 2 behind the last one with a cell.
-pub(crate) fn blank_from(upper: Words, lower: Words) -> u64
+pub(crate) fn blank_from(upper: TwoWords, lower: TwoWords) -> u64
     ensures within { result ≤ 16 }
     ensures blank { (i : ℕ) → result ≤ i → i < 16 → cells_at upper lower i ≡ 0 }
 {
@@ -167,7 +167,7 @@ pub(crate) fn blank_from(upper: Words, lower: Words) -> u64
 }
 
 // The square of level 2 before which the one with these cells goes on at least: as far as it is blank, and else for one column.
-pub(crate) fn next_square(upper: Words, lower: Words, square: u64, cells: u16) -> u64
+pub(crate) fn next_square(upper: TwoWords, lower: TwoWords, square: u64, cells: u16) -> u64
     requires { square < 16 }
     ensures beyond { square < result }
     ensures within { result ≤ 16 }

@@ -1,7 +1,7 @@
 pub mod RowLemmas
 pub mod BandLemmas
 pub mod WindowLemmas
-pub mod PenLemmas
+pub mod RunBuilderLemmas
 pub mod SweepLemmas
 pub mod NeedLemmas
 pub mod LawLemmas

@@ -14,11 +14,11 @@ use Rattle.life_strip.proofs.NeededLemmas.{SomeSquare-within}
 use Rattle.life_table.specs.Meaning.{Answer, Becomes}
 use Rattle.life_base.specs.declared.cell.Run.{Run}
 use Rattle.life_sweep.specs.Refused.{SomeAbove, SomeOfAll, SomeNext, above_cell, of_plane}
-use Rattle.life_sweep.specs.Pen.{IsOpen}
+use Rattle.life_sweep.specs.RunBuilder.{IsOpen}
 use Rattle.life_sweep.specs.Rows.{Precedes}
 use Rattle.life_sweep.specs.Generation.{states_at}
 use Rattle.life_sweep.specs.Sweep.{IsDrawnAt, IsSwept}
-use Rattle.life_sweep.proofs.PenLemmas.{inside-last, outside-last}
+use Rattle.life_sweep.proofs.RunBuilderLemmas.{inside-last, outside-last}
 use Rattle.life_sweep.proofs.RowLemmas.{less-or-not}
 
 north : (row : ℕ) (y : ℤ) → neg_ℤ (pos half_plane) ≤ℤ y → row < nat_abs (y +ℤ pos half_plane) → (pos row -ℤ pos half_plane) <ℤ y

@@ -1,6 +1,6 @@
 pub mod Generation
 pub mod LawFacts
-pub mod Pen
+pub mod RunBuilder
 pub mod Refused
 pub mod Rows
 pub mod Sweep

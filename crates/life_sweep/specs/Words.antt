@@ -8,7 +8,7 @@ pub use Rattle.life_strip.specs.Filling.{IsEmpty, IsFilling}
 pub use Rattle.life_strip.specs.Given.{IsBehind, IsNext, IsOnPlane, state_by}
 pub use Rattle.life_sweep.specs.Generation.{after, LifeAnswers, LifeAnswersAt, named, neighborhood_of, states_at, TableAnswers, TableAnswersAt}
 pub use Rattle.life_sweep.specs.LawFacts.{life_quiet, SameImages, table_positive, table_quiet, two_positive}
-pub use Rattle.life_sweep.specs.Pen.{drawn_runs, IsHolding, one_cell}
+pub use Rattle.life_sweep.specs.RunBuilder.{drawn_runs, IsHolding, one_cell}
 pub use Rattle.life_sweep.specs.Refused.{GenerationRefusal, SomeAbove, SomeNext, SomeOfAll}
 pub use Rattle.life_sweep.specs.Rows.{AreBelow, AreInside, AreRows, AreSorted, BeginsAt, column_at, far, first_coordinate, GoesOn, GoesSouth, InRows}
 pub use Rattle.life_sweep.specs.Rows.{is_blank_column, IsBand, IsBandBelow, IsBlankBefore, IsColumn, IsFar, IsFarRow, IsInside, IsNextPlace, IsNextRow}

@@ -10,8 +10,8 @@ mod column;
 mod generation;
 mod law;
 pub mod laws;
-mod pen;
 mod plane;
+mod run_builder;
 mod sweep;
 mod window;
 

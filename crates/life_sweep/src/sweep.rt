@@ -5,8 +5,8 @@ ghost use Rattle.life_sweep.specs.Words.{fault_of, depth, tree_cell, IsWantFault
 use crate::band::Band;
 use crate::column::Rows;
 use crate::law::Law;
-use crate::pen::Pen;
 use crate::plane::HALF_PLANE;
+use crate::run_builder::RunBuilder;
 use crate::window::Window;
 use life_base::{Cell, Fault, Kind, MAX_LEVEL};
 use life_quad::{Id, Squares};
@@ -24,7 +24,7 @@ fn is_on_plane(x: i64, y: i64) -> bool
 // known before.
 fn draw_place<S: Squares, L: Law>(
     squares: &mut S,
-    pen: &mut Pen,
+    builder: &mut RunBuilder,
     law: &mut L,
     window: &Window,
     y: i64,
@@ -32,23 +32,23 @@ fn draw_place<S: Squares, L: Law>(
 ) -> Result<bool, Fault>
     requires place { IsSoundWindow window.now }
     requires states { IsWindowBelow (L.bound law.old) window.now }
-    requires holding { IsHolding (S.knows squares.old) (S.content squares.old) pen.old }
-    requires ready { IsReady (drawn_runs pen.old) window.now.x y }
+    requires holding { IsHolding (S.knows squares.old) (S.content squares.old) builder.old }
+    requires ready { IsReady (drawn_runs builder.old) window.now.x y }
     ensures same { law.new ≡ law.old }
     ensures holding { OnOk result
-        (IsHolding (S.knows squares.new) (S.content squares.new) pen.new) }
-    ensures ready { OnOk result (IsReady (drawn_runs pen.new) (after window.now.x) y) }
-    ensures put { IfOk result (λ all. state_by (drawn_runs pen.old) window.now.x y ≡ 0
-        → IsPut (L.answers law.old) (states_of window.now) (state_by (drawn_runs pen.new)) leaves
+        (IsHolding (S.knows squares.new) (S.content squares.new) builder.new) }
+    ensures ready { OnOk result (IsReady (drawn_runs builder.new) (after window.now.x) y) }
+    ensures put { IfOk result (λ all. state_by (drawn_runs builder.old) window.now.x y ≡ 0
+        → IsPut (L.answers law.old) (states_of window.now) (state_by (drawn_runs builder.new)) leaves
         all window.now.x y) }
     ensures others { OnOk result ((c r : ℤ) → (c ≡ window.now.x → r ≡ y → ⊥)
-        → state_by (drawn_runs pen.new) c r ≡ state_by (drawn_runs pen.old) c r) }
+        → state_by (drawn_runs builder.new) c r ≡ state_by (drawn_runs builder.old) c r) }
     ensures keeps { Keeps S.Squares squares.old squares.new }
     ensures refusals { IfErr result (λ f. IsWantFault (S.stored squares.new) (S.most squares.new)
         f ⊎ ((f.kind ≡ Kind.Ambiguous)
         × L.answers law.old (states_of window.now) (Ambiguous f.place.line))) }
     ensures needed { result ≡ Err (fault_of Kind.Full)
-        → SomeAbove (S.needs_node squares.new) (drawn_runs pen.old) }
+        → SomeAbove (S.needs_node squares.new) (drawn_runs builder.old) }
 {
     let state = law.next(&window.around())?;
     if state == 0 {
@@ -57,7 +57,7 @@ fn draw_place<S: Squares, L: Law>(
     if !is_on_plane(window.x, y) {
         return Ok(true);
     }
-    pen.draw(squares, window.x, y, state)?;
+    builder.draw(squares, window.x, y, state)?;
     Ok(leaves)
 }
 
@@ -65,7 +65,7 @@ fn draw_place<S: Squares, L: Law>(
 // it may be known of earlier rows.
 fn draw_row<S: Squares, L: Law>(
     squares: &mut S,
-    pen: &mut Pen,
+    builder: &mut RunBuilder,
     law: &mut L,
     rows: Rows,
     y: i64,
@@ -74,29 +74,29 @@ fn draw_row<S: Squares, L: Law>(
     requires states { AreBelow (L.bound law.old) rows }
     requires inside { AreInside rows }
     requires sorted { AreSorted rows }
-    requires holding { IsHolding (S.knows squares.old) (S.content squares.old) pen.old }
-    requires ready { IsReadyRow (drawn_runs pen.old) y }
+    requires holding { IsHolding (S.knows squares.old) (S.content squares.old) builder.old }
+    requires ready { IsReadyRow (drawn_runs builder.old) y }
     ensures same { law.new ≡ law.old }
     ensures holding { OnOk result
-        (IsHolding (S.knows squares.new) (S.content squares.new) pen.new) }
-    ensures ready { OnOk result (IsReadyRow (drawn_runs pen.new) (after y)) }
+        (IsHolding (S.knows squares.new) (S.content squares.new) builder.new) }
+    ensures ready { OnOk result (IsReadyRow (drawn_runs builder.new) (after y)) }
     ensures swept { IfOk result (λ left. (cells : ℤ → ℤ → ℕ) → IsScene cells y rows.entry
-        → IsSweptRows (L.answers law.old) cells (state_by (drawn_runs pen.old)) leaves y
-        → IsSweptRows (L.answers law.old) cells (state_by (drawn_runs pen.new)) left (after y)) }
+        → IsSweptRows (L.answers law.old) cells (state_by (drawn_runs builder.old)) leaves y
+        → IsSweptRows (L.answers law.old) cells (state_by (drawn_runs builder.new)) left (after y)) }
     ensures keeps { Keeps S.Squares squares.old squares.new }
     ensures refusals { IfErr result (λ f. IsWantFault (S.stored squares.new) (S.most squares.new)
         f ⊎ ((f.kind ≡ Kind.Ambiguous) × ((cells : ℤ → ℤ → ℕ) → IsScene cells y rows.entry
-        → IsSweptRows (L.answers law.old) cells (state_by (drawn_runs pen.old)) leaves y
+        → IsSweptRows (L.answers law.old) cells (state_by (drawn_runs builder.old)) leaves y
         → IsFirstAmbiguous (L.answers law.old) cells f.place.line))) }
     ensures needed { result ≡ Err (fault_of Kind.Full) → (cells : ℤ → ℤ → ℕ)
         → IsScene cells y rows.entry
-        → IsSweptRows (L.answers law.old) cells (state_by (drawn_runs pen.old)) leaves y
+        → IsSweptRows (L.answers law.old) cells (state_by (drawn_runs builder.old)) leaves y
         → SomeNext (S.needs_node squares.new) (L.answers law.old) cells }
 {
     let mut left = leaves;
     let mut window = Window::new(rows);
     while window.advance() {
-        left = draw_place(squares, pen, law, &window, y, left)?;
+        left = draw_place(squares, builder, law, &window, y, left)?;
     }
     Ok(left)
 }
@@ -124,15 +124,15 @@ pub(crate) fn next_square<S: Squares, L: Law>(
     ensures needed { result ≡ Err (fault_of Kind.Full) → (plane : ℤ → ℤ → ℕ)
         → IsSorted plane cells.now → SomeNext (S.needs_node squares.new) (L.answers law.old) plane }
 {
-    let mut pen = Pen::new(alloc);
+    let mut builder = RunBuilder::new(alloc);
     empty_builder_fills::<S>();
     let mut leaves = false;
     let mut band = Band::new(cells);
     while band.advance() {
-        leaves = draw_row(squares, &mut pen, law, band.rows, band.y, leaves)?;
+        leaves = draw_row(squares, &mut builder, law, band.rows, band.y, leaves)?;
     }
     if leaves {
         return Err(Fault::of(Kind::OutOfPlane));
     }
-    Ok(pen.finish(squares)?)
+    Ok(builder.finish(squares)?)
 }

@@ -4,7 +4,7 @@ use Rattle.life_quad.specs.Refused.{SomePart}
 use Rattle.life_quad.specs.Store.{four}
 use Rattle.life_quad.proofs.KeepingLemmas.{keeps-then, keeps-same, adds-none, adds-then}
 use Rattle.life_quad.proofs.GrowsLemmas.{grows-behind, grows-err, grows-ok, grows-still}
-use Rattle.life_strip.specs.declared.words.Words.{Words}
+use Rattle.life_strip.specs.declared.words.TwoWords.{TwoWords}
 use Rattle.life_strip.specs.Band.{cells_at}
 use Rattle.life_strip.specs.Strip.{FilledTo}
 use Rattle.life_strip.proofs.SpanLemmas.{from-first, filled-skip}
@@ -12,7 +12,7 @@ use Rattle.life_strip.proofs.StretchLemmas.{same-columns, blank-columns}
 use Rattle.life_strip.proofs.bands.push_block.Goals as goal
 
 -- a square of the cells in some columns is one of those that the call needs
-one-of : (upper lower : Words) (square cells : ℕ) → cells ≡ cells_at upper lower square → square < 16 → (P : Tree → Type 0) → SomePart P (four cells)
+one-of : (upper lower : TwoWords) (square cells : ℕ) → cells ≡ cells_at upper lower square → square < 16 → (P : Tree → Type 0) → SomePart P (four cells)
     → (i : ℕ) × (i < 16) × SomePart P (four (cells_at upper lower i))
 one-of upper lower square cells same within P n = (square, within, subst (λ (k : ℕ). SomePart P (four k)) same n)
 

@@ -4,14 +4,14 @@ use Rattle.std.proofs.lemmas.Result.{err_from_is_err_and}
 use Rattle.life_base.specs.Refusal.{fault_of}
 use Rattle.life_strip.specs.Given.{IsOnPlane, state_by}
 use Rattle.life_table.specs.Meaning.{Becomes, Ambiguous}
-use Rattle.life_sweep.specs.Pen.{drawn_runs}
+use Rattle.life_sweep.specs.RunBuilder.{drawn_runs}
 use Rattle.life_sweep.proofs.NeedLemmas.{full-kind, not-full}
-use Rattle.life_sweep.proofs.PenLemmas.{kept}
+use Rattle.life_sweep.proofs.RunBuilderLemmas.{kept}
 use Rattle.life_sweep.proofs.SweepLemmas.{ready-next}
 use Rattle.life_sweep.proofs.sweep.draw_place.Goals as goal
 
 pub returns-then-state-eq0-clause-ready : goal.returns-then-state-eq0-clause-ready
-returns-then-state-eq0-clause-ready g c = ready-next (drawn_runs c.args.pen.now) c.args.window.now.x c.args.y c.requires.ready
+returns-then-state-eq0-clause-ready g c = ready-next (drawn_runs c.args.builder.now) c.args.window.now.x c.args.y c.requires.ready
 
 pub returns-then-state-eq0-clause-put : goal.returns-then-state-eq0-clause-put
 returns-then-state-eq0-clause-put g c zero = record {
@@ -23,7 +23,7 @@ returns-then-state-eq0-clause-put g c zero = record {
 }
 
 pub returns-then-not-is_on_plane-clause-ready : goal.returns-then-not-is_on_plane-clause-ready
-returns-then-not-is_on_plane-clause-ready g c = ready-next (drawn_runs c.args.pen.now) c.args.window.now.x c.args.y c.requires.ready
+returns-then-not-is_on_plane-clause-ready g c = ready-next (drawn_runs c.args.builder.now) c.args.window.now.x c.args.y c.requires.ready
 
 pub draw-requires-clause-next : goal.draw-requires-clause-next
 draw-requires-clause-next g c =

@@ -6,10 +6,10 @@ use Rattle.life_strip.specs.Given.{state_by}
 use Rattle.life_sweep.specs.Generation.{after}
 use Rattle.life_sweep.specs.Rows.{IsWindow, IsWindowBelow, first_coordinate, states_of}
 use Rattle.life_table.specs.Meaning.{Ambiguous}
-use Rattle.life_sweep.specs.Pen.{drawn_runs}
+use Rattle.life_sweep.specs.RunBuilder.{drawn_runs}
 use Rattle.life_sweep.specs.Sweep.{IsPut, IsReadyRow, IsScene, IsSwept, IsSweptRows}
 use Rattle.life_sweep.proofs.NeedLemmas.{swept-needs}
-use Rattle.life_sweep.proofs.PenLemmas.{kept}
+use Rattle.life_sweep.proofs.RunBuilderLemmas.{kept}
 use Rattle.life_sweep.proofs.SweepLemmas.{row-ready, ready-later, ready-row, into-row, west-column, step-in-row, out-of-row, ambiguous-here}
 use Rattle.life_sweep.proofs.sweep.draw_row.Given.{Over}
 use Rattle.life_sweep.proofs.sweep.draw_row.Goals as goal
@@ -26,10 +26,10 @@ loop-window-init g c =
       below = c.new-window.ensures.below _ (g.met.L.Law.positive c.args.law.now) c.requires.states;
       same = refl;
       holding = c.requires.holding;
-      ready = row-ready (drawn_runs c.args.pen.now) (after w.x) y (subst (λ z. IsReadyRow (drawn_runs c.args.pen.now) z) e c.requires.ready);
+      ready = row-ready (drawn_runs c.args.builder.now) (after w.x) y (subst (λ z. IsReadyRow (drawn_runs c.args.builder.now) z) e c.requires.ready);
       swept = λ cells scene rows. (
         c.new-window.ensures.window cells y scene.rows_are (λ column l. west-column cells y column scene.blank l),
-        into-row (g.L.Law.answers c.args.law.now) cells (state_by (drawn_runs c.args.pen.now)) c.args.leaves w.x y (g.met.L.Law.quiet c.args.law.now)
+        into-row (g.L.Law.answers c.args.law.now) cells (state_by (drawn_runs c.args.builder.now)) c.args.leaves w.x y (g.met.L.Law.quiet c.args.law.now)
             scene.blank west rows,
       );
       keeps = keeps-same c.args.squares.now;
@@ -44,7 +44,7 @@ pub draw_place-requires-clause-ready : goal.draw_place-requires-clause-ready
 draw_place-requires-clause-ready g c =
     let y = kept c.args.y in
     let east = c.advance.ensures.east c.loop-window-test.true in
-    ready-later (drawn_runs c.loop-window.pen) (after c.loop-window.window.x) c.advance.new.self.x y (omega (arith, ints, east)) c.loop-window.invariant.ready
+    ready-later (drawn_runs c.loop-window.builder) (after c.loop-window.window.x) c.advance.new.self.x y (omega (arith, ints, east)) c.loop-window.invariant.ready
 
 pub loop-window-preserved : goal.loop-window-preserved
 loop-window-preserved g c =
@@ -52,8 +52,8 @@ loop-window-preserved g c =
     let z = c.advance.new.self in
     let inv = c.loop-window.invariant in
     let h = c.in_ok-left.ensures in
-    let old = state_by (drawn_runs c.loop-window.pen) in
-    let new = state_by (drawn_runs c.draw_place.new.pen) in
+    let old = state_by (drawn_runs c.loop-window.builder) in
+    let new = state_by (drawn_runs c.draw_place.new.builder) in
     record {
       sound = c.advance.ensures.sound;
       below = c.advance.ensures.below _ (g.met.L.Law.positive c.args.law.now) inv.below;
@@ -74,13 +74,13 @@ loop-window-preserved g c =
 
 -- the places of the row so far are drawn
 swept : (g : Over) (c : After-advance g) (cells : ℤ → ℤ → ℕ) → IsScene cells c.args.y c.args.rows
-    → IsSweptRows (g.L.Law.answers c.args.law.now) cells (state_by (drawn_runs c.args.pen.now)) c.args.leaves c.args.y
+    → IsSweptRows (g.L.Law.answers c.args.law.now) cells (state_by (drawn_runs c.args.builder.now)) c.args.leaves c.args.y
     → IsWindow cells (kept c.args.y) c.loop-window.window
-    × IsSwept (g.L.Law.answers c.args.law.now) cells (state_by (drawn_runs c.loop-window.pen)) c.loop-window.left (after c.loop-window.window.x) (kept c.args.y)
+    × IsSwept (g.L.Law.answers c.args.law.now) cells (state_by (drawn_runs c.loop-window.builder)) c.loop-window.left (after c.loop-window.window.x) (kept c.args.y)
 swept g c cells scene rows =
     let e : c.args.y ≡ kept c.args.y = omega (arith, ints, c.ranges.y) in
     c.loop-window.invariant.swept cells (subst (λ z. IsScene cells z c.args.rows) e scene)
-    (subst (λ z. IsSweptRows (g.L.Law.answers c.args.law.now) cells (state_by (drawn_runs c.args.pen.now)) c.args.leaves z) e rows)
+    (subst (λ z. IsSweptRows (g.L.Law.answers c.args.law.now) cells (state_by (drawn_runs c.args.builder.now)) c.args.leaves z) e rows)
 
 pub returns-in_err-left-clause-refusals : goal.returns-in_err-left-clause-refusals
 returns-in_err-left-clause-refusals g c =
@@ -103,12 +103,12 @@ pub returns-clause-ready : goal.returns-clause-ready
 returns-clause-ready g c column row l =
     let y = kept c.args.y in
     let e : c.args.y ≡ y = omega (arith, ints, c.ranges.y) in
-    ready-row (drawn_runs c.loop-window.pen) (after c.loop-window.window.x) y c.loop-window.invariant.ready column row (omega (arith, ints, l, e))
+    ready-row (drawn_runs c.loop-window.builder) (after c.loop-window.window.x) y c.loop-window.invariant.ready column row (omega (arith, ints, l, e))
 
 pub returns-clause-swept : goal.returns-clause-swept
 returns-clause-swept g c cells scene rows =
     let A = g.L.Law.answers c.args.law.now in
-    let drawn = state_by (drawn_runs c.loop-window.pen) in
+    let drawn = state_by (drawn_runs c.loop-window.builder) in
     let e : c.args.y ≡ kept c.args.y = omega (arith, ints, c.ranges.y) in
     let s = swept g (goal.at.returns-clause-swept g c).After-advance cells scene rows in
     subst (λ z. IsSweptRows A cells drawn c.loop-window.left (after z)) (sym e)
@@ -121,7 +121,7 @@ returns-in_err-left-clause-needed g c =
     rw (p.1, p.2)
     (λ full cells scene rows.
     let s = swept g (goal.at.returns-in_err-left-clause-needed g c).After-advance cells scene rows in
-    swept-needs (g.S.Squares.needs_node c.draw_place.new.squares) (g.L.Law.answers c.args.law.now) cells (drawn_runs c.loop-window.pen) c.loop-window.left _ _
+    swept-needs (g.S.Squares.needs_node c.draw_place.new.squares) (g.L.Law.answers c.args.law.now) cells (drawn_runs c.loop-window.builder) c.loop-window.left _ _
     s.1 (c.in_err-left.ensures.needed full))
 
 pub returns-in_err-left-clause-keeps : goal.returns-in_err-left-clause-keeps

@@ -1,6 +1,6 @@
 use Rattle.std.proofs.Common.{◌≡◌, ℕ, ℤ}
 use Rattle.life_quad.specs.Keeping.{KeepsSquares}
-use Rattle.life_sweep.specs.Pen.{IsHolding, drawn_runs}
+use Rattle.life_sweep.specs.RunBuilder.{IsHolding, drawn_runs}
 use Rattle.life_strip.specs.Given.{state_by}
 use Rattle.life_sweep.specs.Generation.{after}
 use Rattle.life_sweep.specs.Rows.{IsSoundWindow, IsWindowBelow, IsWindow, steps_left}
@@ -13,11 +13,11 @@ invariant-loop-window g l = record {
   sound : IsSoundWindow l.window;
   below : IsWindowBelow (g.L.Law.bound l.fn.law) l.window;
   same : l.law ≡ l.fn.law;
-  holding : IsHolding (g.S.Squares.knows l.squares) (g.S.Squares.content l.squares) l.pen;
-  ready : IsReady (drawn_runs l.pen) (after l.window.x) l.y;
+  holding : IsHolding (g.S.Squares.knows l.squares) (g.S.Squares.content l.squares) l.builder;
+  ready : IsReady (drawn_runs l.builder) (after l.window.x) l.y;
   swept : (cells : ℤ → ℤ → ℕ) → IsScene cells l.y l.fn.rows
-      → IsSweptRows (g.L.Law.answers l.fn.law) cells (state_by (drawn_runs l.fn.pen)) l.leaves l.y
-      → IsWindow cells l.y l.window × IsSwept (g.L.Law.answers l.fn.law) cells (state_by (drawn_runs l.pen)) l.left (after l.window.x) l.y;
+      → IsSweptRows (g.L.Law.answers l.fn.law) cells (state_by (drawn_runs l.fn.builder)) l.leaves l.y
+      → IsWindow cells l.y l.window × IsSwept (g.L.Law.answers l.fn.law) cells (state_by (drawn_runs l.builder)) l.left (after l.window.x) l.y;
   keeps : KeepsSquares g.S.Squares.knows g.S.Squares.content g.S.Squares.stored g.S.Squares.most l.fn.squares l.squares;
 }
 

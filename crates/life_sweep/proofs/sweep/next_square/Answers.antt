@@ -9,10 +9,10 @@ use Rattle.life_sweep.specs.Rows.{AreBelow, AreRows, GoesSouth, first_coordinate
 use Rattle.std.specs.Prelude.{IfSome, Option}
 use Rattle.life_base.specs.declared.cell.Run.{Run}
 use Rattle.life_sweep.specs.Refused.{SomeNext}
-use Rattle.life_sweep.specs.Pen.{IsOpen, drawn_runs}
+use Rattle.life_sweep.specs.RunBuilder.{IsOpen, drawn_runs}
 use Rattle.life_sweep.specs.Sweep.{IsFirstAmbiguous, IsReadyRow, IsScene, IsSorted, IsSweptRows}
 use Rattle.life_sweep.proofs.NeedLemmas.{all-needs, full-again, full-kind}
-use Rattle.life_sweep.proofs.PenLemmas.{kept}
+use Rattle.life_sweep.proofs.RunBuilderLemmas.{kept}
 use Rattle.life_sweep.proofs.SweepLemmas.{nothing-given, nothing-drawn, start-rows, pass-rows, all-rows}
 use Rattle.life_sweep.proofs.sweep.next_square.Given.{Over}
 use Rattle.life_sweep.proofs.sweep.next_square.Goals as goal
@@ -21,20 +21,20 @@ use Rattle.life_sweep.proofs.sweep.next_square.Goals.{After-draw_row}
 pub loop-band-init : goal.loop-band-init
 loop-band-init g c =
     let A = g.L.Law.answers c.args.law.now in
-    let drawn = state_by (drawn_runs c.new-pen.result) in
+    let drawn = state_by (drawn_runs c.new-builder.result) in
     record {
       sound = c.new-band.ensures.sound;
       below = c.new-band.ensures.below _ c.requires.states;
       same = refl;
       holding = record {
-        filling = c.empty_builder_fills.ensures c.args.squares.now c.new-pen.result.builder c.new-pen.ensures.empty;
-        unclosed = subst (λ (o : Option Run). IfSome o (IsOpen c.new-pen.result.builder.runs)) (sym c.new-pen.ensures.none) tt;
+        filling = c.empty_builder_fills.ensures c.args.squares.now c.new-builder.result.builder c.new-builder.ensures.empty;
+        unclosed = subst (λ (o : Option Run). IfSome o (IsOpen c.new-builder.result.builder.runs)) (sym c.new-builder.ensures.none) tt;
       };
-      ready = λ column row l. nothing-given (drawn_runs c.new-pen.result) c.new-pen.ensures.drawn column row;
+      ready = λ column row l. nothing-given (drawn_runs c.new-builder.result) c.new-builder.ensures.drawn column row;
       swept = λ plane sorted. (
         c.new-band.ensures.band plane sorted.blank sorted.cells_are,
         start-rows A plane drawn c.new-band.result.y (g.met.L.Law.quiet c.args.law.now) sorted.blank (omega (arith, ints, c.new-band.ensures.start))
-            (nothing-drawn (drawn_runs c.new-pen.result) c.new-pen.ensures.drawn),
+            (nothing-drawn (drawn_runs c.new-builder.result) c.new-builder.ensures.drawn),
       );
       keeps = keeps-same c.args.squares.now;
     }
@@ -66,12 +66,12 @@ scene g c plane sorted = record {
 }
 
 before : (g : Over) (c : After-draw_row g) (plane : ℤ → ℤ → ℕ) → IsSorted plane c.args.cells.now
-    → IsSweptRows (g.L.Law.answers c.loop-band.law) plane (state_by (drawn_runs c.loop-band.pen)) c.loop-band.leaves (kept c.advance.new.self.y)
+    → IsSweptRows (g.L.Law.answers c.loop-band.law) plane (state_by (drawn_runs c.loop-band.builder)) c.loop-band.leaves (kept c.advance.new.self.y)
 before g c plane sorted =
     let inv = c.loop-band.invariant in
     let south = c.advance.ensures.south c.loop-band-test.true in
     let on = on g c plane sorted in
-    let drawn = state_by (drawn_runs c.loop-band.pen) in
+    let drawn = state_by (drawn_runs c.loop-band.builder) in
     subst (λ z. IsSweptRows (g.L.Law.answers c.loop-band.law) plane drawn c.loop-band.leaves z) (row g c)
     (subst (λ law. IsSweptRows (g.L.Law.answers law) plane drawn c.loop-band.leaves c.advance.new.self.y) (sym inv.same)
     (pass-rows (g.L.Law.answers c.args.law.now) plane drawn c.loop-band.leaves (after c.loop-band.band.y) c.advance.new.self.y
@@ -83,7 +83,7 @@ loop-band-preserved g c =
     let a = (goal.at.loop-band-preserved g c).After-draw_row in
     let inv = c.loop-band.invariant in
     let h = c.in_ok-leaves.ensures in
-    let new = drawn_runs c.draw_row.new.pen in
+    let new = drawn_runs c.draw_row.new.builder in
     record {
       sound = c.advance.ensures.sound;
       below = c.advance.ensures.below _ inv.below;
@@ -144,7 +144,7 @@ returns-in_err-finish-clause-needed g c =
     (λ full plane sorted.
     let s = c.loop-band.invariant.swept plane sorted in
     let over = c.advance.ensures.over c.loop-band-test.false plane sorted.blank s.0 in
-    all-needs (g.S.Squares.needs_node c.finish.new.squares) (g.L.Law.answers c.args.law.now) plane (drawn_runs c.loop-band.pen) c.loop-band.leaves
+    all-needs (g.S.Squares.needs_node c.finish.new.squares) (g.L.Law.answers c.args.law.now) plane (drawn_runs c.loop-band.builder) c.loop-band.leaves
     c.if-leaves.false
     (all-rows _ plane _ _ _ (g.met.L.Law.quiet c.args.law.now) over s.1)
     (c.in_err-finish.ensures.needed (full-kind c.in_err-finish.field-0.0 full)))

@@ -1,6 +1,6 @@
 use Rattle.std.proofs.Common.{◌≡◌, ℕ, ℤ}
 use Rattle.life_quad.specs.Keeping.{KeepsSquares}
-use Rattle.life_sweep.specs.Pen.{IsHolding, drawn_runs}
+use Rattle.life_sweep.specs.RunBuilder.{IsHolding, drawn_runs}
 use Rattle.life_strip.specs.Given.{state_by}
 use Rattle.life_sweep.specs.Generation.{after}
 use Rattle.life_sweep.specs.Rows.{IsSoundBand, IsBandBelow, IsBand, rows_left}
@@ -13,10 +13,10 @@ invariant-loop-band g l = record {
   sound : IsSoundBand l.band;
   below : IsBandBelow (g.L.Law.bound l.fn.law) l.band;
   same : l.law ≡ l.fn.law;
-  holding : IsHolding (g.S.Squares.knows l.squares) (g.S.Squares.content l.squares) l.pen;
-  ready : IsReadyRow (drawn_runs l.pen) (after l.band.y);
+  holding : IsHolding (g.S.Squares.knows l.squares) (g.S.Squares.content l.squares) l.builder;
+  ready : IsReadyRow (drawn_runs l.builder) (after l.band.y);
   swept : (plane : ℤ → ℤ → ℕ) → IsSorted plane l.cells
-      → IsBand plane l.band × IsSweptRows (g.L.Law.answers l.fn.law) plane (state_by (drawn_runs l.pen)) l.leaves (after l.band.y);
+      → IsBand plane l.band × IsSweptRows (g.L.Law.answers l.fn.law) plane (state_by (drawn_runs l.builder)) l.leaves (after l.band.y);
   keeps : KeepsSquares g.S.Squares.knows g.S.Squares.content g.S.Squares.stored g.S.Squares.most l.fn.squares l.squares;
 }
 

@@ -23,9 +23,9 @@ returns-in_err-square-clause-spent c =
     let p = err_from_is_err_and c.from_residual.result c.from_residual.ensures.1 in
     let kind : Kind = c.in_err-square.field-0.0 in
     let fresh : c.args.self.now.refused ≡ false = ap (λ (v : LinesRead). v.refused) (sym c.self.view_is) ∙ c.if-self.false in
-    let directive : (kind ≡ Memory) ⊎ (broken MAX_LEVEL c.self.inside.log.lines c.args.line.now ≡ Some kind) = c.in_err-square.ensures.err
+    let meaning : (kind ≡ Memory) ⊎ (broken MAX_LEVEL c.self.inside.log.lines c.args.line.now ≡ Some kind) = c.in_err-square.ensures.err
     c.self.inside.log.lines (c.self.invariant c.if-self.false) in
-    rw (p.1, p.2) (λ e. absurd (not_spent c.self.inside.log.lines c.args.line.now kind directive (cc)), λ r. cc)
+    rw (p.1, p.2) (λ e. absurd (not_spent c.self.inside.log.lines c.args.line.now kind meaning (cc)), λ r. cc)
 
 pub returns-clause-front : goal.returns-clause-front
 returns-clause-front c =

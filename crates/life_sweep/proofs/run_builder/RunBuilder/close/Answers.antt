@@ -3,9 +3,9 @@ use Rattle.std.specs.Prelude.{Option, IfSome}
 use Rattle.std.proofs.lemmas.Result.{err_from_is_err_and}
 use Rattle.life_base.specs.declared.cell.Run.{Run}
 use Rattle.life_sweep.specs.Refused.{SomeAbove}
-use Rattle.life_sweep.specs.Pen.{IsOpen, open_runs}
+use Rattle.life_sweep.specs.RunBuilder.{IsOpen, open_runs}
 use Rattle.life_sweep.proofs.NeedLemmas.{open-needs}
-use Rattle.life_sweep.proofs.pen.Pen.close.Goals as goal
+use Rattle.life_sweep.proofs.run_builder.RunBuilder.close.Goals as goal
 
 pub returns-in_err-add_run-clause-needed : goal.returns-in_err-add_run-clause-needed
 returns-in_err-add_run-clause-needed g c =

@@ -1,5 +1,5 @@
 use Rattle.life_block.proofs.WordLemmas.{bits-picked}
-use Rattle.life_block.proofs.counts.Counts.columns_with.Goals as goal
+use Rattle.life_block.proofs.counts.BitCounts.columns_with.Goals as goal
 
 pub returns-clause-here : goal.returns-clause-here
 returns-clause-here c i l =

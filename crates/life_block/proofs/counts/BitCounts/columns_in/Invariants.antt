@@ -1,7 +1,7 @@
 use Rattle.std.proofs.Common.{◌≡◌, ℕ, ◌<◌, ◌≤◌}
 use Rattle.std.specs.Int.{bit_at}
 use Rattle.life_block.specs.Bits.{count_at}
-use Rattle.life_block.proofs.counts.Counts.columns_in.Given as goal
+use Rattle.life_block.proofs.counts.BitCounts.columns_in.Given as goal
 
 -- of the columns with a number below this, those are found whose number is in the set
 abbrev pub invariant-loop-count : goal.invariant-loop-count

@@ -6,7 +6,7 @@ use Rattle.life_quad.specs.Cells.{IsInRun}
 use Rattle.life_strip.specs.Given.{IsNext, IsBehind, AreInOrder, state_by}
 use Rattle.life_strip.proofs.GivenLemmas.{runs_grow}
 use Rattle.life_base.specs.declared.cell.Run.{Run}
-use Rattle.life_sweep.specs.Pen.{IsOpen, one_cell}
+use Rattle.life_sweep.specs.RunBuilder.{IsOpen, one_cell}
 
 -- the state of a run of a list's end, and of other cells
 pub inside-last : (runs : List Run) (run : Run) (x y : ℤ) → AreInOrder runs → IsNext runs run.x run.y → IsInRun run.x run.y run.len x y

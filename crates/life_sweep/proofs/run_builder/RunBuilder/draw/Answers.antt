@@ -4,10 +4,10 @@ use Rattle.std.proofs.lemmas.Int.{ints}
 use Rattle.life_strip.specs.Given.{IsBehind, IsNext, IsOnPlane, state_by}
 use Rattle.life_strip.proofs.GivenLemmas.{runs_grow}
 use Rattle.life_base.specs.declared.cell.Run.{Run}
-use Rattle.life_sweep.specs.Pen.{drawn_runs, open_runs, one_cell}
-use Rattle.life_sweep.proofs.PenLemmas.{run_of, cell-here, cell-others, longer-here, longer-others, longer-next, kept, GoesOn, goes-on, next-kept}
-use Rattle.life_sweep.proofs.pen.Pen.draw.Given.{Over}
-use Rattle.life_sweep.proofs.pen.Pen.draw.Goals as goal
+use Rattle.life_sweep.specs.RunBuilder.{drawn_runs, open_runs, one_cell}
+use Rattle.life_sweep.proofs.RunBuilderLemmas.{run_of, cell-here, cell-others, longer-here, longer-others, longer-next, kept, GoesOn, goes-on, next-kept}
+use Rattle.life_sweep.proofs.run_builder.RunBuilder.draw.Given.{Over}
+use Rattle.life_sweep.proofs.run_builder.RunBuilder.draw.Goals as goal
 
 -- the open run goes on with the cell
 on : (g : Over) (c : goal.After-self-1 g) → GoesOn c.args.self.now.builder.runs c.in-Some.run' c.args.x c.args.y c.args.state

@@ -3,8 +3,8 @@ use Rattle.std.specs.Int.{bit_at}
 use Rattle.std.proofs.lemmas.Bool.{cases_lt}
 use Rattle.std.proofs.lemmas.Nat.Bits.{bit_at_or, bit_at-lt, shr_and_one}
 use Rattle.life_block.specs.Bits.{count_at}
-use Rattle.life_block.proofs.counts.Counts.columns_in.Goals as goal
-use Rattle.life_block.proofs.counts.Counts.columns_in.Goals.{then-set-count-eq1, else-set-count-eq1}
+use Rattle.life_block.proofs.counts.BitCounts.columns_in.Goals as goal
+use Rattle.life_block.proofs.counts.BitCounts.columns_in.Goals.{then-set-count-eq1, else-set-count-eq1}
 
 -- a number below the next one is below this one, or this one
 below-next : (n count : ℕ) → n < count + 1 → (n < count) ⊎ (n ≡ count)

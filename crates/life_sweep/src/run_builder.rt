@@ -9,7 +9,7 @@ use std::alloc::Global;
 
 /// A builder, and the run that was drawn last, which the next cell may continue.
 #[derive(Drop)]
-pub(crate) struct Pen {
+pub(crate) struct RunBuilder {
     pub(crate) builder: Builder,
     pub(crate) unclosed: Option<Run>,
 }
@@ -23,14 +23,14 @@ fn is_continued_by(run: &Run, x: i64, y: i64, state: State) -> bool
     run.y == y && run.x + run.len as i64 == x && run.state == state
 }
 
-impl Pen {
+impl RunBuilder {
     /// Nothing is drawn.
-    pub(crate) fn new(alloc: Global) -> Pen
+    pub(crate) fn new(alloc: Global) -> RunBuilder
         ensures drawn { drawn_runs result ≡ [] }
         ensures empty { IsEmpty result.builder }
         ensures none { result.unclosed ≡ None }
     {
-        Pen {
+        RunBuilder {
             builder: Builder::new(alloc),
             unclosed: None,
         }

@@ -4,7 +4,7 @@ use Rattle.life_base.specs.Tree.{Tree}
 use Rattle.life_quad.specs.declared.id.Id.{Id}
 use Rattle.life_strip.specs.Filling.{IsFilling}
 use Rattle.life_strip.specs.Given.{IsNext, IsOnPlane}
-use Rattle.life_sweep.specs.declared.pen.Pen.{Pen}
+use Rattle.life_sweep.specs.declared.run_builder.RunBuilder.{RunBuilder}
 use Rattle.life_base.specs.declared.cell.Run.{Run}
 
 abbrev pub open_runs : Option Run → List Run
@@ -12,8 +12,8 @@ open_runs None = []
 open_runs (Some run) = run ∷ []
 
 -- all runs that were drawn
-abbrev pub drawn_runs : Pen → List Run
-drawn_runs pen = pen.builder.runs ++ open_runs pen.unclosed
+abbrev pub drawn_runs : RunBuilder → List Run
+drawn_runs builder = builder.builder.runs ++ open_runs builder.unclosed
 
 -- a run of one cell
 abbrev pub one_cell : ℤ → ℤ → ℕ → Run
@@ -27,6 +27,6 @@ pub record IsOpen (runs : List Run) (run : Run) : Type 0 where
   pub nonzero : run.state ≢ 0
 
 -- the builder fills the store, and the open run may be given to it
-pub record IsHolding (knows : Id → Type 0) (content : Id → Tree) (pen : Pen) : Type 0 where
-  pub filling : IsFilling knows content pen.builder
-  pub unclosed : IfSome pen.unclosed (IsOpen pen.builder.runs)
+pub record IsHolding (knows : Id → Type 0) (content : Id → Tree) (builder : RunBuilder) : Type 0 where
+  pub filling : IsFilling knows content builder.builder
+  pub unclosed : IfSome builder.unclosed (IsOpen builder.builder.runs)
