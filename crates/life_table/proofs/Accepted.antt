@@ -83,7 +83,8 @@ transition_lines ts = filter (λ (text : Numbered). is_transition_line text.1) t
 module _ {X : Type 0} (n k : ℕ) (vars : List Var) (f : Transition → X) (g : Numbered → X)
     (same : (x : Numbered) (t : Transition) → transition_of n k vars x.0 x.1 ≡ Some t → f t ≡ g x) where
   told_step : (b : Bool) (x : Numbered) (ts : List Numbered) → is_transition_line x.1 ≡ b → IsRead n k vars x
-      → map f (transitions_written n k vars ts) ≡ map g (transition_lines ts) → map f (transitions_written n k vars (x ∷ ts)) ≡ map g (transition_lines (x ∷ ts))
+      → map f (transitions_written n k vars ts) ≡ map g (transition_lines ts)
+      → map f (transitions_written n k vars (x ∷ ts)) ≡ map g (transition_lines (x ∷ ts))
   told_step false x ts e r ih =
       ap (λ (b : Bool). map f (cons_option (if b then transition_of n k vars x.0 x.1 else None) (transitions_written n k vars ts))) e ∙ ih
       ∙ sym (ap (λ (b : Bool). map g (if b then x ∷ transition_lines ts else transition_lines ts)) e)

@@ -184,8 +184,12 @@ module _ (name : Option (List ℕ)) (ts : List Numbered) (number : ℕ) (text : 
   says_states d k none n e =
       let all : AreDescriptors ts = stand.early (not_described (is_some on) (is_some oh) (is_some oy) (inl (ap (λ (o : Option ℕ). is_some o) none))) in
       let states : on' ≡ Some n = setting_new is_states_key states_named ts x (this_key is_states_key text d k) none ∙ e in
-      let neighbors : oh' ≡ oh = setting_same is_neighborhood_key neighborhood_named ts x (other_key is_neighborhood_key text (alone is_neighborhood_key (codes "n_states") (key_of text) refl k)) in
-      let symmetry : oy' ≡ oy = setting_same is_symmetry_key symmetry_named ts x (other_key is_symmetry_key text (alone is_symmetry_key (codes "n_states") (key_of text) refl k)) in (
+      let neighbors : oh' ≡ oh =
+      setting_same is_neighborhood_key neighborhood_named ts x
+      (other_key is_neighborhood_key text (alone is_neighborhood_key (codes "n_states") (key_of text) refl k)) in
+      let symmetry : oy' ≡ oy =
+      setting_same is_symmetry_key symmetry_named ts x
+      (other_key is_symmetry_key text (alone is_symmetry_key (codes "n_states") (key_of text) refl k)) in (
         parsed_same name Open on' (Some n) oh' oh oy' oy _ _ _ _ states neighbors symmetry
             (described_vars d all) (described_lines d all),
         described_stand d all (stays_none on on' none) (stays_same oh oh' neighbors) (stays_same oy oy' symmetry) (inl (k, n, e, states)),

@@ -10,7 +10,8 @@ use Rattle.life_strip.proofs.bands.push_square.Goals as goal
 pub returns-then-cells-eq0-clause-filled : goal.returns-then-cells-eq0-clause-filled
 returns-then-cells-eq0-clause-filled g c want p same =
     let zero = c.if-cells-eq0.true in
-    filled-skip (g.S.Squares.knows c.args.squares.now) (g.S.Squares.content c.args.squares.now) 2 want c.args.spans.now.items c.args.columns.start c.args.columns.end p
+    filled-skip (g.S.Squares.knows c.args.squares.now) (g.S.Squares.content c.args.squares.now) 2 want c.args.spans.now.items
+    c.args.columns.start c.args.columns.end p
     (omega (arith, c.requires)) (λ x le lt. same x le lt ∙ ap four zero)
 
 pub returns-clause-filled : goal.returns-clause-filled
@@ -21,7 +22,8 @@ returns-clause-filled g c =
     on_ok_map c.extend.result
     (λ columns want p same. filled-more {knows = K c.args.squares.now} {knows' = K c.small.new.self} {now = C c.args.squares.now}
     {now' = C c.small.new.self} id.keeps.contents
-    2 want c.args.spans.now.items c.extend.new.spans.items c.args.columns.start c.args.columns.end c.in_ok-id.id p (columns p.before) id.known (ap depth id.square)
+    2 want c.args.spans.now.items c.extend.new.spans.items c.args.columns.start c.args.columns.end c.in_ok-id.id p (columns p.before)
+    id.known (ap depth id.square)
     (λ x le lt. same x le lt ∙ sym id.square))
     c.extend.ensures.columns
 

@@ -44,7 +44,8 @@ pub draw_place-requires-clause-ready : goal.draw_place-requires-clause-ready
 draw_place-requires-clause-ready g c =
     let y = kept c.args.y in
     let east = c.advance.ensures.east c.loop-window-test.true in
-    ready-later (drawn_runs c.loop-window.builder) (after c.loop-window.window.x) c.advance.new.self.x y (omega (arith, ints, east)) c.loop-window.invariant.ready
+    ready-later (drawn_runs c.loop-window.builder) (after c.loop-window.window.x) c.advance.new.self.x y
+    (omega (arith, ints, east)) c.loop-window.invariant.ready
 
 pub loop-window-preserved : goal.loop-window-preserved
 loop-window-preserved g c =
@@ -76,7 +77,8 @@ loop-window-preserved g c =
 swept : (g : Over) (c : After-advance g) (cells : ℤ → ℤ → ℕ) → IsScene cells c.args.y c.args.rows
     → IsSweptRows (g.L.Law.answers c.args.law.now) cells (state_by (drawn_runs c.args.builder.now)) c.args.leaves c.args.y
     → IsWindow cells (kept c.args.y) c.loop-window.window
-    × IsSwept (g.L.Law.answers c.args.law.now) cells (state_by (drawn_runs c.loop-window.builder)) c.loop-window.left (after c.loop-window.window.x) (kept c.args.y)
+    × IsSwept (g.L.Law.answers c.args.law.now) cells (state_by (drawn_runs c.loop-window.builder)) c.loop-window.left
+    (after c.loop-window.window.x) (kept c.args.y)
 swept g c cells scene rows =
     let e : c.args.y ≡ kept c.args.y = omega (arith, ints, c.ranges.y) in
     c.loop-window.invariant.swept cells (subst (λ z. IsScene cells z c.args.rows) e scene)
@@ -121,7 +123,8 @@ returns-in_err-left-clause-needed g c =
     rw (p.1, p.2)
     (λ full cells scene rows.
     let s = swept g (goal.at.returns-in_err-left-clause-needed g c).After-advance cells scene rows in
-    swept-needs (g.S.Squares.needs_node c.draw_place.new.squares) (g.L.Law.answers c.args.law.now) cells (drawn_runs c.loop-window.builder) c.loop-window.left _ _
+    swept-needs (g.S.Squares.needs_node c.draw_place.new.squares) (g.L.Law.answers c.args.law.now) cells
+    (drawn_runs c.loop-window.builder) c.loop-window.left _ _
     s.1 (c.in_err-left.ensures.needed full))
 
 pub returns-in_err-left-clause-keeps : goal.returns-in_err-left-clause-keeps
