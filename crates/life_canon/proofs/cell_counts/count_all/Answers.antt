@@ -5,9 +5,13 @@ use Rattle.life_canon.proofs.cell_counts.count_all.Goals as goal
 pub returns-clause-lines : goal.returns-clause-lines
 returns-clause-lines g c =
     let counts = c.walk_pattern.new.lines.counts in
-    omega (arith, c.len.ensures, counts.ok,
-    lines-counted c.args.pattern.now.rule _ (g.met.S.Squares.full _ _ c.requires.known) c.requires.states (g.met.S.Squares.low _ _ c.requires.known)
-    _ counts.items c.new.ensures.items c.in_ok-walk_pattern.ensures.took)
+    omega (
+      arith,
+      c.len.ensures,
+      counts.ok,
+      lines-counted c.args.pattern.now.rule _ (g.met.S.Squares.full _ _ c.requires.known) c.requires.states (g.met.S.Squares.low _ _ c.requires.known)
+          _ counts.items c.new.ensures.items c.in_ok-walk_pattern.ensures.took,
+    )
 
 pub returns-clause-cells : goal.returns-clause-cells
 returns-clause-cells g c =

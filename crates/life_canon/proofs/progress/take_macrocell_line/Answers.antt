@@ -73,7 +73,8 @@ returns-clause-squares g c =
     let call = c.in_ok-square.ensures in
     let made = c.in_ok-id.ensures in
     grown old c.args.line.now call.lines call.front call.squares c.in-Some.is c.deref.ensures.value c.requires.squares made.grows.keeps.contents made.known
-    (of-line old c.args.line.now call.lines call.front call.squares c.in-Some.is c.deref.ensures.value c.requires.squares made.square) c.in_ok-push.ensures.items
+    (of-line old c.args.line.now call.lines call.front call.squares c.in-Some.is c.deref.ensures.value c.requires.squares made.square)
+    c.in_ok-push.ensures.items
 
 pub returns-in_err-square-clause-stores : goal.returns-in_err-square-clause-stores
 returns-in_err-square-clause-stores g c =
