@@ -262,12 +262,17 @@ module _ (rule : Rule) (root : Tree) (full : IsFull root) (states : HasStatesUpT
       subst (λ v. v < 2 ^ 128) (sym (get_or-map population all k (point 0) d n)) (omega (arith, few, most, bound))
 
   -- so a sink that counted the lines has the counts of the squares
-  pub all-counted : depth root ≤ MAX_LEVEL → (start counts : List ℕ) → start ≡ [] → CountsLines start counts (lines_for rule (listed root (least_level rule)))
+  all-counted : depth root ≤ MAX_LEVEL → (start counts : List ℕ) → start ≡ [] → CountsLines start counts (lines_for rule (listed root (least_level rule)))
       → counts ≡ map population (listed root (least_level rule))
   all-counted low start counts none took =
       let lines = lines_for rule (listed root (least_level rule)) in
       let few = subst (All (λ n. n < 2 ^ 128)) (sym listed-counts) (listed-few low) in
       took (subst (λ s. All (λ n. n < 2 ^ 128) (line_counts s lines)) (sym none) few) ∙ ap (λ s. line_counts s lines) none ∙ listed-counts
+
+  -- one for each square
+  pub lines-counted : depth root ≤ MAX_LEVEL → (start counts : List ℕ) → start ≡ []
+      → CountsLines start counts (lines_for rule (listed root (least_level rule))) → length counts ≡ length (listed root (least_level rule))
+  lines-counted low start counts none took = ap length (all-counted low start counts none took) ∙ length-map (listed root (least_level rule)) population
 
   -- the last square is the root
   listed-last : is_small (least_level rule) root ≡ false → (before : List Tree) × (listed root (least_level rule) ≡ before ++ root ∷ [])
@@ -293,7 +298,7 @@ module _ (rule : Rule) (root : Tree) (full : IsFull root) (states : HasStatesUpT
   blank-listed e = ap (with_all []) (walk-small root (least_level rule) (small-blank (least_level rule) root e))
 
   -- the last count is that of the root
-  pub root-count : least_level rule ≤ depth root → (counts : List ℕ) → counts ≡ map population (listed root (least_level rule))
+  root-count : least_level rule ≤ depth root → (counts : List ℕ) → counts ≡ map population (listed root (least_level rule))
       → slice_index_or counts (length counts - 1) 0 ≡ population root
   root-count low counts is = ap (λ l. slice_index_or l (length l - 1) 0) is ∙ elim (bool_cases (is_blank root)) [
     | inl e ↦ ap (λ l. slice_index_or (map population l) (length (map population l) - 1) 0) (blank-listed e) ∙ sym (population-blank root e)
@@ -302,3 +307,7 @@ module _ (rule : Rule) (root : Tree) (full : IsFull root) (states : HasStatesUpT
         ap (λ l. slice_index_or (map population l) (length (map population l) - 1) 0) p.1
         ∙ ap (λ l. slice_index_or l (length l - 1) 0) (map-append population p.0 (root ∷ [])) ∙ last-of (map population p.0) (population root)
   ]
+
+  pub cells-counted : depth root ≤ MAX_LEVEL → least_level rule ≤ depth root → {start counts all : List ℕ} → all ≡ counts → start ≡ []
+      → CountsLines start counts (lines_for rule (listed root (least_level rule))) → slice_index_or all (length all - 1) 0 ≡ population root
+  cells-counted low high {start} {counts} {all} same none took = root-count high all (same ∙ all-counted low start counts none took)

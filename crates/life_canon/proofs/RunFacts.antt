@@ -1,6 +1,6 @@
 -- How an input is read in pieces to its end.
 use Rattle.std.proofs.Common.{◌≡◌, ℕ, ◌+◌, ◌<◌, ◌≤◌, true, false, List, [], ◌++◌, length, take, refl, ap, sym, ◌∙◌, subst, arith, ◌⊎◌, inl, inr, Option, Some, None, length-append}
-use Rattle.std.specs.Prelude.{MatchOption, IfSome, Result, Ok, Err, IfErr}
+use Rattle.std.specs.Prelude.{MatchOption, IfSome, Result, Ok, Err, IfErr, IsErrAnd}
 use Rattle.std.proofs.lemmas.Result.{IfErr-weaker}
 use Rattle.std.specs.Io.KnownBytes.{Consumes, IsAtEnd}
 use Rattle.std.proofs.KnownBytes.{Consumes-trans}
@@ -13,15 +13,15 @@ use Rattle.life_base.specs.Tree.{Tree}
 use Rattle.life_base.specs.declared.cell.TheConstants.{MAX_LEVEL}
 use Rattle.life_base.specs.declared.fault.Fault.{Fault}
 use Rattle.life_base.specs.declared.kind.Kind.{Kind}
-use Rattle.life_base.specs.declared.kind.Kind.TheVariants.{Full, Memory}
+use Rattle.life_base.specs.declared.kind.Kind.TheVariants.{Full, Memory, ReadFault}
 use Rattle.life_quad.specs.Store.{Nodes, held}
 use Rattle.life_canon.specs.Feeding.{Fed, RefusesFront, Stands}
 use Rattle.life_canon.specs.Files.{is_file_kind}
 use Rattle.life_canon.specs.Laws.{LengthsStay}
 use Rattle.life_canon.specs.Needs.{LacksFor, LacksForFront, SomeOfFile}
 use Rattle.life_canon.specs.Room.{AddsLines, AddsFile, HoldsFront, HoldsOnly, room_for}
-use Rattle.life_canon.specs.Running.{ReadRefuses, by_file, by_want, LacksForRead, for_front, for_file, AddsForRead, IsTightForRead}
-use Rattle.life_canon.specs.Store.{IsWant, RefusesIn}
+use Rattle.life_canon.specs.Running.{ReadRefuses, by_file, by_want, LacksForRead, for_front, for_file, AddsForRead, IsTightForRead, ReadsSource}
+use Rattle.life_canon.specs.Store.{IsWant, Keeps, RefusesIn}
 use Rattle.life_canon.specs.declared.pattern.Pattern.{Pattern}
 use Rattle.life_mc.proofs.LineKinds.{broken_kind}
 use Rattle.life_rle.proofs.LineKinds.{Breaks-kind}
@@ -40,6 +40,18 @@ pub record IsReading (first store : Nodes) (before after : Option (List ℕ)) (t
   pub state : MatchOption refused ((fed.spent ≡ false) × (fed.bytes ≡ bytes) × Stands store fed) (RefusesFront MAX_LEVEL bytes)
   pub adds : AddsLines (whole_lines bytes) first store
 
+module _ {first store : Nodes} {before after : Option (List ℕ)} {total : ℕ} {refused : Option Fault} {fed : Fed}
+    (r : IsReading first store before after total refused fed) where
+  -- no line of it was refused
+  open-state : refused ≡ None → (fed.spent ≡ false) × (fed.bytes ≡ r.bytes) × Stands store fed
+  open-state e =
+      subst (λ (o : Option Fault). MatchOption o ((fed.spent ≡ false) × (fed.bytes ≡ r.bytes) × Stands store fed) (RefusesFront MAX_LEVEL r.bytes)) e r.state
+
+  -- one was
+  refused-state : (fault : Fault) → refused ≡ Some fault → RefusesFront MAX_LEVEL r.bytes fault
+  refused-state fault e =
+      subst (λ (o : Option Fault). MatchOption o ((fed.spent ≡ false) × (fed.bytes ≡ r.bytes) × Stands store fed) (RefusesFront MAX_LEVEL r.bytes)) e r.state
+
 -- a piece more
 module _ (first old new : Nodes) (before mid after : Option (List ℕ)) (total count : ℕ) (refused next : Option Fault) (fed more : Fed) (piece : List ℕ) where
   pub reading-on : IsReading first old before mid total refused fed → Consumes mid after piece → length piece ≡ count
@@ -52,26 +64,15 @@ module _ (first old new : Nodes) (before mid after : Option (List ℕ)) (total c
     came = Consumes-trans before mid after r.bytes piece r.came came;
     count = omega (arith, r.count, len, length-append r.bytes piece);
     state = by next refl going told;
-    adds = adds-then _ r.adds (adds r.bytes open-bytes) (λ P s. front-more P r.bytes piece s) (λ P a. a);
+    adds = adds-then _ r.adds (adds r.bytes (λ e. (open-state r e).1)) (λ P s. front-more P r.bytes piece s) (λ P a. a);
   }
     where
-      open-bytes : refused ≡ None → fed.bytes ≡ r.bytes
-      open-bytes e =
-          let s : MatchOption None ((fed.spent ≡ false) × (fed.bytes ≡ r.bytes) × Stands old fed) (RefusesFront MAX_LEVEL r.bytes) =
-          subst (λ (o : Option Fault). MatchOption o ((fed.spent ≡ false) × (fed.bytes ≡ r.bytes) × Stands old fed) (RefusesFront MAX_LEVEL r.bytes)) e
-          r.state in
-          s.1
-
-      was : (fault : Fault) → refused ≡ Some fault → RefusesFront MAX_LEVEL r.bytes fault
-      was fault e = subst (λ (o : Option Fault). MatchOption o ((fed.spent ≡ false) × (fed.bytes ≡ r.bytes) × Stands old fed) (RefusesFront MAX_LEVEL r.bytes))
-          e r.state
-
       by : (o : Option Fault) → next ≡ o → (o ≡ None → (refused ≡ None) × (more.spent ≡ false) × (more.bytes ≡ fed.bytes ++ piece) × Stands new more)
           → IfSome o (λ fault. (refused ≡ Some fault) ⊎ ((refused ≡ None) × RefusesFront MAX_LEVEL (fed.bytes ++ piece) fault))
           → MatchOption o ((more.spent ≡ false) × (more.bytes ≡ r.bytes ++ piece) × Stands new more) (RefusesFront MAX_LEVEL (r.bytes ++ piece))
-      by None e g t = let h = g refl in (h.1, h.2 ∙ ap (λ (b : List ℕ). b ++ piece) (open-bytes h.0), h.3)
-      by (Some fault) e g (inl s) = faults_stay r.bytes piece fault (was fault s)
-      by (Some fault) e g (inr s) = subst (λ (b : List ℕ). RefusesFront MAX_LEVEL (b ++ piece) fault) (open-bytes s.0) s.1
+      by None e g t = let h = g refl in (h.1, h.2 ∙ ap (λ (b : List ℕ). b ++ piece) (open-state r h.0).1, h.3)
+      by (Some fault) e g (inl s) = faults_stay r.bytes piece fault (refused-state r fault s)
+      by (Some fault) e g (inr s) = subst (λ (b : List ℕ). RefusesFront MAX_LEVEL (b ++ piece) fault) (open-state r s.0).1 s.1
 
 -- all came
 pub read-all : (most : ℕ) (before mid after : Option (List ℕ)) (bytes : List ℕ) → Consumes before mid bytes → Consumes mid after [] → IsAtEnd after
@@ -132,11 +133,7 @@ file-full store bytes (Err fault) h e = by h
 -- a line was refused, and that is no want of room
 module _ (first store : Nodes) (before after : Option (List ℕ)) (total : ℕ) (refused : Option Fault) (fed : Fed) where
   pub refused-not-full : IsReading first store before after total refused fed → (fault : Fault) → refused ≡ Some fault → fault ≡ fault_of Full → ⊥
-  refused-not-full r fault is e =
-      let told : RefusesFront MAX_LEVEL r.bytes fault =
-      subst (λ (o : Option Fault). MatchOption o ((fed.spent ≡ false) × (fed.bytes ≡ r.bytes) × Stands store fed) (RefusesFront MAX_LEVEL r.bytes)) is
-      r.state in
-      full-not fault.kind (front-kind r.bytes fault told) (ap (λ (f : Fault). f.kind) e)
+  refused-not-full r fault is e = full-not fault.kind (front-kind r.bytes fault (refused-state r fault is)) (ap (λ (f : Fault). f.kind) e)
 
 -- more came than allowed
 module _ (first store : Nodes) (before mid after : Option (List ℕ)) (total count most : ℕ) (refused : Option Fault) (fed : Fed) (piece : List ℕ) where
@@ -155,11 +152,8 @@ module _ (first store new : Nodes) (before mid after : Option (List ℕ)) (total
       → (refused ≡ None) × LacksForFront MAX_LEVEL (fed.bytes ++ piece) new
       → LacksForRead MAX_LEVEL most new (record { before = before; after = after; failures = failures })
   lacks-front r came len short lacks =
-      let state : (fed.spent ≡ false) × (fed.bytes ≡ r.bytes) × Stands store fed =
-      subst (λ (o : Option Fault). MatchOption o ((fed.spent ≡ false) × (fed.bytes ≡ r.bytes) × Stands store fed) (RefusesFront MAX_LEVEL r.bytes)) lacks.0
-      r.state in
       for_front (r.bytes ++ piece) (Consumes-trans before mid after r.bytes piece r.came came) (omega (arith, r.count, len, short, length-append r.bytes piece))
-      (subst (λ (b : List ℕ). LacksForFront MAX_LEVEL (b ++ piece) new) state.1 lacks.1)
+      (subst (λ (b : List ℕ). LacksForFront MAX_LEVEL (b ++ piece) new) (open-state r lacks.0).1 lacks.1)
 
 -- ---- what is stored
 
@@ -168,12 +162,13 @@ module _ (first store : Nodes) (before after : Option (List ℕ)) (total : ℕ) 
   pub reading-adds : IsReading first store before after total refused fed → AddsForRead before first store
   reading-adds r = record { bytes = r.bytes; left = after; came = r.came; adds = adds-as _ r.adds (λ P s. whole-needs P r.bytes s) }
 
-  fed-bytes : (r : IsReading first store before after total refused fed) → refused ≡ None → fed.bytes ≡ r.bytes
-  fed-bytes r e =
-      let s : MatchOption None ((fed.spent ≡ false) × (fed.bytes ≡ r.bytes) × Stands store fed) (RefusesFront MAX_LEVEL r.bytes) =
-      subst (λ (o : Option Fault). MatchOption o ((fed.spent ≡ false) × (fed.bytes ≡ r.bytes) × Stands store fed) (RefusesFront MAX_LEVEL r.bytes)) e
-      r.state in
-      s.1
+  -- and what is left of it where a refusal tells no want of room
+  pub reading-ends : {A : Type 0} {most failures : ℕ} {now : Option (List ℕ)} {result : Result A Fault}
+      → IsReading first store before after total refused fed → Keeps first store → (result ≡ Err (fault_of Full) → ⊥)
+      → (failures ≡ 1 → IsErrAnd result (λ fault. fault.kind ≡ ReadFault))
+      → ReadsSource most first store (record { before = before; after = now; failures = failures }) result
+  reading-ends r keeps roomy told =
+      record { needed = λ e. absurd (roomy e); adds = reading-adds r; room = λ e. absurd (roomy e); told = told; keeps = keeps }
 
   -- and what the reader stores of it at its end
   pub ended-adds : {new : Nodes} → IsReading first store before after total refused fed → refused ≡ None → AddsFile fed.bytes store new
@@ -182,7 +177,7 @@ module _ (first store : Nodes) (before after : Option (List ℕ)) (total : ℕ) 
     bytes = r.bytes;
     left = after;
     came = r.came;
-    adds = adds-then _ r.adds adds (λ P s. whole-needs P r.bytes s) (λ P s. subst (λ (b : List ℕ). SomeOfFile MAX_LEVEL P (lines_of b)) (fed-bytes r e) s);
+    adds = adds-then _ r.adds adds (λ P s. whole-needs P r.bytes s) (λ P s. subst (λ (b : List ℕ). SomeOfFile MAX_LEVEL P (lines_of b)) (open-state r e).1 s);
   }
 
 -- and a piece more, all lines of which were fed, or some up to a refusal
@@ -194,7 +189,7 @@ module _ (first store new : Nodes) (before mid after : Option (List ℕ)) (total
     bytes = r.bytes ++ piece;
     left = after;
     came = Consumes-trans before mid after r.bytes piece r.came came;
-    adds = adds-then _ r.adds (adds r.bytes (fed-bytes first store before mid total refused fed r))
+    adds = adds-then _ r.adds (adds r.bytes (λ e. (open-state r e).1))
         (λ P s. whole-needs P (r.bytes ++ piece) (front-more P r.bytes piece s)) (λ P s. whole-needs P (r.bytes ++ piece) s);
   }
 
@@ -204,7 +199,7 @@ module _ (first store new : Nodes) (before mid after : Option (List ℕ)) (total
       → ((base : List Tree) → HoldsFront base fed.bytes store → store.limit < length base + room_for (length (fed.bytes ++ piece)))
       → IsTightForRead most first (record { before = before; after = after; failures = failures })
   piece-tight r came len short e limit room =
-      let same = fed-bytes first store before mid total refused fed r e in
+      let same = (open-state r e).1 in
       let holds : HoldsFront (held first) fed.bytes store = subst (λ (b : List ℕ). HoldsFront (held first) b store) (sym same) r.adds.each in
       let tight = subst (λ (b : List ℕ). store.limit < length (held first) + room_for (length (b ++ piece))) same (room (held first) holds) in
       record {
@@ -221,63 +216,44 @@ at-end : (mid after : Option (List ℕ)) (count : ℕ) (buf : List ℕ) → coun
 at-end mid after count buf e l h = let none : take count buf ≡ [] = grind (arith, e) in (subst (Consumes mid after) none h.0, h.1 e l)
 
 module _ (first store new : Nodes) (before mid after : Option (List ℕ)) (total most failures count : ℕ) (buf : List ℕ) (refused : Option Fault)
-    (fed : Fed) where
+    (fed : Fed) (r : IsReading first store before mid total refused fed) (e : count ≡ 0) (l : 0 < length buf)
+    (h : Consumes mid after (take count buf) × (count ≡ 0 → 0 < length buf → IsAtEnd after)) (short : total ≤ most) where
   -- the end came, and a line was refused
-  pub ended-refused : IsReading first store before mid total refused fed → count ≡ 0 → 0 < length buf → Consumes mid after (take count buf)
-      × (count ≡ 0 → 0 < length buf → IsAtEnd after)
-      → total ≤ most → (fault : Fault) → refused ≡ Some fault → ReadRefuses MAX_LEVEL most new (record { before = before; after = after; failures = failures })
-      fault
-  ended-refused r e l h short fault is =
-      let told : RefusesFront MAX_LEVEL r.bytes fault =
-      subst (λ (o : Option Fault). MatchOption o ((fed.spent ≡ false) × (fed.bytes ≡ r.bytes) × Stands store fed) (RefusesFront MAX_LEVEL r.bytes)) is
-      r.state in
+  pub ended-refused : (fault : Fault) → refused ≡ Some fault
+      → ReadRefuses MAX_LEVEL most new (record { before = before; after = after; failures = failures }) fault
+  ended-refused fault is =
       let came = at-end mid after count buf e l h in
-      by_file r.bytes (read-all most before mid after r.bytes r.came came.0 came.1 (omega (arith, r.count, short))) told.refuses
+      by_file r.bytes (read-all most before mid after r.bytes r.came came.0 came.1 (omega (arith, r.count, short))) (refused-state r fault is).refuses
 
   -- the end came, and the reader has all
-  ended-read : IsReading first store before mid total refused fed → count ≡ 0 → 0 < length buf → Consumes mid after (take count buf)
-      × (count ≡ 0 → 0 < length buf → IsAtEnd after)
-      → total ≤ most → refused ≡ None → ReadAll most before after fed.bytes
-  ended-read r e l h short is =
-      let state : (fed.spent ≡ false) × (fed.bytes ≡ r.bytes) × Stands store fed =
-      subst (λ (o : Option Fault). MatchOption o ((fed.spent ≡ false) × (fed.bytes ≡ r.bytes) × Stands store fed) (RefusesFront MAX_LEVEL r.bytes)) is
-      r.state in
+  ended-read : refused ≡ None → ReadAll most before after fed.bytes
+  ended-read is =
       let came = at-end mid after count buf e l h in
-      subst (ReadAll most before after) (sym state.1) (read-all most before mid after r.bytes r.came came.0 came.1 (omega (arith, r.count, short)))
+      rw (open-state r is).1 (read-all most before mid after r.bytes r.came came.0 came.1 (omega (arith, r.count, short)))
 
   -- the end came, and the store has no room for what it has
-  pub ended-lacks : IsReading first store before mid total refused fed → count ≡ 0 → 0 < length buf → Consumes mid after (take count buf)
-      × (count ≡ 0 → 0 < length buf → IsAtEnd after)
-      → total ≤ most → refused ≡ None → LacksFor MAX_LEVEL fed.bytes new
+  pub ended-lacks : refused ≡ None → LacksFor MAX_LEVEL fed.bytes new
       → LacksForRead MAX_LEVEL most new (record { before = before; after = after; failures = failures })
-  ended-lacks r e l h short is = for_file fed.bytes (ended-read r e l h short is)
+  ended-lacks is = for_file fed.bytes (ended-read is)
 
   -- nor has its limit
-  pub ended-tight : IsReading first store before mid total refused fed → count ≡ 0 → 0 < length buf → Consumes mid after (take count buf)
-      × (count ≡ 0 → 0 < length buf → IsAtEnd after)
-      → total ≤ most → refused ≡ None → store.limit ≡ first.limit
+  pub ended-tight : refused ≡ None → store.limit ≡ first.limit
       → ((base : List Tree) → HoldsOnly base fed.bytes store → store.limit < length base + room_for (length fed.bytes))
       → IsTightForRead most first (record { before = before; after = after; failures = failures })
-  ended-tight r e l h short is limit room =
-      let all = ended-read r e l h short is in
-      let same = fed-bytes first store before mid total refused fed r is in
+  ended-tight is limit room =
+      let all = ended-read is in
+      let same = (open-state r is).1 in
       let front : HoldsFront (held first) fed.bytes store = subst (λ (b : List ℕ). HoldsFront (held first) b store) (sym same) r.adds.each in
       let tight = room (held first) (fronts_hold fed.bytes [] (held first) store store front).1 in
       record { bytes = fed.bytes; came = all.taken; within = all.within; tight = omega (arith, tight, limit) }
 
   -- the end came, and the reader refuses what it has
-  pub ended-open : IsReading first store before mid total refused fed → count ≡ 0 → 0 < length buf → Consumes mid after (take count buf)
-      × (count ≡ 0 → 0 < length buf → IsAtEnd after)
-      → total ≤ most → refused ≡ None → (result : Result Pattern Fault) → (fed.spent ≡ false → IfErr result (λ fault. RefusesIn MAX_LEVEL fed.bytes new fault))
+  pub ended-open : refused ≡ None → (result : Result Pattern Fault) → (fed.spent ≡ false → IfErr result (λ fault. RefusesIn MAX_LEVEL fed.bytes new fault))
       → IfErr result (λ fault. ReadRefuses MAX_LEVEL most new (record { before = before; after = after; failures = failures }) fault)
-  ended-open r e l h short is result told = IfErr-weaker result _ _ each (told state.0)
+  ended-open is result told = IfErr-weaker result _ _ each (told (open-state r is).0)
     where
-      state : (fed.spent ≡ false) × (fed.bytes ≡ r.bytes) × Stands store fed
-      state = subst (λ (o : Option Fault). MatchOption o ((fed.spent ≡ false) × (fed.bytes ≡ r.bytes) × Stands store fed) (RefusesFront MAX_LEVEL r.bytes)) is
-          r.state
-
       read : ReadAll most before after fed.bytes
-      read = ended-read r e l h short is
+      read = ended-read is
 
       each : (fault : Fault) → RefusesIn MAX_LEVEL fed.bytes new fault
           → ReadRefuses MAX_LEVEL most new (record { before = before; after = after; failures = failures }) fault

@@ -1,6 +1,6 @@
 -- What a run over a source and a sink may leave, by its outcome. Of a device that doesn't tell its bytes these say nothing about bytes:
 -- `bytes` is then any list.
-use Rattle.std.specs.Prelude.{◌≡◌, ◌⊎◌, ◌+◌, ◌<◌, ◌≤◌, ℕ, true, List, Option, length, Result, Err, IfOk, IfErr, OnOk, IsErrAnd}
+use Rattle.std.specs.Prelude.{◌≡◌, ◌⊎◌, ◌+◌, ◌<◌, ◌≤◌, ℕ, Bool, true, false, List, Option, length, Result, Err, IfOk, IfErr, OnOk, IsErrAnd}
 use Rattle.std.specs.Io.KnownBytes.{Appends, Consumes}
 use Rattle.life_base.specs.DeviceRuns.{SourceRun, SinkRun}
 use Rattle.life_base.specs.Inputs.{ReadAll, CameBeyond}
@@ -16,6 +16,10 @@ use Rattle.life_canon.specs.Room.{AddsFile, room_for}
 use Rattle.life_canon.specs.Store.{Keeps, IsRead, IsWant}
 use Rattle.life_canon.specs.Texts.{IsCanonical}
 use Rattle.life_canon.specs.declared.pattern.Pattern.{Pattern}
+
+-- neither a source nor a sink has failed, by the ghost members that count their failures, and the sink takes what is written
+abbrev pub AreWorking : {R W : Type 0} → (R → ℕ) → (W → ℕ) → (W → Bool) → R → W → Type 0
+AreWorking reads_failed writes_failed stalled source sink = (reads_failed source ≡ 0) × (writes_failed sink ≡ 0) × (stalled sink ≡ false)
 
 -- all was read, and the canonical text of what was read was written as `IsWritten` says
 pub record Wrote (top most : ℕ) (source : SourceRun) (IsWritten : List ℕ → Type 0) : Type 0 where

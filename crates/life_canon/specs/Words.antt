@@ -29,7 +29,7 @@ pub use Rattle.life_canon.specs.PieceLaws.{piece-begins, piece-stops, unfailed}
 pub use Rattle.life_canon.specs.Pieces.{PieceBreaks, PieceTakes, WritesFront}
 pub use Rattle.life_canon.specs.Room.{AddsLines, FewSquares, FrontsHold, HoldsFront, room_for, RoomSuffices}
 pub use Rattle.life_canon.specs.Rows.{row_of_four, row_of_two, rows_side_by_side}
-pub use Rattle.life_canon.specs.Running.{ReadsPattern, RunsCanon}
+pub use Rattle.life_canon.specs.Running.{AreWorking, ReadsPattern, RunsCanon}
 pub use Rattle.life_canon.specs.Store.{content, ForEachFile, IsKnown, IsOfFile, IsPatternOf, IsRead, IsTrimmed, IsWant, Keeps, RefusesIn, universe_in}
 pub use Rattle.life_canon.specs.Taking.{bytes_of, IsEnd, IsFrontOf, IsOpen, IsOver, IsReady, StandsFor, taken}
 pub use Rattle.life_canon.specs.Texts.{AreOrdered, box_text, HasMoreCells, IsCanonical, IsOrdered, IsRleOf, IsShown, show_text}

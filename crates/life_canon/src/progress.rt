@@ -72,9 +72,9 @@ fn take_macrocell_line<S: Squares>(
     ids: &mut Vec<Id>,
     line: &[u8],
 ) -> Result<(), Kind>
-    requires begun { lines.old.refused ≡ false }
     requires squares { AreSquaresIn S.Squares squares.old (squares_of lines.old.lines)
         ids.old.items }
+    requires begun { lines.old.refused ≡ false }
     ensures lines { OnOk result
         (lines.new ≡ record { lines = lines.old.lines ++ line.now ∷ []; refused = false }) }
     ensures front { OnOk result (Prefix (Accepts MAX_LEVEL) lines.new.lines) }

@@ -1,7 +1,7 @@
 //! From a source to a sink.
 
 ghost use Rattle.std.specs.Prelude.{◌≡◌, ◌≢◌, ◌⊎◌, ◌+◌, ◌<◌, ◌≤◌, ◌^◌, ℕ, List, length, true, false, IsTrue, ◌↔◌, IfOk, IfErr, OnOk, IfSome, Some, None, Err, ◌++◌};
-ghost use Rattle.life_canon.specs.Words.{source_run, sink_run, fault_of, ReadsPattern, RunsCanon, RefusesFront, Stands, whole_lines, Tree, LacksForFront, AddsLines, HoldsFront, room_for, Keeps, IsWant};
+ghost use Rattle.life_canon.specs.Words.{source_run, sink_run, fault_of, ReadsPattern, RunsCanon, AreWorking, RefusesFront, Stands, whole_lines, Tree, LacksForFront, AddsLines, HoldsFront, room_for, Keeps, IsWant};
 
 use crate::pattern::Pattern;
 use crate::piece::PIECE;
@@ -131,9 +131,7 @@ pub fn run_canon_within<R: Source, W: Sink>(
     writer: &mut W,
     most: u64,
 ) -> Result<(), Fault>
-    requires reads { R.failures reader.old ≡ 0 }
-    requires writes { W.failures writer.old ≡ 0 }
-    requires takes { W.stalled writer.old ≡ false }
+    requires working { AreWorking R.failures W.failures W.stalled reader.old writer.old }
     requires bound { most ≤ 2 ^ 30 }
     ensures runs { RunsCanon most store.old store.new
         (source_run R.remaining R.failures reader.old reader.new)
@@ -160,9 +158,7 @@ pub fn run_canon<R: Source, W: Sink>(
     reader: &mut R,
     writer: &mut W,
 ) -> Result<(), Fault>
-    requires reads { R.failures reader.old ≡ 0 }
-    requires writes { W.failures writer.old ≡ 0 }
-    requires takes { W.stalled writer.old ≡ false }
+    requires working { AreWorking R.failures W.failures W.stalled reader.old writer.old }
     ensures runs { RunsCanon (2 ^ 30) store.old store.new
         (source_run R.remaining R.failures reader.old reader.new)
         (sink_run W.contents W.failures W.stalled writer.old writer.new) result }

@@ -28,8 +28,8 @@ fn image_of<S: Squares, T: Squares>(
     level: u8,
     id: Id,
 ) -> Result<Id, Kind>
-    requires known { S.knows from.now id }
     requires level { depth (S.content from.now id) ≡ level }
+    requires known { S.knows from.now id }
     ensures known { IfOk result (T.knows to.new) }
     ensures level { IfOk result (λ image. depth (T.content to.new image) ≡ level) }
     ensures square { IfOk result

@@ -1,9 +1,15 @@
-use Rattle.std.proofs.Common.{ℕ, List, ◌++◌, subst}
+use Rattle.std.proofs.Common.{◌≡◌, ℕ, List, ◌++◌, subst}
 use Rattle.life_base.specs.Lines.{whole_lines}
+use Rattle.life_quad.specs.Store.{Nodes}
 use Rattle.life_quad.proofs.KeepingLemmas.{adds-none}
 use Rattle.life_canon.specs.Room.{AddsLines}
 use Rattle.life_canon.proofs.RunFacts.{want-of}
 use Rattle.life_canon.proofs.runs.feed_piece.Goals as goal
+
+-- the lines of a piece behind the same bytes
+behind : {old new : Nodes} {was bytes : List ℕ} (piece : List ℕ) → was ≡ bytes → AddsLines (whole_lines (was ++ piece)) old new
+    → AddsLines (whole_lines (bytes ++ piece)) old new
+behind {old} {new} piece e = subst (λ (b : List ℕ). AddsLines (whole_lines (b ++ piece)) old new) e
 
 pub returns-in-Err-clause-want : goal.returns-in-Err-clause-want
 returns-in-Err-clause-want c =
@@ -17,19 +23,13 @@ pub returns-in-Some-clause-adds : goal.returns-in-Some-clause-adds
 returns-in-Some-clause-adds c = λ bytes is. adds-none _ c.args.store.now
 
 pub returns-in-Ok-clause-adds : goal.returns-in-Ok-clause-adds
-returns-in-Ok-clause-adds c = λ bytes is. subst (λ (b : List ℕ). AddsLines (whole_lines (b ++ c.args.piece.now)) c.args.store.now c.feed.new.store)
-    (is c.in-None.is)
-    c.feed.ensures.feeds.adds
+returns-in-Ok-clause-adds c = λ bytes is. behind c.args.piece.now (is c.in-None.is) c.feed.ensures.feeds.adds
 
 pub returns-in-Err-clause-adds : goal.returns-in-Err-clause-adds
-returns-in-Err-clause-adds c = λ bytes is. subst (λ (b : List ℕ). AddsLines (whole_lines (b ++ c.args.piece.now)) c.args.store.now c.feed.new.store)
-    (is c.in-None.is)
-    c.feed.ensures.feeds.adds
+returns-in-Err-clause-adds c = λ bytes is. behind c.args.piece.now (is c.in-None.is) c.feed.ensures.feeds.adds
 
 pub returns-in-Err-2-clause-adds : goal.returns-in-Err-2-clause-adds
-returns-in-Err-2-clause-adds c = λ bytes is. subst (λ (b : List ℕ). AddsLines (whole_lines (b ++ c.args.piece.now)) c.args.store.now c.feed.new.store)
-    (is c.in-None.is)
-    c.feed.ensures.feeds.adds
+returns-in-Err-2-clause-adds c = λ bytes is. behind c.args.piece.now (is c.in-None.is) c.feed.ensures.feeds.adds
 
 pub returns-in-Err-clause-room : goal.returns-in-Err-clause-room
 returns-in-Err-clause-room c = λ e. c.in-Err.ensures.feeds.room (cc)

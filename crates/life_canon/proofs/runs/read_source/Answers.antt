@@ -2,7 +2,7 @@ use Rattle.std.proofs.Common.{rules, take}
 use Rattle.std.proofs.lemmas.Result.{err_from_is_err_and}
 use Rattle.life_quad.proofs.KeepingLemmas.{keeps-then}
 use Rattle.life_canon.specs.Running.{by_length, by_want}
-use Rattle.life_canon.proofs.RunFacts.{reading-on, reading-adds, piece-adds, piece-tight, beyond-most, ended-refused, ended-open, ended-lacks, ended-adds, ended-tight, lacks-front, refused-not-full}
+use Rattle.life_canon.proofs.RunFacts.{reading-on, reading-ends, piece-adds, piece-tight, beyond-most, ended-refused, ended-open, ended-lacks, ended-adds, ended-tight, lacks-front, refused-not-full}
 use Rattle.life_canon.proofs.Stored.{err_again}
 use Rattle.life_canon.proofs.runs.read_source.Goals as goal
 
@@ -23,13 +23,7 @@ returns-in_err-count g c =
       pattern = search rules;
       works = search rules;
       fault = search rules;
-      reads = record {
-        needed = search rules;
-        adds = reading-adds _ _ _ _ _ _ _ c.loop-reader.invariant.0;
-        room = search rules;
-        told = search rules;
-        keeps = search rules;
-      };
+      reads = reading-ends _ _ _ _ _ _ _ c.loop-reader.invariant.0 c.loop-reader.invariant.3 (search rules) (search rules);
     }
 
 -- too much came
@@ -45,13 +39,7 @@ returns-then-total-most g c =
           c.args.most c.loop-reader.refused c.loop-reader.reader (take c.in_ok-count.count c.read.new.buf) c.loop-reader.invariant.0
           c.in_ok-count.ensures.bytes.0
           (search rules) (search rules));
-      reads = record {
-        needed = search rules;
-        adds = reading-adds _ _ _ _ _ _ _ c.loop-reader.invariant.0;
-        room = search rules;
-        told = search rules;
-        keeps = search rules;
-      };
+      reads = reading-ends _ _ _ _ _ _ _ c.loop-reader.invariant.0 c.loop-reader.invariant.3 (search rules) (search rules);
     }
 
 -- a piece found no room or no memory
@@ -87,13 +75,8 @@ returns-in-Some g c =
       fault = ended-refused _ _ _ _ _ _ _ _ _ _ _ _ _ c.loop-reader.invariant.0 (search rules) (search rules) c.in_ok-count.ensures.bytes
           c.loop-reader.invariant.2
           c.in-Some.fault c.in-Some.is;
-      reads = record {
-        needed = λ e. absurd (refused-not-full _ _ _ _ _ _ _ c.loop-reader.invariant.0 c.in-Some.fault c.in-Some.is (cc));
-        adds = reading-adds _ _ _ _ _ _ _ c.loop-reader.invariant.0;
-        room = λ e. absurd (refused-not-full _ _ _ _ _ _ _ c.loop-reader.invariant.0 c.in-Some.fault c.in-Some.is (cc));
-        told = search rules;
-        keeps = c.loop-reader.invariant.3;
-      };
+      reads = reading-ends _ _ _ _ _ _ _ c.loop-reader.invariant.0 c.loop-reader.invariant.3
+          (λ e. refused-not-full _ _ _ _ _ _ _ c.loop-reader.invariant.0 c.in-Some.fault c.in-Some.is (cc)) (search rules);
     }
 
 -- the end of the file

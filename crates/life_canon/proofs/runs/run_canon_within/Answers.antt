@@ -63,7 +63,7 @@ pub returns-clause-flushed : goal.returns-clause-flushed
 returns-clause-flushed g c = search rules
 
 pub deliver_squares-requires-clause-works : goal.deliver_squares-requires-clause-works
-deliver_squares-requires-clause-works g c = c.requires.writes
+deliver_squares-requires-clause-works g c = c.requires.working.1
 
 pub returns-in_err-pattern-clause-unwritten : goal.returns-in_err-pattern-clause-unwritten
 returns-in_err-pattern-clause-unwritten g c = as_it_was c.from_residual.result _
@@ -78,7 +78,7 @@ returns-in_err-pattern-clause-runs g c =
       ok = tt;
       err = by_reading c.in_err-pattern.ensures.fault;
       reads = source-err c.in_err-pattern.ensures.reads;
-      write_told = no_failure _ _ c.requires.writes c.requires.takes;
+      write_told = no_failure _ _ c.requires.working.1 c.requires.working.2;
     })
 
 pub returns-in_err-numbers-clause-runs : goal.returns-in_err-numbers-clause-runs
@@ -89,7 +89,7 @@ returns-in_err-numbers-clause-runs g c =
       ok = tt;
       err = by_reading (by_want (inl memory));
       reads = source-still c.in_ok-pattern.ensures.reads (no-room memory);
-      write_told = no_failure _ _ c.requires.writes c.requires.takes;
+      write_told = no_failure _ _ c.requires.working.1 c.requires.working.2;
     })
 
 pub returns-in_err-deliver_squares-clause-runs : goal.returns-in_err-deliver_squares-clause-runs
@@ -113,5 +113,5 @@ returns-clause-runs g c =
       ok = wrote _ _ _ _ (Appends _ _) _ c.in_ok-pattern.ensures.pattern c.in_ok-numbers.ensures.front c.in_ok-deliver_squares.ensures.text;
       err = tt;
       reads = source-still c.in_ok-pattern.ensures.reads (λ e. absurd (cc));
-      write_told = no_failure _ _ sink.works (sink.stalled ∙ c.requires.takes);
+      write_told = no_failure _ _ sink.works (sink.stalled ∙ c.requires.working.2);
     }

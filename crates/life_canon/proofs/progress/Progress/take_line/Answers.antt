@@ -1,10 +1,13 @@
 use Rattle.std.proofs.Common.{◌≡◌, ◌⊎◌, ℕ, List, [], ◌∷◌, ◌++◌, sym, ap, ◌∙◌, subst}
-use Rattle.std.specs.Prelude.{IfErr}
+use Rattle.std.specs.Prelude.{Result, Err, IfErr}
 use Rattle.life_base.specs.declared.cell.TheConstants.{MAX_LEVEL}
+use Rattle.life_base.specs.declared.kind.Kind.{Kind}
+use Rattle.life_base.specs.declared.kind.Kind.TheVariants.{Full}
+use Rattle.life_canon.specs.Calls.{Stores}
 use Rattle.life_canon.specs.Files.{Breaks}
-use Rattle.life_canon.specs.Store.{IsKnown, content}
+use Rattle.life_canon.specs.Store.{IsKnown, Keeps, content}
 use Rattle.life_quad.specs.Keeping.{IsWantKind}
-use Rattle.life_quad.specs.Store.{held}
+use Rattle.life_quad.specs.Store.{Nodes, held}
 use Rattle.life_canon.specs.Taking.{StandsFor, IsReady, taken}
 use Rattle.life_canon.proofs.PatternFacts.{rle-fault}
 use Rattle.life_canon.specs.Needs.{IsNew, SomeOfLines}
@@ -27,24 +30,18 @@ returns-in-Rle-clause-fault c =
     (λ kind. IsWantKind (held c.take_rle_line.new.squares) c.take_rle_line.new.squares.limit kind ⊎ Breaks MAX_LEVEL ls c.args.line.now kind)) (sym lines)
     (rle-fault c.take_rle_line.result c.take_rle_line.new.squares c.in-Rle.lines.lines c.args.line.now ready.0 c.take_rle_line.ensures.fault)
 
+-- what a call for this line leaves in the store, where these are the lines before it
+stores-of : {A : Type 0} {old new : Nodes} {r : Result A Kind} {all lines : List (List ℕ)} (line : List ℕ) → all ≡ lines
+    → (r ≡ Err Full → SomeOfLines MAX_LEVEL (IsNew new) (lines ++ line ∷ [])) → AddsLines (lines ++ line ∷ []) old new → Keeps old new
+    → Stores Full old new r (λ P. SomeOfLines MAX_LEVEL P (all ++ line ∷ []))
+stores-of line e needed adds keeps = rw e (record { needed = needed; adds = adds; keeps = keeps })
+
 pub returns-in-Rle-clause-stores : goal.returns-in-Rle-clause-stores
 returns-in-Rle-clause-stores c =
-    let lines : taken c.args.self.now ≡ c.in-Rle.lines.lines = sym c.begin.ensures.lines ∙ ap taken c.in-Rle.is in
     let call = c.take_rle_line.ensures.stores in
-    record {
-      needed = λ e. subst (λ (ls : List (List ℕ)). SomeOfLines MAX_LEVEL (IsNew c.take_rle_line.new.squares) (ls ++ c.args.line.now ∷ [])) (sym lines)
-          (call.needed e);
-      adds = subst (λ (ls : List (List ℕ)). AddsLines (ls ++ c.args.line.now ∷ []) c.args.store.now c.take_rle_line.new.squares) (sym lines) call.adds;
-      keeps = call.keeps;
-    }
+    stores-of c.args.line.now (sym c.begin.ensures.lines ∙ ap taken c.in-Rle.is) call.needed call.adds call.keeps
 
 pub returns-in-Macrocell-clause-stores : goal.returns-in-Macrocell-clause-stores
 returns-in-Macrocell-clause-stores c =
-    let lines : taken c.args.self.now ≡ c.in-Macrocell.lines.lines = sym c.begin.ensures.lines ∙ ap taken c.in-Macrocell.is in
     let call = c.take_macrocell_line.ensures.stores in
-    record {
-      needed = λ e. subst (λ (ls : List (List ℕ)). SomeOfLines MAX_LEVEL (IsNew c.take_macrocell_line.new.squares) (ls ++ c.args.line.now ∷ [])) (sym lines)
-          (call.needed e);
-      adds = subst (λ (ls : List (List ℕ)). AddsLines (ls ++ c.args.line.now ∷ []) c.args.store.now c.take_macrocell_line.new.squares) (sym lines) call.adds;
-      keeps = call.keeps;
-    }
+    stores-of c.args.line.now (sym c.begin.ensures.lines ∙ ap taken c.in-Macrocell.is) call.needed call.adds call.keeps
