@@ -13,7 +13,7 @@ use std::alloc::Global;
 
 /// What a walk over a pattern counts.
 #[derive(Clone, Copy)]
-pub(crate) struct Counts {
+pub(crate) struct Tally {
     /// Its node lines.
     pub(crate) lines: u64,
     /// Its cells of a state other than 0.
@@ -118,7 +118,7 @@ pub(crate) fn count_all<S: SharedSquares>(
     squares: &S,
     pattern: &Pattern,
     numbers: IdNumbers,
-) -> Result<Counts, Kind>
+) -> Result<Tally, Kind>
     requires known { S.knows squares.now pattern.now.root }
     requires level { least_level pattern.now.rule ≤ depth (S.content squares.now pattern.now.root) }
     requires states { HasStatesUpTo (largest_state pattern.now.rule)
@@ -134,7 +134,7 @@ pub(crate) fn count_all<S: SharedSquares>(
         counts: Vec::new(alloc),
     };
     walk_pattern(squares, pattern, numbers, &mut list, &mut ())?;
-    Ok(Counts {
+    Ok(Tally {
         lines: list.counts.len() as u64,
         cells: last_count(&list.counts),
     })

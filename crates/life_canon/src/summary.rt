@@ -4,7 +4,7 @@ ghost use Rattle.std.specs.Prelude.{◌≡◌, ◌++◌, ◌≤◌, codes, decim
 ghost use Rattle.life_canon.specs.Words.{signed_decimal, fault_of, rule_text, Memory, depth, is_blank_tree, population, IsLeastBox, BoundsValue, span, node_lines, canonical_file, ReadsInto, ForEachFile, RefusesIn, IsOfFile, IsTrimmed, universe_in, content, IsShown, IsOrdered, AreOrdered, box_text, show_text, IsMemory};
 ghost use Rattle.std.specs.Prelude.{Option, true};
 
-use crate::cell_counts::{Counts, count_all};
+use crate::cell_counts::{Tally, count_all};
 use crate::files::read;
 use crate::pattern::Pattern;
 use crate::writer::begin_numbers;
@@ -81,7 +81,7 @@ fn append_rule(out: &mut Vec<u8>, pattern: &Pattern) -> Result<(), Kind>
 }
 
 /// How many node lines the canonical file of a pattern has, and how many cells aren't 0.
-fn counts_of(alloc: Global, store: &Shared, pattern: &Pattern) -> Result<Counts, Kind>
+fn counts_of(alloc: Global, store: &Shared, pattern: &Pattern) -> Result<Tally, Kind>
     requires { IsTrimmed store.now pattern.now }
     ensures lines { IfOk result (λ counts. counts.lines ≡ node_lines
         (canonical_file MAX_LEVEL (universe_in store.now pattern.now))) }
