@@ -1,5 +1,5 @@
 -- What the words of a command line ask for.
-use Rattle.std.specs.Prelude.{◌≡◌, ◌≢◌, ◌⊎◌, ◌<◌, ◌+◌, [], ℕ, Bool, true, false, List, Option, Some, None, IsSome, codes, string_bytes, option_map, unwrap_or, map, count_by}
+use Rattle.std.specs.Prelude.{◌≡◌, ◌≢◌, ◌⊎◌, ◌<◌, ◌+◌, [], ℕ, Bool, true, false, List, Option, Some, None, IsSome, MatchOption, codes, string_bytes, option_map, unwrap_or, map, count_by}
 use Rattle.std.specs.Str.{bytes_eq}
 use Rattle.clap.specs.Words.{Row, Text, Kinds, IsAmong, all_of, first_of, kind_of, one_of}
 use Rattle.clap.specs.declared.error.Error.{Error}
@@ -28,6 +28,10 @@ abbrev pub form_word : Form → Text
 form_word Placed = codes "placed"
 form_word Moved = codes "moved"
 form_word Turned = codes "turned"
+
+-- the value whose word this is, or none where it is that of no value
+abbrev pub IsValueOf : {X : Type 0} → (X → Text) → Text → Option X → Type 0
+IsValueOf {X = X} word_of word value = MatchOption value ((x : X) → word ≢ word_of x) (λ x. word ≡ word_of x)
 
 -- the command of a job
 abbrev pub command_of : Job → Text

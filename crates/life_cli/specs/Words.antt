@@ -22,12 +22,10 @@ pub use Rattle.life_cli.specs.Keys.{end_of, escaped, escaped_byte, fault_text, i
 pub use Rattle.life_cli.specs.Keys.{refused_line, unopened_line}
 pub use Rattle.life_cli.specs.Origins.{FailsToOpen, IsOriginOf, OpensFiles}
 pub use Rattle.life_cli.specs.Plans.{AreOfJob, AreWhole, Explains, ExplainsPlan, form_word, HasNoForm, HasNoFormat, HasSecond, HoldsFile, HoldsFiles}
-pub use Rattle.life_cli.specs.Plans.{HoldsFlag, HoldsForm, HoldsKeys, IfWork, input_count, input_count_under, IsFound, IsPlanOf, IsRequestOf}
+pub use Rattle.life_cli.specs.Plans.{HoldsFlag, HoldsForm, HoldsKeys, IfWork, input_count, input_count_under, IsFound, IsPlanOf, IsRequestOf, IsValueOf}
 pub use Rattle.life_cli.specs.Plans.{NamesInputTwice, RefusesAs, RefusesKeys, RefusesWord, target_word, values_of, WritesPlacedText}
 pub use Rattle.life_cli.specs.Sentences.{sentence_of}
 pub use Rattle.life_cli.specs.Usages.{is_asked, usage_line, usage_status, words_line, words_status}
-pub use Rattle.life_cli.specs.declared.plans.Form.{Form as FormValue}
-pub use Rattle.life_cli.specs.declared.plans.Target.{Target as TargetValue}
 pub use Rattle.life_cli.specs.declared.refusals.Refusal.{Refusal}
 pub use Rattle.life_forms.specs.Needed.{LacksForMoved}
 pub use Rattle.life_quad.specs.Cells.{population}

@@ -1,7 +1,7 @@
 //! The plan that the words ask for.
 
-ghost use Rattle.std.specs.Prelude.{◌≡◌, ◌≢◌, ◌↔◌, ◌<◌, ◌^◌, [], IfOk, IfErr, OnOk, Some, IsSome, IsTrue, MatchOption, map, option_map, string_bytes, codes, count_by};
-ghost use Rattle.life_cli.specs.Words.{bytes_eq, found_of, first_of, rows_of, subcommand_of, subcommand_rows_of, program, AreOfJob, AreWhole, IfWork, IsFound, IsPlanOf, IsRequestOf, HasNoForm, HasNoFormat, HasSecond, HoldsFile, HoldsFiles, HoldsFlag, HoldsForm, HoldsKeys, NamesInputTwice, Explains, ExplainsPlan, RefusesAs, RefusesKeys, RefusesWord, form_word, input_count, input_count_under, target_word, values_of, FormValue, TargetValue};
+ghost use Rattle.std.specs.Prelude.{◌≡◌, ◌↔◌, ◌<◌, [], IfOk, IfErr, OnOk, Some, IsSome, IsTrue, map, option_map, string_bytes, codes, count_by};
+ghost use Rattle.life_cli.specs.Words.{bytes_eq, found_of, first_of, rows_of, subcommand_of, subcommand_rows_of, program, AreOfJob, AreWhole, IfWork, IsFound, IsPlanOf, IsRequestOf, IsValueOf, HasNoForm, HasNoFormat, HasSecond, HoldsFile, HoldsFiles, HoldsFlag, HoldsForm, HoldsKeys, NamesInputTwice, Explains, ExplainsPlan, RefusesAs, RefusesKeys, RefusesWord, form_word, input_count, input_count_under, target_word, values_of};
 ghost use Rattle.clap.specs.Words.{fault_of};
 
 use super::commands::parse;
@@ -46,16 +46,15 @@ fn required(alloc: Global, found: &ArgMatches<'_>, id: &str) -> Result<String, U
         (λ s. first_of id.now (rows_of (found_of found.now)) ≡ Some (string_bytes s)) }
     ensures err { IfErr result (λ usage. usage ≡ Usage.Memory) }
 {
-    match value(found, id) {
-        Some(text) => Ok(String::from_str(alloc, text)?),
-        None => unreachable!(),
-    }
+    let Some(text) = value(found, id) else {
+        unreachable!()
+    };
+    Ok(String::from_str(alloc, text)?)
 }
 
 /// The format of a word.
 fn target_named(word: &str) -> Option<Target>
-    ensures { MatchOption result ((t : TargetValue) → word.now ≢ target_word t)
-        (λ t. word.now ≡ target_word t) }
+    ensures { IsValueOf target_word word.now result }
 {
     match word {
         "rle" => Some(Target::Rle),
@@ -82,8 +81,7 @@ fn target(alloc: Global, found: &ArgMatches<'_>) -> Result<Target, Usage>
 
 /// The form of a word.
 fn form_named(word: &str) -> Option<Form>
-    ensures { MatchOption result ((f : FormValue) → word.now ≢ form_word f)
-        (λ f. word.now ≡ form_word f) }
+    ensures { IsValueOf form_word word.now result }
 {
     match word {
         "placed" => Some(Form::Placed),
@@ -142,43 +140,6 @@ fn over_files(
         first,
         second: Some(second),
     })
-}
-
-fn canon(alloc: Global, found: &ArgMatches<'_>) -> Result<Plan, Usage>
-    requires { IsFound (codes "FILE") (rows_of (found_of found.now)) }
-    ensures ok { IfOk result (IsPlanOf (Some (codes "canon", rows_of (found_of found.now)))) }
-    ensures err { IfErr result (RefusesWord (HasNoForm (rows_of (found_of found.now)))) }
-{
-    let form = form(alloc, found)?;
-    over_file(alloc, found, Job::Canon(form))
-}
-
-fn convert(alloc: Global, found: &ArgMatches<'_>) -> Result<Plan, Usage>
-    requires file { IsFound (codes "FILE") (rows_of (found_of found.now)) }
-    requires to { IsFound (codes "to") (rows_of (found_of found.now)) }
-    ensures ok { IfOk result (IsPlanOf (Some (codes "convert", rows_of (found_of found.now)))) }
-    ensures err { IfErr result (RefusesWord (HasNoFormat (rows_of (found_of found.now)))) }
-{
-    let target = target(alloc, found)?;
-    over_file(alloc, found, Job::Convert(target))
-}
-
-fn same(alloc: Global, found: &ArgMatches<'_>) -> Result<Plan, Usage>
-    requires first { IsFound (codes "A") (rows_of (found_of found.now)) }
-    requires second { IsFound (codes "B") (rows_of (found_of found.now)) }
-    ensures ok { IfOk result (IsPlanOf (Some (codes "same", rows_of (found_of found.now)))) }
-    ensures err { IfErr result (RefusesWord (HasNoForm (rows_of (found_of found.now)))) }
-{
-    let form = form(alloc, found)?;
-    over_files(alloc, found, Job::Same(form), "A", "B")
-}
-
-fn show(alloc: Global, found: &ArgMatches<'_>) -> Result<Plan, Usage>
-    requires { IsFound (codes "FILE") (rows_of (found_of found.now)) }
-    ensures ok { IfOk result (IsPlanOf (Some (codes "show", rows_of (found_of found.now)))) }
-    ensures err { IfErr result (λ usage. usage ≡ Usage.Memory) }
-{
-    over_file(alloc, found, Job::Show)
 }
 
 fn step(alloc: Global, found: &ArgMatches<'_>) -> Result<Plan, Usage>
@@ -305,16 +266,16 @@ fn from_command(alloc: Global, matches: &ArgMatches<'_>) -> Result<Plan, Usage>
     ensures refused { IfErr result (Explains [] (subcommand_rows_of matches.now)) }
 {
     if let Some(found) = matches.subcommand_matches("canon") {
-        return canon(alloc, found);
+        return over_file(alloc, found, Job::Canon(form(alloc, found)?));
     }
     if let Some(found) = matches.subcommand_matches("convert") {
-        return convert(alloc, found);
+        return over_file(alloc, found, Job::Convert(target(alloc, found)?));
     }
     if let Some(found) = matches.subcommand_matches("same") {
-        return same(alloc, found);
+        return over_files(alloc, found, Job::Same(form(alloc, found)?), "A", "B");
     }
     if let Some(found) = matches.subcommand_matches("show") {
-        return show(alloc, found);
+        return over_file(alloc, found, Job::Show);
     }
     if let Some(found) = matches.subcommand_matches("step") {
         return step(alloc, found);
