@@ -90,6 +90,6 @@ ended-ended session ended = record {
 }
 
 -- what a call makes of the session of an open stream, which it takes out and puts another one into the place of
-pub through : (Makes : Option Session → Option Session → Type 0) {old new : Option Session} {before after : Session} → old ≡ Some before → new ≡ Some after
+pub through : (Makes : Option Session → Option Session → Type 0) (old new : Option Session) (before after : Session) → old ≡ Some before → Some after ≡ new
     → Makes (Some before) (Some after) → Makes old new
-through Makes {new = new} {before = before} is becomes made = subst (λ v. Makes v new) (sym is) (subst (Makes (Some before)) (sym becomes) made)
+through Makes old new before after is becomes made = subst (λ v. Makes v new) (sym is) (subst (Makes (Some before)) becomes made)

@@ -3,4 +3,6 @@ use Rattle.library_calls.proofs.StreamFacts.{through}
 use Rattle.library_calls.proofs.streams.feed.Goals as goal
 
 pub returns-clause-feeds : goal.returns-clause-feeds
-returns-clause-feeds c = through (Feeds c.args.piece.now) c.in-Some.ensures.taken c.put.ensures c.fed.ensures
+returns-clause-feeds c =
+    through (Feeds c.args.piece.now) c.args.stream.now.held.session c.put.new.stream.held.session c.replace-before.result c.fed.result
+    (cc c.in-Some.ensures.taken) (cc c.put.ensures) c.fed.ensures
