@@ -4,13 +4,12 @@ pub use Rattle.library_calls.specs.Answers.{IsCanonicalText, IsRleText, RefusesR
 pub use Rattle.library_calls.specs.Comparing.{compared, ComparesWithin}
 pub use Rattle.library_calls.specs.ComparingInForm.{ComparesInForm, ComparesInNone}
 pub use Rattle.library_calls.specs.Forms.{text_in}
-pub use Rattle.library_calls.specs.InForm.{form_numbered, IsKeyInForm, IsTextInForm, RefusesInForm, TellsNoForm}
+pub use Rattle.library_calls.specs.InForm.{form_numbered, IsKeyInForm, IsTextInForm, AnswersInForm}
 pub use Rattle.library_calls.specs.Stepping.{RefusesStepWithin, StepsByTable}
-pub use Rattle.library_calls.specs.Streams.{Ends, HasFault, HasText, IsFed, IsOpen, IsSpent, Opens, session_of, Takes, TellsEnd, TellsNothing, TellsPiece}
+pub use Rattle.library_calls.specs.Streams.{Feeds, Finishes, IsSpent, Opens, session_of, TellsEnd, TellsNothing, TellsPiece}
 pub use Rattle.library_calls.specs.Told.{Answers, Gives, told}
 pub use Rattle.library_calls.specs.declared.session.Form.{Form as FormValue}
 pub use Rattle.life_base.specs.Kinds.{kind_name, kind_number}
-pub use Rattle.life_base.specs.declared.fault.Fault.{Fault as FaultValue}
 pub use Rattle.life_base.specs.declared.kind.Kind.{Kind as KindValue}
 pub use Rattle.life_canon.specs.Texts.{IsShown}
 pub use Rattle.life_step.specs.Stepped.{IsStepped}

@@ -3,7 +3,7 @@
 ghost use Rattle.golly_canon_c.specs.Words.{RefusesStepWithin, StepsByTable, Answers, told, IsStepped};
 
 use crate::told::tell;
-use library_calls::{step, step_by_table};
+use library_calls::{Room, step, step_by_table};
 use std::alloc::Global;
 
 /// The canonical text of the next generation of the pattern of a file, under its B/S rule.
@@ -20,7 +20,7 @@ pub extern "C" fn golly_canon_step(
     ensures { Answers (IsStepped bytes.now) (RefusesStepWithin limit bytes.now) out.old out.new
         (told result needed.new line.new) }
 {
-    tell(step(alloc, bytes, limit, seed, out), needed, line)
+    tell(step(alloc, bytes, Room { limit, seed }, out), needed, line)
 }
 
 /// The canonical text of the next generation of the pattern of a file, by a rule table, whose file is `table`. A refusal of the table itself
@@ -40,7 +40,7 @@ pub extern "C" fn golly_canon_step_by_table(
     ensures { StepsByTable limit bytes.now table.now in_table.new out.old out.new
         (told result needed.new line.new) }
 {
-    let (answer, of_table) = step_by_table(alloc, bytes, table, limit, seed, out);
+    let (answer, of_table) = step_by_table(alloc, bytes, table, Room { limit, seed }, out);
     *in_table = of_table;
     tell(answer, needed, line)
 }

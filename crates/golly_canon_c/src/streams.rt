@@ -1,10 +1,10 @@
 //! The calls on streams: a file in pieces, and one answer at its end.
 
-ghost use Rattle.std.specs.Prelude.{◌≡◌, ◌++◌, ℕ, List, None, IfSome, MatchOption};
-ghost use Rattle.golly_canon_c.specs.Words.{FaultValue, text_in, form_numbered, session_of, IsOpen, IsFed, HasText, HasFault, Opens, Takes, Ends, IsSpent, TellsPiece, TellsNothing, TellsEnd, told, FormValue};
+ghost use Rattle.std.specs.Prelude.{◌≡◌, None, IfSome, MatchOption};
+ghost use Rattle.golly_canon_c.specs.Words.{text_in, form_numbered, session_of, Opens, Feeds, Finishes, IsSpent, TellsPiece, TellsNothing, TellsEnd, told, FormValue};
 
 use crate::told::tell;
-use library_calls::{Form, Stream, close, feed, finish, open, open_canon_form};
+use library_calls::{Form, Room, Stream, close, feed, finish, open, open_canon_form};
 use std::alloc::Global;
 
 /// Opens a stream whose end gives the canonical text, and closes it first where it is open.
@@ -17,7 +17,7 @@ pub extern "C" fn golly_canon_open_canon(
 ) -> u32
     ensures { Opens FormValue.Canonical limit result (session_of stream.new) }
 {
-    open(alloc, stream, Form::Canonical, limit, seed)
+    open(alloc, stream, Form::Canonical, Room { limit, seed })
 }
 
 /// Opens a stream whose end gives the canonical text in the form with this number, and closes it first where it is open.
@@ -32,7 +32,7 @@ pub extern "C" fn golly_canon_open_canon_form(
     ensures { MatchOption (form_numbered form) ((result ≡ 65) × (session_of stream.new ≡ None))
         (λ form. Opens (text_in form) limit result (session_of stream.new)) }
 {
-    open_canon_form(alloc, stream, form, limit, seed)
+    open_canon_form(alloc, stream, form, Room { limit, seed })
 }
 
 /// Opens a stream whose end gives the pattern in extended RLE, and closes it first where it is open.
@@ -45,7 +45,7 @@ pub extern "C" fn golly_canon_open_to_rle(
 ) -> u32
     ensures { Opens FormValue.Rle limit result (session_of stream.new) }
 {
-    open(alloc, stream, Form::Rle, limit, seed)
+    open(alloc, stream, Form::Rle, Room { limit, seed })
 }
 
 /// Opens a stream whose end gives five lines on the pattern, and closes it first where it is open.
@@ -58,7 +58,7 @@ pub extern "C" fn golly_canon_open_show(
 ) -> u32
     ensures { Opens FormValue.Lines limit result (session_of stream.new) }
 {
-    open(alloc, stream, Form::Lines, limit, seed)
+    open(alloc, stream, Form::Lines, Room { limit, seed })
 }
 
 /// Opens a stream whose end gives the canonical text of the next generation under the file's B/S rule, and closes it first where it is open.
@@ -71,7 +71,7 @@ pub extern "C" fn golly_canon_open_step(
 ) -> u32
     ensures { Opens FormValue.Next limit result (session_of stream.new) }
 {
-    open(alloc, stream, Form::Next, limit, seed)
+    open(alloc, stream, Form::Next, Room { limit, seed })
 }
 
 /// Takes the next piece of the file. The fault of a line that it tells is that of the whole file, whatever bytes follow (`faults_stay` of
@@ -85,13 +85,7 @@ pub extern "C" fn golly_canon_feed(
 ) -> u32
     ensures closed { session_of stream.old ≡ None
         → (session_of stream.new ≡ None) × IsSpent result line.new }
-    ensures takes { (form : FormValue) (limit : ℕ) (bytes : List ℕ)
-        → IsOpen (IsFed form limit bytes) (session_of stream.old)
-        → IsOpen (Takes form limit (bytes ++ piece.now)) (session_of stream.new) }
-    ensures text { (text : List ℕ) → IsOpen (HasText text) (session_of stream.old)
-        → IsOpen (HasText text) (session_of stream.new) }
-    ensures fault { (fault : FaultValue) → IsOpen (HasFault fault) (session_of stream.old)
-        → IsOpen (HasFault fault) (session_of stream.new) }
+    ensures feeds { Feeds piece.now (session_of stream.old) (session_of stream.new) }
     ensures tells { IfSome (session_of stream.new) (TellsPiece result line.new) }
 {
     let answer = feed(alloc, stream, piece);
@@ -111,13 +105,7 @@ pub extern "C" fn golly_canon_finish(
     ensures closed { session_of stream.old ≡ None
         → (session_of stream.new ≡ None)
         × TellsNothing out.old out.new (told result needed.new line.new) }
-    ensures ends { (form : FormValue) (limit : ℕ) (bytes : List ℕ)
-        → IsOpen (IsFed form limit bytes) (session_of stream.old)
-        → IsOpen (Ends form limit bytes) (session_of stream.new) }
-    ensures text { (text : List ℕ) → IsOpen (HasText text) (session_of stream.old)
-        → IsOpen (HasText text) (session_of stream.new) }
-    ensures fault { (fault : FaultValue) → IsOpen (HasFault fault) (session_of stream.old)
-        → IsOpen (HasFault fault) (session_of stream.new) }
+    ensures finishes { Finishes (session_of stream.old) (session_of stream.new) }
     ensures tells { IfSome (session_of stream.new)
         (TellsEnd out.old out.new (told result needed.new line.new)) }
 {

@@ -3,7 +3,7 @@
 ghost use Rattle.golly_canon_c.specs.Words.{IsCanonicalText, IsRleText, RefusesWithin, RefusesRleWithin, Answers, told, IsShown};
 
 use crate::told::tell;
-use library_calls::{canon, show, to_rle};
+use library_calls::{Room, canon, show, to_rle};
 use life_base::MAX_LEVEL;
 use std::alloc::Global;
 
@@ -21,7 +21,7 @@ pub extern "C" fn golly_canon_canon(
     ensures { Answers (IsCanonicalText bytes.now) (RefusesWithin limit bytes.now) out.old out.new
         (told result needed.new line.new) }
 {
-    tell(canon(alloc, bytes, limit, seed, out), needed, line)
+    tell(canon(alloc, bytes, Room { limit, seed }, out), needed, line)
 }
 
 /// The text in extended RLE of the pattern of a file of either format.
@@ -38,7 +38,8 @@ pub extern "C" fn golly_canon_to_rle(
     ensures { Answers (IsRleText bytes.now) (RefusesRleWithin limit bytes.now) out.old out.new
         (told result needed.new line.new) }
 {
-    tell(to_rle(alloc, bytes, limit, seed, out), needed, line)
+    let answer = to_rle(alloc, bytes, Room { limit, seed }, out);
+    tell(answer, needed, line)
 }
 
 /// Five lines on the pattern of a file of either format.
@@ -55,5 +56,5 @@ pub extern "C" fn golly_canon_show(
     ensures { Answers (IsShown MAX_LEVEL bytes.now) (RefusesWithin limit bytes.now) out.old
         out.new (told result needed.new line.new) }
 {
-    tell(show(alloc, bytes, limit, seed, out), needed, line)
+    tell(show(alloc, bytes, Room { limit, seed }, out), needed, line)
 }

@@ -1,5 +1,6 @@
 -- What the reader and the store of a stream make of the bytes that came.
-use Rattle.std.proofs.Common.{◌≡◌, ℕ, ◌++◌, ◌∙◌, ap, subst, List, ◌⊎◌, inl, inr, Option, Some}
+use Rattle.std.proofs.Common.{◌≡◌, ℕ, ◌++◌, ◌∙◌, ap, refl, sym, subst, List, ◌⊎◌, inl, inr, Option, Some}
+use Rattle.std.specs.Global.{Vec}
 use Rattle.life_base.specs.Refusal.{fault_of}
 use Rattle.life_base.specs.declared.cell.TheConstants.{MAX_LEVEL}
 use Rattle.life_base.specs.declared.fault.Fault.{Fault}
@@ -9,11 +10,11 @@ use Rattle.life_canon.specs.Feeding.{RefusesFront}
 use Rattle.life_canon.specs.Store.{IsWant}
 use Rattle.library_calls.specs.Answers.{room_of}
 use Rattle.library_calls.specs.Forms.{Piecewise, IsTextOf, IsTooSmallForFront, RefusesTextOf, RefusesPiece}
-use Rattle.library_calls.specs.Streams.{IsOpen, IsFed, HasText, HasFault, Takes, by_piece, Ends, by_text}
+use Rattle.library_calls.specs.Streams.{IsFed, HasText, HasFault, by_piece, by_text, StaysEnded, Feeds, Finishes}
 use Rattle.library_calls.specs.Streams as streams
 use Rattle.library_calls.specs.declared.session.Form.{Form}
 use Rattle.library_calls.specs.declared.session.Session.{Session}
-use Rattle.library_calls.specs.declared.session.Session.TheVariants.{Reading}
+use Rattle.library_calls.specs.declared.session.Session.TheVariants.{Reading, Written, Refused}
 
 -- why a piece is refused
 pub piece-fault : (limit : ℕ) (bytes : List ℕ) (store : Nodes) (fault : Fault) → store.limit ≡ room_of limit
@@ -24,50 +25,71 @@ piece-fault limit bytes store fault is (inr front) lacks = inl front
 
 -- ---- sessions
 
+-- a session that is read has no text and no fault
+none-yet : (session : Session) (feeding : Piecewise) (new : Option Session) → session ≡ Reading feeding → StaysEnded (Some session) new
+none-yet session feeding new is =
+    record { text = λ text has. absurd (subst (HasText text) is has); fault = λ fault has. absurd (subst (HasFault fault) is has) }
+
 -- a piece that is taken
-pub takes-piece : (form : Form) (limit : ℕ) (bytes piece : List ℕ) (session : Session) (feeding next : Piecewise) → session ≡ Reading feeding
+pub feeds-piece : (piece : List ℕ) (session : Session) (feeding next : Piecewise) → session ≡ Reading feeding
     → next ≡ record { form = feeding.form; room = feeding.room; bytes = feeding.bytes ++ piece }
-    → ((fault : Fault) → ¬ RefusesFront MAX_LEVEL (feeding.bytes ++ piece) fault)
-    → IsFed form limit bytes session → Takes form limit (bytes ++ piece) (Reading next)
-takes-piece form limit bytes piece session feeding next is after front fed =
-    let f = subst (IsFed form limit bytes) is fed in
-    by_piece
-    (ap (λ (v : Piecewise). v.form) after ∙ f.0, ap (λ (v : Piecewise). v.room) after ∙ f.1, ap (λ (v : Piecewise). v.bytes) after ∙ ap (λ b. b ++ piece) f.2)
-    (subst (λ b. (fault : Fault) → ¬ RefusesFront MAX_LEVEL (b ++ piece) fault) f.2 front)
+    → ((fault : Fault) → ¬ RefusesFront MAX_LEVEL (feeding.bytes ++ piece) fault) → Feeds piece (Some session) (Some (Reading next))
+feeds-piece piece session feeding next is after front = record {
+  takes = λ form limit bytes fed. let f = subst (IsFed form limit bytes) is fed in by_piece
+      (ap (λ (v : Piecewise). v.form) after ∙ f.0, ap (λ (v : Piecewise). v.room) after ∙ f.1, ap (λ (v : Piecewise). v.bytes) after ∙ ap (λ b. b ++ piece) f.2)
+      (subst (λ b. (fault : Fault) → ¬ RefusesFront MAX_LEVEL (b ++ piece) fault) f.2 front);
+  stays = none-yet session feeding _ is;
+}
 
 -- one that is refused
-pub takes-fault : (form : Form) (limit : ℕ) (bytes piece : List ℕ) (session result : Session) (feeding : Piecewise) (fault : Fault)
-    → session ≡ Reading feeding → HasFault fault result
-    → ((limit : ℕ) → feeding.room ≡ room_of limit → RefusesPiece limit (feeding.bytes ++ piece) fault)
-    → IsFed form limit bytes session → Takes form limit (bytes ++ piece) result
-takes-fault form limit bytes piece session result feeding fault is has why fed =
-    let f = subst (IsFed form limit bytes) is fed in
-    streams.by_fault fault has (subst (λ b. RefusesPiece limit (b ++ piece) fault) f.2 (why limit f.1))
+pub feeds-fault : (piece : List ℕ) (session : Session) (feeding : Piecewise) (fault : Fault) → session ≡ Reading feeding
+    → ((limit : ℕ) → feeding.room ≡ room_of limit → RefusesPiece limit (feeding.bytes ++ piece) fault) → Feeds piece (Some session) (Some (Refused fault))
+feeds-fault piece session feeding fault is why = record {
+  takes = λ form limit bytes fed. let f = subst (IsFed form limit bytes) is fed in
+      streams.by_fault fault refl (subst (λ b. RefusesPiece limit (b ++ piece) fault) f.2 (why limit f.1));
+  stays = none-yet session feeding _ is;
+}
 
 -- the text of the end
-pub ends-text : (form : Form) (limit : ℕ) (bytes : List ℕ) (session result : Session) (feeding : Piecewise) (text : List ℕ)
-    → session ≡ Reading feeding → HasText text result → IsTextOf feeding.form feeding.bytes text
-    → IsFed form limit bytes session → Ends form limit bytes result
-ends-text form limit bytes session result feeding text is has good fed =
-    let f = subst (IsFed form limit bytes) is fed in
-    by_text text has (subst (λ b. IsTextOf form b text) f.2 (subst (λ k. IsTextOf k feeding.bytes text) f.0 good))
+pub ends-text : (session : Session) (feeding : Piecewise) (text : Vec ℕ) → session ≡ Reading feeding → IsTextOf feeding.form feeding.bytes text.items
+    → Finishes (Some session) (Some (Written text))
+ends-text session feeding text is good = record {
+  ends = λ form limit bytes fed. let f = subst (IsFed form limit bytes) is fed in
+      by_text text.items refl (subst (λ b. IsTextOf form b text.items) f.2 (subst (λ k. IsTextOf k feeding.bytes text.items) f.0 good));
+  stays = none-yet session feeding _ is;
+}
 
 -- its fault
-pub ends-fault : (form : Form) (limit : ℕ) (bytes : List ℕ) (session result : Session) (feeding : Piecewise) (fault : Fault)
-    → session ≡ Reading feeding → HasFault fault result
+pub ends-fault : (session : Session) (feeding : Piecewise) (fault : Fault) → session ≡ Reading feeding
     → ((limit : ℕ) → feeding.room ≡ room_of limit → RefusesTextOf feeding.form limit feeding.bytes fault)
-    → IsFed form limit bytes session → Ends form limit bytes result
-ends-fault form limit bytes session result feeding fault is has why fed =
-    let f = subst (IsFed form limit bytes) is fed in
-    streams.by_fault fault has
-    (subst (λ b. RefusesTextOf form limit b fault) f.2 (subst (λ k. RefusesTextOf k limit feeding.bytes fault) f.0 (why limit f.1)))
+    → Finishes (Some session) (Some (Refused fault))
+ends-fault session feeding fault is why = record {
+  ends = λ form limit bytes fed. let f = subst (IsFed form limit bytes) is fed in streams.by_fault fault refl
+      (subst (λ b. RefusesTextOf form limit b fault) f.2 (subst (λ k. RefusesTextOf k limit feeding.bytes fault) f.0 (why limit f.1)));
+  stays = none-yet session feeding _ is;
+}
+
+-- a session that is not read any more was not fed
+not-fed : (form : Form) (limit : ℕ) (bytes : List ℕ) (session : Session) → ((feeding : Piecewise) → session ≡ Reading feeding → ⊥)
+    → ¬ IsFed form limit bytes session
+not-fed form limit bytes (Reading feeding) ended fed = ended feeding refl
+not-fed form limit bytes (Written text) ended fed = fed
+not-fed form limit bytes (Refused fault) ended fed = fed
+
+-- it stays as it is
+pub fed-ended : (piece : List ℕ) (session : Session) → ((feeding : Piecewise) → session ≡ Reading feeding → ⊥) → Feeds piece (Some session) (Some session)
+fed-ended piece session ended = record {
+  takes = λ form limit bytes fed. absurd (not-fed form limit bytes session ended fed);
+  stays = record { text = λ text has. has; fault = λ fault has. has };
+}
+
+pub ended-ended : (session : Session) → ((feeding : Piecewise) → session ≡ Reading feeding → ⊥) → Finishes (Some session) (Some session)
+ended-ended session ended = record {
+  ends = λ form limit bytes fed. absurd (not-fed form limit bytes session ended fed);
+  stays = record { text = λ text has. has; fault = λ fault has. has };
+}
 
 -- what a call makes of the session of an open stream, which it takes out and puts another one into the place of
-pub through : (P Q : Session → Type 0) (old new : Option Session) (before after : Session) → old ≡ Some before → Some after ≡ new
-    → (P before → Q after) → IsOpen P old → IsOpen Q new
-through P Q old new before after is becomes turn holds = subst (IsOpen Q) becomes (turn (subst (IsOpen P) is holds))
-
--- what the session had, as its text or its fault, the other one has
-pub stays : {X : Type 0} (Has : X → Session → Type 0) (old new : Option Session) (before after : Session) → old ≡ Some before → Some after ≡ new
-    → ((x : X) → Has x before → Has x after) → (x : X) → IsOpen (Has x) old → IsOpen (Has x) new
-stays Has old new before after is becomes turn x = through (Has x) (Has x) old new before after is becomes (turn x)
+pub through : (Makes : Option Session → Option Session → Type 0) (old new : Option Session) (before after : Session) → old ≡ Some before → Some after ≡ new
+    → Makes (Some before) (Some after) → Makes old new
+through Makes old new before after is becomes made = subst (λ v. Makes v new) (sym is) (subst (Makes (Some before)) becomes made)

@@ -1,5 +1,5 @@
 -- The text of a pattern in a form, its key, and why there is none.
-use Rattle.std.specs.Prelude.{◌≡◌, ◌⊎◌, ◌==◌, ◌^◌, ℕ, List, Option, Some, None, if◌then◌else◌}
+use Rattle.std.specs.Prelude.{◌≡◌, ◌⊎◌, ◌==◌, ◌^◌, ℕ, List, Option, Some, None, MatchOption, if◌then◌else◌}
 use Rattle.sha2.specs.Sha256.{sha256}
 use Rattle.life_base.specs.Refusal.{fault_of}
 use Rattle.life_base.specs.declared.cell.TheConstants.{MAX_LEVEL}
@@ -13,7 +13,7 @@ use Rattle.life_canon.specs.Universe.{Universe}
 use Rattle.life_forms.specs.Forms.{IsMoved}
 use Rattle.life_forms.specs.Images.{IsTurnedText}
 use Rattle.life_forms.specs.Needed.{HasFewCells, LacksForMoved}
-use Rattle.library_calls.specs.Told.{Told}
+use Rattle.library_calls.specs.Told.{Told, Answers}
 use Rattle.library_calls.specs.Answers.{IsCanonicalText, IsTooSmallFor, RefusesWithin, RefusesRleWithin, Wants}
 use Rattle.library_calls.specs.declared.pattern_form.PatternForm.{PatternForm}
 use Rattle.library_calls.specs.declared.pattern_form.PatternForm.TheVariants.{Placed, Moved, Turned}
@@ -70,3 +70,8 @@ pub record TellsNoForm (before after : List ℕ) (it : Told) : Type 0 where
   pub line : it.line ≡ 0
   pub needed : it.needed ≡ 0
   pub kept : after ≡ before
+
+-- what a call that takes the number of a form answers: such a text of the bytes in that form, or why they have none; or that no form has the number
+abbrev pub AnswersInForm : (IsText : PatternForm → List ℕ → List ℕ → Type 0) → (number limit : ℕ) (bytes before after : List ℕ) → Told → Type 0
+AnswersInForm IsText number limit bytes before after it =
+    MatchOption (form_numbered number) (TellsNoForm before after it) (λ form. Answers (IsText form bytes) (RefusesInForm form limit bytes) before after it)

@@ -1,5 +1,5 @@
 -- What a stream holds, and what the calls on it tell of the bytes that were fed.
-use Rattle.std.specs.Prelude.{◌≡◌, ◌⊎◌, ℕ, Option, Some, None, List, []}
+use Rattle.std.specs.Prelude.{◌≡◌, ◌⊎◌, ◌++◌, ℕ, Option, Some, None, List, []}
 use Rattle.life_base.specs.Kinds.{kind_number}
 use Rattle.life_base.specs.declared.cell.TheConstants.{MAX_LEVEL}
 use Rattle.life_base.specs.declared.fault.Fault.{Fault}
@@ -53,6 +53,21 @@ pub data Takes (form : Form) (limit : ℕ) (bytes : List ℕ) (session : Session
 pub data Ends (form : Form) (limit : ℕ) (bytes : List ℕ) (session : Session) : Type 0 where
   by_text : (text : List ℕ) → HasText text session → IsTextOf form bytes text → Ends form limit bytes session
   by_fault : (fault : Fault) → HasFault fault session → RefusesTextOf form limit bytes fault → Ends form limit bytes session
+
+-- a session that has a text or a fault keeps it
+pub record StaysEnded (old new : Option Session) : Type 0 where
+  pub text : (text : List ℕ) → IsOpen (HasText text) old → IsOpen (HasText text) new
+  pub fault : (fault : Fault) → IsOpen (HasFault fault) old → IsOpen (HasFault fault) new
+
+-- what a piece makes of the session of a stream
+pub record Feeds (piece : List ℕ) (old new : Option Session) : Type 0 where
+  pub takes : (form : Form) (limit : ℕ) (bytes : List ℕ) → IsOpen (IsFed form limit bytes) old → IsOpen (Takes form limit (bytes ++ piece)) new
+  pub stays : StaysEnded old new
+
+-- what the end of the file makes of it
+pub record Finishes (old new : Option Session) : Type 0 where
+  pub ends : (form : Form) (limit : ℕ) (bytes : List ℕ) → IsOpen (IsFed form limit bytes) old → IsOpen (Ends form limit bytes) new
+  pub stays : StaysEnded old new
 
 -- the call doesn't fit the stream
 abbrev pub IsSpent : (status line : ℕ) → Type 0

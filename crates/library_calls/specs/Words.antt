@@ -3,11 +3,10 @@ pub use Rattle.library_calls.specs.Answers.{IsCanonicalText, IsFresh, IsRleText,
 pub use Rattle.library_calls.specs.Comparing.{compared, ComparesWithin, IsTooSmallForBoth}
 pub use Rattle.library_calls.specs.ComparingInForm.{AreOneInForm, ComparesInForm, ComparesInNone, HasTooMany, RefusesEitherInForm}
 pub use Rattle.library_calls.specs.Forms.{IsTextOf, IsTextOfRead, RefusesPiece, RefusesTextOf, RefusesTextOfRead, text_in}
-pub use Rattle.library_calls.specs.InForm.{form_numbered, IsKeyInForm, IsTextInForm, RefusesInForm, TellsNoForm}
+pub use Rattle.library_calls.specs.InForm.{form_numbered, IsKeyInForm, IsTextInForm, AnswersInForm}
 pub use Rattle.library_calls.specs.Stepping.{RefusesStepByWithin, RefusesStepWithin, StepsByTable}
-pub use Rattle.library_calls.specs.Streams.{Ends, HasFault, HasText, IsFed, IsOpen, IsSpent, Opens, session_of, Takes, TellsEnd, TellsNothing, TellsPiece}
+pub use Rattle.library_calls.specs.Streams.{Feeds, Finishes, IsSpent, Opens, session_of, TellsEnd, TellsNothing, TellsPiece}
 pub use Rattle.library_calls.specs.Told.{Answers, Gives, Tells, told}
-pub use Rattle.library_calls.specs.declared.session.Form.{Form as FormValue}
 pub use Rattle.life_base.specs.Kinds.{kind_number}
 pub use Rattle.life_base.specs.Refusal.{fault_of}
 pub use Rattle.life_base.specs.declared.cell.TheConstants.{MAX_LEVEL}

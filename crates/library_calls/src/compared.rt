@@ -5,6 +5,7 @@ ghost use Rattle.library_calls.specs.Words.{kind_number, ComparesWithin, compare
 
 use crate::comparison::compare;
 use crate::pattern_form::PatternForm;
+use crate::room::Room;
 use life_base::Fault;
 use std::alloc::Global;
 
@@ -44,8 +45,8 @@ impl Compared {
 }
 
 /// Whether two files, each of either format, are one pattern.
-pub fn same(alloc: Global, first: &[u8], second: &[u8], limit: u64, seed: u64) -> Compared
-    ensures { ComparesWithin limit first.now second.now result }
+pub fn same(alloc: Global, first: &[u8], second: &[u8], room: Room) -> Compared
+    ensures { ComparesWithin room.limit first.now second.now result }
 {
-    compare(alloc, first, second, PatternForm::Placed, limit, seed)
+    compare(alloc, first, second, PatternForm::Placed, room)
 }

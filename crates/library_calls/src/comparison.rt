@@ -6,6 +6,7 @@ ghost use Rattle.library_calls.specs.Words.{fault_of, MAX_LEVEL, Full, held, Acc
 use crate::compared::Compared;
 use crate::in_form::{NO_FORM, form_of};
 use crate::pattern_form::PatternForm;
+use crate::room::Room;
 use crate::session::store_of;
 use life_base::Fault;
 use life_canon::laws::{
@@ -81,12 +82,11 @@ pub(crate) fn compare(
     first: &[u8],
     second: &[u8],
     form: PatternForm,
-    limit: u64,
-    seed: u64,
+    room: Room,
 ) -> Compared
-    ensures { ComparesInForm form limit first.now second.now result }
+    ensures { ComparesInForm form room.limit first.now second.now result }
 {
-    let mut store = store_of(alloc, limit, seed);
+    let mut store = store_of(alloc, room);
     match are_one(alloc, &mut store, first, second, form) {
         Ok(answer) => Compared::of(answer),
         Err(fault) => Compared::refused(&fault),
@@ -94,16 +94,9 @@ pub(crate) fn compare(
 }
 
 /// Whether two files, each of either format, are one pattern in the form with this number.
-pub fn same_form(
-    alloc: Global,
-    first: &[u8],
-    second: &[u8],
-    form: u32,
-    limit: u64,
-    seed: u64,
-) -> Compared
+pub fn same_form(alloc: Global, first: &[u8], second: &[u8], form: u32, room: Room) -> Compared
     ensures { MatchOption (form_numbered form) (ComparesInNone result)
-        (λ form. ComparesInForm form limit first.now second.now result) }
+        (λ form. ComparesInForm form room.limit first.now second.now result) }
 {
     let Some(form) = form_of(form) else {
         return Compared {
@@ -112,5 +105,5 @@ pub fn same_form(
             line: 0,
         };
     };
-    compare(alloc, first, second, form, limit, seed)
+    compare(alloc, first, second, form, room)
 }

@@ -1,9 +1,10 @@
 //! What stands behind the calls: the store of each, and the session of a stream.
 
-ghost use Rattle.std.specs.Prelude.{◌≡◌, ◌++◌, ℕ, List};
-ghost use Rattle.library_calls.specs.Words.{FaultValue, IsFresh, IsFed, HasText, HasFault, Takes, Ends, FormValue};
+ghost use Rattle.std.specs.Prelude.{Some};
+ghost use Rattle.library_calls.specs.Words.{IsFresh, Feeds, Finishes};
 
 use crate::feeding::Feeding;
+use crate::room::Room;
 use crate::seeds::seed_of_squares;
 use life_base::Fault;
 use life_quad::Shared;
@@ -12,16 +13,16 @@ use std::alloc::Global;
 /// How many different squares a store holds at most, whatever limit is asked for.
 const GREATEST_LIMIT: u64 = 1 << 62;
 
-/// An empty store for so many different squares, and for 2^62 where more are asked for. The seed decides time alone.
-pub(crate) fn store_of(alloc: Global, limit: u64, seed: u64) -> Shared
-    ensures { IsFresh limit result }
+/// An empty store with this room, whose limit counts as 2^62 where it is more.
+pub(crate) fn store_of(alloc: Global, room: Room) -> Shared
+    ensures { IsFresh room.limit result }
 {
-    let most = if limit < GREATEST_LIMIT {
-        limit
+    let most = if room.limit < GREATEST_LIMIT {
+        room.limit
     } else {
         GREATEST_LIMIT
     };
-    Shared::new(alloc, seed_of_squares(seed), most)
+    Shared::new(alloc, seed_of_squares(room.seed), most)
 }
 
 /// The text that a stream gives at its end.
@@ -54,10 +55,7 @@ pub enum Session {
 
 /// The session after the next piece. One that has a text or a fault stays as it is.
 pub(crate) fn fed(session: Session, piece: &[u8]) -> Session
-    ensures takes { (form : FormValue) (limit : ℕ) (bytes : List ℕ)
-        → IsFed form limit bytes session → Takes form limit (bytes ++ piece.now) result }
-    ensures text { (text : List ℕ) → HasText text session → HasText text result }
-    ensures fault { (fault : FaultValue) → HasFault fault session → HasFault fault result }
+    ensures { Feeds piece.now (Some session) (Some result) }
 {
     match session {
         Session::Reading(feeding) => match feeding.fed(piece) {
@@ -70,10 +68,7 @@ pub(crate) fn fed(session: Session, piece: &[u8]) -> Session
 
 /// The session after the end of the file. One that has a text or a fault stays as it is.
 pub(crate) fn ended(session: Session, alloc: Global) -> Session
-    ensures ends { (form : FormValue) (limit : ℕ) (bytes : List ℕ)
-        → IsFed form limit bytes session → Ends form limit bytes result }
-    ensures text { (text : List ℕ) → HasText text session → HasText text result }
-    ensures fault { (fault : FaultValue) → HasFault fault session → HasFault fault result }
+    ensures { Finishes (Some session) (Some result) }
 {
     match session {
         Session::Reading(feeding) => match feeding.text(alloc) {

@@ -1,10 +1,11 @@
 //! The calls on streams: a file in pieces, and one answer at its end.
 
-ghost use Rattle.std.specs.Prelude.{◌≡◌, ◌++◌, ℕ, List, None, IfSome, MatchOption};
-ghost use Rattle.library_calls.specs.Words.{FaultValue, text_in, form_numbered, session_of, IsOpen, IsFed, HasText, HasFault, Opens, Takes, Ends, IsSpent, TellsPiece, TellsNothing, TellsEnd, FormValue};
+ghost use Rattle.std.specs.Prelude.{◌≡◌, None, IfSome, MatchOption};
+ghost use Rattle.library_calls.specs.Words.{text_in, form_numbered, session_of, Opens, Feeds, Finishes, IsSpent, TellsPiece, TellsNothing, TellsEnd};
 
 use crate::feeding::Feeding;
 use crate::in_form::{NO_FORM, form_of, text_in};
+use crate::room::Room;
 use crate::session::{Form, Session, ended, fed};
 use crate::stream::{Stream, put, take};
 use crate::told::{Told, give, refuse};
@@ -13,11 +14,11 @@ use std::alloc::Global;
 use std::mem;
 
 /// Opens a stream whose end gives a text of this form, and closes it first where it is open. The answer is the status.
-pub fn open(alloc: Global, stream: &mut Stream, form: Form, limit: u64, seed: u64) -> u32
-    ensures { Opens form limit result (session_of stream.new) }
+pub fn open(alloc: Global, stream: &mut Stream, form: Form, room: Room) -> u32
+    ensures { Opens form room.limit result (session_of stream.new) }
 {
     close(alloc, stream);
-    let feeding = Feeding::new(alloc, form, limit, seed);
+    let feeding = Feeding::new(alloc, form, room);
     match Box::new(alloc, Session::Reading(feeding)) {
         Ok(session) => {
             put(stream, session);
@@ -29,13 +30,13 @@ pub fn open(alloc: Global, stream: &mut Stream, form: Form, limit: u64, seed: u6
 
 /// Opens a stream whose end gives the canonical text in the form with this number, and closes it first where it is open. The
 /// answer is the status.
-pub fn open_canon_form(alloc: Global, stream: &mut Stream, form: u32, limit: u64, seed: u64) -> u32
+pub fn open_canon_form(alloc: Global, stream: &mut Stream, form: u32, room: Room) -> u32
     ensures { MatchOption (form_numbered form) ((result ≡ 65) × (session_of stream.new ≡ None))
-        (λ form. Opens (text_in form) limit result (session_of stream.new)) }
+        (λ form. Opens (text_in form) room.limit result (session_of stream.new)) }
 {
     close(alloc, stream);
     match form_of(form) {
-        Some(form) => open(alloc, stream, text_in(form), limit, seed),
+        Some(form) => open(alloc, stream, text_in(form), room),
         None => NO_FORM,
     }
 }
@@ -80,13 +81,7 @@ fn tell_end(session: &Session, out: &mut [u8]) -> Told
 pub fn feed(alloc: Global, stream: &mut Stream, piece: &[u8]) -> Told
     ensures closed { session_of stream.old ≡ None
         → (session_of stream.new ≡ None) × IsSpent result.status result.line }
-    ensures takes { (form : FormValue) (limit : ℕ) (bytes : List ℕ)
-        → IsOpen (IsFed form limit bytes) (session_of stream.old)
-        → IsOpen (Takes form limit (bytes ++ piece.now)) (session_of stream.new) }
-    ensures text { (text : List ℕ) → IsOpen (HasText text) (session_of stream.old)
-        → IsOpen (HasText text) (session_of stream.new) }
-    ensures fault { (fault : FaultValue) → IsOpen (HasFault fault) (session_of stream.old)
-        → IsOpen (HasFault fault) (session_of stream.new) }
+    ensures feeds { Feeds piece.now (session_of stream.old) (session_of stream.new) }
     ensures tells { IfSome (session_of stream.new) (TellsPiece result.status result.line) }
     ensures needed { result.needed ≡ 0 }
 {
@@ -104,13 +99,7 @@ pub fn feed(alloc: Global, stream: &mut Stream, piece: &[u8]) -> Told
 pub fn finish(alloc: Global, stream: &mut Stream, out: &mut [u8]) -> Told
     ensures closed { session_of stream.old ≡ None
         → (session_of stream.new ≡ None) × TellsNothing out.old out.new result }
-    ensures ends { (form : FormValue) (limit : ℕ) (bytes : List ℕ)
-        → IsOpen (IsFed form limit bytes) (session_of stream.old)
-        → IsOpen (Ends form limit bytes) (session_of stream.new) }
-    ensures text { (text : List ℕ) → IsOpen (HasText text) (session_of stream.old)
-        → IsOpen (HasText text) (session_of stream.new) }
-    ensures fault { (fault : FaultValue) → IsOpen (HasFault fault) (session_of stream.old)
-        → IsOpen (HasFault fault) (session_of stream.new) }
+    ensures finishes { Finishes (session_of stream.old) (session_of stream.new) }
     ensures tells { IfSome (session_of stream.new) (TellsEnd out.old out.new result) }
 {
     let Some(mut session) = take(alloc, stream) else {

@@ -3,7 +3,7 @@
 ghost use Rattle.std.specs.Prelude.{◌≡◌, ◌⊎◌, ℕ, List, [], Ok, IfOk};
 ghost use Rattle.library_theorems.specs.Words.{kind_number, node_lines, IsCanonicalText, pattern_of, IsStepped, IsUnstepped, Pattern, IsShown, IsTextOf, session_of, IsOpen, IsFed, Answers, Gives, FormValue, IsRleText, AreFiveLines, IsUnread, IsUnreadWithin, IsUnwritten, IsEndFault, joined};
 
-use library_calls::{Form, Stream, Told, close, feed, finish, open};
+use library_calls::{Form, Room, Stream, Told, close, feed, finish, open};
 use life_base::{Fault, Kind};
 use life_canon::laws::{
     canonical_is_least, faults_stay, files_are_on_plane, files_are_unique, texts_are_files,
@@ -28,25 +28,6 @@ fn told_of_pieces(alloc: Global, stream: &mut Stream, pieces: &[Vec<u8>], out: &
     told
 }
 
-/// The same of a stream that is opened for a text of this form, and the status of the call that opens it.
-fn told_of_stream(
-    alloc: Global,
-    stream: &mut Stream,
-    pieces: &[Vec<u8>],
-    form: Form,
-    limit: u64,
-    seed: u64,
-    out: &mut [u8],
-) -> (u32, Told)
-    ensures opened { (result.0 ≡ 0) ⊎ (result.0 ≡ kind_number Kind.Memory) }
-    ensures told { result.0 ≡ 0 → Answers (IsTextOf form (joined pieces.now))
-        (IsEndFault form limit (joined pieces.now)) out.old out.new result.1 }
-{
-    let opened = open(alloc, stream, form, limit, seed);
-    let told = told_of_pieces(alloc, stream, pieces, out);
-    (opened, told)
-}
-
 /// A stream that was opened for a text of this form, which only want of memory refuses, and fed the pieces of a file, cut
 /// anywhere, tells at its end what is told of the whole file.
 pub fn text_of_stream(
@@ -54,20 +35,19 @@ pub fn text_of_stream(
     stream: &mut Stream,
     pieces: &[Vec<u8>],
     form: Form,
-    limit: u64,
-    seed: u64,
+    room: Room,
     out: &mut [u8],
 ) -> (u32, Told)
     ensures opened { (result.0 ≡ 0) ⊎ (result.0 ≡ kind_number Kind.Memory) }
     ensures canonical { form ≡ FormValue.Canonical → result.0 ≡ 0
-        → Answers (IsCanonicalText (joined pieces.now)) (IsUnreadWithin limit (joined pieces.now))
-        out.old out.new result.1 }
+        → Answers (IsCanonicalText (joined pieces.now))
+        (IsUnreadWithin room.limit (joined pieces.now)) out.old out.new result.1 }
     ensures rle { form ≡ FormValue.Rle → result.0 ≡ 0
-        → Answers (IsRleText (joined pieces.now)) (IsUnwritten limit (joined pieces.now)) out.old
-        out.new result.1 }
-    ensures lines { form ≡ FormValue.Lines → result.0 ≡ 0
-        → Answers (AreFiveLines (joined pieces.now)) (IsUnreadWithin limit (joined pieces.now))
+        → Answers (IsRleText (joined pieces.now)) (IsUnwritten room.limit (joined pieces.now))
         out.old out.new result.1 }
+    ensures lines { form ≡ FormValue.Lines → result.0 ≡ 0
+        → Answers (AreFiveLines (joined pieces.now))
+        (IsUnreadWithin room.limit (joined pieces.now)) out.old out.new result.1 }
     ensures next { form ≡ FormValue.Next → result.0 ≡ 0
         → Answers (IsStepped (joined pieces.now))
         (λ fault. IsUnread (joined pieces.now) fault ⊎ IsUnstepped (joined pieces.now) fault)
@@ -78,7 +58,8 @@ pub fn text_of_stream(
     files_are_unique();
     texts_are_files();
     texts_keep_patterns();
-    told_of_stream(alloc, stream, pieces, form, limit, seed, out)
+    let opened = open(alloc, stream, form, room);
+    (opened, told_of_pieces(alloc, stream, pieces, out))
 }
 
 /// Where no fault is told, the text of a stream that was fed a file's pieces, cut anywhere, is the one that `canon` of
@@ -86,14 +67,13 @@ pub fn text_of_stream(
 /// of the next generation that a stream put into the caller's memory is its own canonical text.
 pub fn text_of_stream_beside_canon(
     alloc: Global,
+    store: &mut Shared,
+    bytes: &[u8],
     stream: &mut Stream,
     pieces: &[Vec<u8>],
     form: Form,
-    limit: u64,
-    seed: u64,
+    room: Room,
     out: &mut [u8],
-    store: &mut Shared,
-    bytes: &[u8],
 ) -> (u32, Told, Result<Vec<u8>, Fault>)
     ensures text { form ≡ FormValue.Canonical → bytes.now ≡ joined pieces.now → result.0 ≡ 0
         → (result.1.status ≡ 0) ⊎ (result.1.status ≡ 64)
@@ -110,6 +90,7 @@ pub fn text_of_stream_beside_canon(
     files_are_on_plane();
     files_are_unique();
     texts_are_files();
-    let (opened, told) = told_of_stream(alloc, stream, pieces, form, limit, seed, out);
-    (opened, told, life_canon::canon(alloc, store, bytes))
+    let opened = open(alloc, stream, form, room);
+    let text = life_canon::canon(alloc, store, bytes);
+    (opened, told_of_pieces(alloc, stream, pieces, out), text)
 }

@@ -8,7 +8,6 @@ ghost use Rattle.claims.specs.Table.{Table, table_of};
 use life_base::Fault;
 use life_canon::canon;
 use life_canon::laws::{files_are_on_plane, files_are_unique};
-use life_quad::Shared;
 use life_step::step_table;
 use life_table::laws::grammars_agree;
 use life_table::{NameSeed, read_table};
@@ -43,8 +42,7 @@ pub fn next_generation_by_table(
     tables_refuse();
     tables_decide();
     let table = read_table(alloc, names, rules)?;
-    let mut store = Shared::new(alloc, room.seed, room.limit);
-    step_table(alloc, &mut store, file, &table)
+    step_table(alloc, &mut room.new_store(alloc), file, &table)
 }
 
 /// The text of the next generation of a file by a rule table is its own canonical text.
@@ -60,9 +58,7 @@ pub fn next_text_by_table_is_fixed(
 {
     files_are_unique();
     let table = read_table(alloc, names, rules)?;
-    let mut first_store = Shared::new(alloc, one.seed, one.limit);
-    let text = step_table(alloc, &mut first_store, file, &table)?;
-    let mut second_store = Shared::new(alloc, other.seed, other.limit);
-    let again = canon(alloc, &mut second_store, &text)?;
+    let text = step_table(alloc, &mut one.new_store(alloc), file, &table)?;
+    let again = canon(alloc, &mut other.new_store(alloc), &text)?;
     Ok(are_equal(&text, &again))
 }

@@ -20,7 +20,7 @@ use Rattle.life_base.specs.declared.rule.Rule.TheVariants.{Life, Named}
 use Rattle.claims.specs.Rules.{Rule}
 use Rattle.claims.specs.Counting.{node_lines, has_leaves, is_counting, IsRival}
 use Rattle.claims.proofs.Back.{macrocell_back, no_leaves}
-use Rattle.life_canon.specs.Files.{Says, as_macrocell, as_rle, Reads, is_macrocell, Accepted, Same as LayerSame}
+use Rattle.life_canon.specs.Files.{as_macrocell, as_rle, Reads, is_macrocell, Accepted, Same as LayerSame}
 use Rattle.life_canon.specs.Texts.{IsCanonical, IsRleOf}
 use Rattle.life_canon.specs.Listing.{canon_text, canonical_file}
 use Rattle.life_canon.specs.Laws.{FilesAreOnPlane, TextsTellPatterns, TextsKeepPatterns, TextsAreFiles}
@@ -73,23 +73,13 @@ pub rle_first : (lines : List (List ℕ)) (file : Rle) → IsRle 62 lines file �
 rle_first [] file h = refl
 rle_first (line ∷ lines) file h = begins_as_rle 62 line lines ((fronts_are_files 62 (line ∷ lines)).1 (inl (file, h)))
 
-lines_agree : (bytes : List ℕ) (u : Universe) → Says 62 (lines_of bytes) u → Agrees bytes u
-lines_agree bytes _ (as_macrocell file are) =
+pub files_agree : (bytes : List ℕ) (u : Universe) → Reads 62 bytes u → Agrees bytes u
+files_agree bytes _ (as_macrocell file are) =
     let s = macrocell_says (lines_of bytes) file are in
     record { pattern = s.0; is = as_mc bytes (mc_first (lines_of bytes) file are) ∙ s.1.is; rule = s.1.rule; generation = s.1.generation; cells = s.1.cells }
-lines_agree bytes _ (as_rle file are) =
+files_agree bytes _ (as_rle file are) =
     let s = rle_says (lines_of bytes) file are in
-    record {
-      pattern = s.0;
-      is = as_rle_lines bytes (rle_first (lines_of bytes) file are)
-          ∙ s.1.is;
-      rule = s.1.rule;
-      generation = s.1.generation;
-      cells = s.1.cells;
-    }
-
-pub files_agree : (bytes : List ℕ) (u : Universe) → Reads 62 bytes u → Agrees bytes u
-files_agree bytes u h = lines_agree bytes u h
+    record { pattern = s.0; is = as_rle_lines bytes (rle_first (lines_of bytes) file are) ∙ s.1.is; rule = s.1.rule; generation = s.1.generation; cells = s.1.cells }
 
 pub same_to : (a b : List ℕ) → LayerSame 62 a b → Same a b
 same_to a b s =

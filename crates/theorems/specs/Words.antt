@@ -7,6 +7,7 @@ pub use Rattle.claims.specs.Shown.{IsShown}
 pub use Rattle.life_base.specs.Text.{begins_with}
 pub use Rattle.life_base.specs.declared.cell.TheConstants.{MAX_LEVEL}
 pub use Rattle.life_canon.specs.Texts.{IsCanonical}
+pub use Rattle.life_quad.specs.Store.{held}
 pub use Rattle.theorems.specs.Joined.{joined}
 pub use Rattle.theorems.specs.Patterns.{PatternsHaveFiles, PatternsOfFilesFit}
 pub use Rattle.theorems.specs.Streams.{IsStreamFault}

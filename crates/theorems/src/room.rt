@@ -1,8 +1,10 @@
 //! What a store of squares is made of.
 
-ghost use Rattle.std.specs.Prelude.{◌≤◌, ◌^◌};
+ghost use Rattle.std.specs.Prelude.{◌≡◌, ◌≤◌, ◌^◌, []};
+ghost use Rattle.theorems.specs.Words.{held};
 
-use life_quad::Seed;
+use life_quad::{Seed, Shared};
+use std::alloc::Global;
 
 /// How many squares a new store holds at most, which may be 2^62 and no more, and the words by which it finds them. A theorem holds for any of them.
 #[derive(Clone, Copy, Drop)]
@@ -10,4 +12,14 @@ pub struct Room {
     pub limit: u64,
     pub seed: Seed,
     ghost holds: { limit ≤ 2 ^ 62 },
+}
+
+impl Room {
+    /// An empty store of this limit, with these words.
+    pub fn new_store(self, alloc: Global) -> Shared
+        ensures stored { held result ≡ [] }
+        ensures most { result.limit ≡ self.limit }
+    {
+        Shared::new(alloc, self.seed, self.limit)
+    }
 }

@@ -7,7 +7,6 @@ use crate::room::Room;
 use life_base::{Fault, Kind, Sink, Source};
 use life_canon::laws::{files_are_unique, texts_keep_patterns};
 use life_canon::{canon, run_canon};
-use life_quad::Shared;
 use std::alloc::Global;
 
 /// From a source that tells its bytes to a sink that tells what it holds, a file of the same pattern is written after what
@@ -19,13 +18,12 @@ use std::alloc::Global;
 /// source failed; `WriteFault` where the sink failed or took no bytes.
 pub fn stream_to_stream<R: Source, W: Sink>(
     alloc: Global,
+    room: Room,
     reader: &mut R,
     writer: &mut W,
-    room: Room,
 ) -> Result<(), Fault>
     requires reads { R.failures reader.old ≡ 0 }
-    requires writes { W.failures writer.old ≡ 0 }
-    requires takes { W.stalled writer.old ≡ false }
+    requires writes { (W.failures writer.old ≡ 0) × (W.stalled writer.old ≡ false) }
     ensures done { (bytes held : List ℕ) → R.remaining reader.old ≡ Some bytes
         → W.contents writer.old ≡ Some held
         → OnOk result
@@ -44,29 +42,25 @@ pub fn stream_to_stream<R: Source, W: Sink>(
         → IsErrAnd result (λ fault. fault.kind ≡ Kind.WriteFault) }
 {
     texts_keep_patterns();
-    let mut store = Shared::new(alloc, room.seed, room.limit);
-    run_canon(alloc, &mut store, reader, writer)
+    run_canon(alloc, &mut room.new_store(alloc), reader, writer)
 }
 
 /// What is written to a sink that tells what it holds is the canonical text that `canon` makes of the bytes of the source.
 pub fn stream_writes_the_text<R: Source, W: Sink>(
     alloc: Global,
+    one: Room,
+    other: Room,
     reader: &mut R,
     writer: &mut W,
     file: &[u8],
-    one: Room,
-    other: Room,
 ) -> Result<Vec<u8>, Fault>
     requires reads { R.failures reader.old ≡ 0 }
-    requires writes { W.failures writer.old ≡ 0 }
-    requires takes { W.stalled writer.old ≡ false }
+    requires writes { (W.failures writer.old ≡ 0) × (W.stalled writer.old ≡ false) }
     ensures { (held : List ℕ) → R.remaining reader.old ≡ Some file.now
         → W.contents writer.old ≡ Some held
         → IfOk result (λ text. W.contents writer.new ≡ Some (held ++ text.items)) }
 {
     files_are_unique();
-    let mut first_store = Shared::new(alloc, one.seed, one.limit);
-    run_canon(alloc, &mut first_store, reader, writer)?;
-    let mut second_store = Shared::new(alloc, other.seed, other.limit);
-    canon(alloc, &mut second_store, file)
+    run_canon(alloc, &mut one.new_store(alloc), reader, writer)?;
+    canon(alloc, &mut other.new_store(alloc), file)
 }

@@ -1,11 +1,11 @@
-use Rattle.std.proofs.Common.{refl}
-use Rattle.library_calls.proofs.StreamFacts.{ends-text, ends-fault}
+use Rattle.library_calls.proofs.StreamFacts.{ends-text, ends-fault, ended-ended}
 use Rattle.library_calls.proofs.session.ended.Goals as goal
 
-pub returns-in-Ok-clause-ends : goal.returns-in-Ok-clause-ends
-returns-in-Ok-clause-ends c = λ form limit bytes.
-    ends-text form limit bytes c.args.session _ c.in-Reading.feeding c.in-Ok.text.items c.in-Reading.is refl c.in-Ok.ensures.text
+pub returns-in-Ok : goal.returns-in-Ok
+returns-in-Ok c = ends-text c.args.session c.in-Reading.feeding c.in-Ok.text c.in-Reading.is c.in-Ok.ensures.text
 
-pub returns-in-Err-clause-ends : goal.returns-in-Err-clause-ends
-returns-in-Err-clause-ends c = λ form limit bytes.
-    ends-fault form limit bytes c.args.session _ c.in-Reading.feeding c.in-Err.fault c.in-Reading.is refl c.in-Err.ensures.fault
+pub returns-in-Err : goal.returns-in-Err
+returns-in-Err c = ends-fault c.args.session c.in-Reading.feeding c.in-Err.fault c.in-Reading.is c.in-Err.ensures.fault
+
+pub returns-in_default : goal.returns-in_default
+returns-in_default c = ended-ended c.args.session c.in_default.not-Reading
