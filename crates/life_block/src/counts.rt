@@ -11,10 +11,10 @@ pub(crate) type RowWords = Column<u64>;
 /// A number of 0 to 15 for each place.
 #[derive(Clone, Copy)]
 pub(crate) struct BitCounts {
-    pub(crate) ones: u64,
-    pub(crate) twos: u64,
-    pub(crate) fours: u64,
-    pub(crate) eights: u64,
+    ones: u64,
+    twos: u64,
+    fours: u64,
+    eights: u64,
 }
 
 // The sum of three bits in each column: its ones, and its twos.
