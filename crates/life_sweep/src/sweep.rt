@@ -39,8 +39,8 @@ fn draw_place<S: Squares, L: Law>(
         (IsHolding (S.knows squares.new) (S.content squares.new) builder.new) }
     ensures ready { OnOk result (IsReady (drawn_runs builder.new) (after window.now.x) y) }
     ensures put { IfOk result (λ all. state_by (drawn_runs builder.old) window.now.x y ≡ 0
-        → IsPut (L.answers law.old) (states_of window.now) (state_by (drawn_runs builder.new)) leaves
-        all window.now.x y) }
+        → IsPut (L.answers law.old) (states_of window.now) (state_by (drawn_runs builder.new))
+        leaves all window.now.x y) }
     ensures others { OnOk result ((c r : ℤ) → (c ≡ window.now.x → r ≡ y → ⊥)
         → state_by (drawn_runs builder.new) c r ≡ state_by (drawn_runs builder.old) c r) }
     ensures keeps { Keeps S.Squares squares.old squares.new }
@@ -82,7 +82,8 @@ fn draw_row<S: Squares, L: Law>(
     ensures ready { OnOk result (IsReadyRow (drawn_runs builder.new) (after y)) }
     ensures swept { IfOk result (λ left. (cells : ℤ → ℤ → ℕ) → IsScene cells y rows.entry
         → IsSweptRows (L.answers law.old) cells (state_by (drawn_runs builder.old)) leaves y
-        → IsSweptRows (L.answers law.old) cells (state_by (drawn_runs builder.new)) left (after y)) }
+        → IsSweptRows (L.answers law.old) cells (state_by (drawn_runs builder.new)) left
+        (after y)) }
     ensures keeps { Keeps S.Squares squares.old squares.new }
     ensures refusals { IfErr result (λ f. IsWantFault (S.stored squares.new) (S.most squares.new)
         f ⊎ ((f.kind ≡ Kind.Ambiguous) × ((cells : ℤ → ℤ → ℕ) → IsScene cells y rows.entry
