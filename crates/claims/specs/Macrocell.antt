@@ -23,16 +23,16 @@ pub data Node : Type 0 where
   leaf : (rows : List (List ℕ)) → Node
   quad : (level nw ne sw se : ℕ) → Node
 
+-- a square of level k is 2 ^ k cells wide
+abbrev pub level_of : Node → ℕ
+level_of (leaf rows) = 3
+level_of (quad level nw ne sw se) = level
+
 -- what the lines so far say: the squares are numbered from 1
 pub record Macrocell : Type 0 where
   pub rule : Rule
   pub generation : ℕ
   pub nodes : List Node
-
--- a square of level k is 2 ^ k cells wide
-abbrev pub level_of : Node → ℕ
-level_of (leaf rows) = 3
-level_of (quad level nw ne sw se) = level
 
 -- ---- a node line
 
@@ -130,7 +130,7 @@ quarter_at side column row nw ne sw se = if nat_lt row side then (if nat_lt colu
 
 -- The state in a column and a row, from the north-west corner, of the square of this level that a number stands for. At level 0 the number is the
 -- state; above, it is that of a node line, or 0 for the empty square.
-abbrev pub state_in : List Node → ℕ → ℕ → ℕ → ℕ → ℕ
+abbrev pub state_in : List Node → (level number column row : ℕ) → ℕ
 state_in nodes zero number column row = number
 state_in nodes (suc level) number column row = elim (numbered nodes number) [
   | None ↦ 0

@@ -230,7 +230,7 @@ abbrev pub turns : (List ℕ → ℕ → List ℕ) → List ℕ → ℕ → ℕ 
 turns by v count step = map (λ k. by v (k * step)) (range_with_len 0 count)
 
 -- every order of a list
-abbrev pub insertions : ℕ → List ℕ → List (List ℕ)
+abbrev pub insertions : (item : ℕ) → (items : List ℕ) → List (List ℕ)
 insertions x [] = (x ∷ []) ∷ []
 insertions x (y ∷ ys) = (x ∷ y ∷ ys) ∷ map (λ zs. y ∷ zs) (insertions x ys)
 

@@ -4,10 +4,7 @@
 //! `include/golly_canon.h` declares them, and says what a caller in C guarantees.
 #![tactic(auto)]
 
-mod compared;
-mod in_form;
+mod files;
 mod names;
-mod steps;
 mod streams;
-mod texts;
 mod told;

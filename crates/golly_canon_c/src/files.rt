@@ -1,0 +1,178 @@
+//! The calls on whole files: their texts, their next generations, their forms, and what two of them are.
+
+ghost use Rattle.std.specs.Prelude.{MatchOption};
+ghost use Rattle.golly_canon_c.specs.Words.{IsCanonicalText, IsRleText, RefusesWithin, RefusesRleWithin, Answers, told, IsShown, RefusesStepWithin, StepsByTable, IsStepped, compared, ComparesInForm, ComparesInNone, form_numbered, IsKeyInForm, IsTextInForm, AnswersInForm, ComparesWithin};
+
+use crate::told::{tell, tell_compared};
+use library_calls::{
+    Room, canon, canon_form, key, same, same_form, show, step, step_by_table, to_rle,
+};
+use life_base::MAX_LEVEL;
+use std::alloc::Global;
+
+/// The canonical text of the pattern of a file of either format.
+#[unsafe(no_mangle)]
+pub extern "C" fn golly_canon_canon(
+    alloc: Global,
+    bytes: &[u8],
+    limit: u64,
+    seed: u64,
+    out: &mut [u8],
+    needed: &mut usize,
+    line: &mut u64,
+) -> u32
+    ensures { Answers (IsCanonicalText bytes.now) (RefusesWithin limit bytes.now) out.old out.new
+        (told result needed.new line.new) }
+{
+    tell(canon(alloc, bytes, Room { limit, seed }, out), needed, line)
+}
+
+/// The text in extended RLE of the pattern of a file of either format.
+#[unsafe(no_mangle)]
+pub extern "C" fn golly_canon_to_rle(
+    alloc: Global,
+    bytes: &[u8],
+    limit: u64,
+    seed: u64,
+    out: &mut [u8],
+    needed: &mut usize,
+    line: &mut u64,
+) -> u32
+    ensures { Answers (IsRleText bytes.now) (RefusesRleWithin limit bytes.now) out.old out.new
+        (told result needed.new line.new) }
+{
+    let answer = to_rle(alloc, bytes, Room { limit, seed }, out);
+    tell(answer, needed, line)
+}
+
+/// Five lines on the pattern of a file of either format.
+#[unsafe(no_mangle)]
+pub extern "C" fn golly_canon_show(
+    alloc: Global,
+    bytes: &[u8],
+    limit: u64,
+    seed: u64,
+    out: &mut [u8],
+    needed: &mut usize,
+    line: &mut u64,
+) -> u32
+    ensures { Answers (IsShown MAX_LEVEL bytes.now) (RefusesWithin limit bytes.now) out.old
+        out.new (told result needed.new line.new) }
+{
+    tell(show(alloc, bytes, Room { limit, seed }, out), needed, line)
+}
+
+/// The canonical text of the next generation of the pattern of a file, under its B/S rule.
+#[unsafe(no_mangle)]
+pub extern "C" fn golly_canon_step(
+    alloc: Global,
+    bytes: &[u8],
+    limit: u64,
+    seed: u64,
+    out: &mut [u8],
+    needed: &mut usize,
+    line: &mut u64,
+) -> u32
+    ensures { Answers (IsStepped bytes.now) (RefusesStepWithin limit bytes.now) out.old out.new
+        (told result needed.new line.new) }
+{
+    tell(step(alloc, bytes, Room { limit, seed }, out), needed, line)
+}
+
+/// The canonical text of the next generation of the pattern of a file, by a rule table, whose file is `table`. A refusal of the table itself
+/// puts 1 into `in_table`, and any other answer 0.
+#[unsafe(no_mangle)]
+pub extern "C" fn golly_canon_step_by_table(
+    alloc: Global,
+    bytes: &[u8],
+    table: &[u8],
+    limit: u64,
+    seed: u64,
+    out: &mut [u8],
+    needed: &mut usize,
+    line: &mut u64,
+    in_table: &mut u32,
+) -> u32
+    ensures { StepsByTable limit bytes.now table.now in_table.new out.old out.new
+        (told result needed.new line.new) }
+{
+    let (answer, of_table) = step_by_table(alloc, bytes, table, Room { limit, seed }, out);
+    *in_table = of_table;
+    tell(answer, needed, line)
+}
+
+/// The canonical text of the pattern of a file of either format, in the form with this number.
+#[unsafe(no_mangle)]
+pub extern "C" fn golly_canon_canon_form(
+    alloc: Global,
+    bytes: &[u8],
+    form: u32,
+    limit: u64,
+    seed: u64,
+    out: &mut [u8],
+    needed: &mut usize,
+    line: &mut u64,
+) -> u32
+    ensures { AnswersInForm IsTextInForm form limit bytes.now out.old out.new
+        (told result needed.new line.new) }
+{
+    let answer = canon_form(alloc, bytes, form, Room { limit, seed }, out);
+    tell(answer, needed, line)
+}
+
+/// The key of the pattern of a file of either format, in the form with this number: the SHA-256 of the text that `golly_canon_canon_form` gives.
+#[unsafe(no_mangle)]
+pub extern "C" fn golly_canon_key(
+    alloc: Global,
+    bytes: &[u8],
+    form: u32,
+    limit: u64,
+    seed: u64,
+    out: &mut [u8],
+    needed: &mut usize,
+    line: &mut u64,
+) -> u32
+    ensures { AnswersInForm IsKeyInForm form limit bytes.now out.old out.new
+        (told result needed.new line.new) }
+{
+    let answer = key(alloc, bytes, form, Room { limit, seed }, out);
+    tell(answer, needed, line)
+}
+
+/// Whether two files, each of either format, are one pattern in the form with this number: 1 or 0 in `is_same`. A refusal leaves 0 there.
+#[unsafe(no_mangle)]
+pub extern "C" fn golly_canon_same_form(
+    alloc: Global,
+    first: &[u8],
+    second: &[u8],
+    form: u32,
+    limit: u64,
+    seed: u64,
+    is_same: &mut u32,
+    line: &mut u64,
+) -> u32
+    ensures { MatchOption (form_numbered form)
+        (ComparesInNone (compared result is_same.new line.new))
+        (λ form. ComparesInForm form limit first.now second.now
+        (compared result is_same.new line.new)) }
+{
+    let answer = same_form(alloc, first, second, form, Room { limit, seed });
+    tell_compared(answer, is_same, line)
+}
+
+/// Whether two files, each of either format, are one pattern: 1 or 0 in `is_same`. A refusal leaves 0 there.
+#[unsafe(no_mangle)]
+pub extern "C" fn golly_canon_same(
+    alloc: Global,
+    first: &[u8],
+    second: &[u8],
+    limit: u64,
+    seed: u64,
+    is_same: &mut u32,
+    line: &mut u64,
+) -> u32
+    ensures { ComparesWithin limit first.now second.now (compared result is_same.new line.new) }
+{
+    let answer = same(alloc, first, second, Room { limit, seed });
+    tell_compared(answer, is_same, line)
+}
