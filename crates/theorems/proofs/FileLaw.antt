@@ -79,7 +79,8 @@ files_agree bytes _ (as_macrocell file are) =
     record { pattern = s.0; is = as_mc bytes (mc_first (lines_of bytes) file are) ∙ s.1.is; rule = s.1.rule; generation = s.1.generation; cells = s.1.cells }
 files_agree bytes _ (as_rle file are) =
     let s = rle_says (lines_of bytes) file are in
-    record { pattern = s.0; is = as_rle_lines bytes (rle_first (lines_of bytes) file are) ∙ s.1.is; rule = s.1.rule; generation = s.1.generation; cells = s.1.cells }
+    let is = as_rle_lines bytes (rle_first (lines_of bytes) file are) ∙ s.1.is in
+    record { pattern = s.0; is = is; rule = s.1.rule; generation = s.1.generation; cells = s.1.cells }
 
 pub same_to : (a b : List ℕ) → LayerSame 62 a b → Same a b
 same_to a b s =

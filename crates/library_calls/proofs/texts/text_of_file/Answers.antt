@@ -21,5 +21,6 @@ returns-clause-text c =
 
 pub returns-clause-fault : goal.returns-clause-fault
 returns-clause-fault c =
-    IfErr-weaker c.text_of_read.result _ _ (λ fault why. why c.args.room.limit c.args.bytes.now (c.read.ensures.reads.keeps.limit ∙ c.store_of-store.ensures.most)
+    IfErr-weaker c.text_of_read.result _ _
+    (λ fault why. why c.args.room.limit c.args.bytes.now (c.read.ensures.reads.keeps.limit ∙ c.store_of-store.ensures.most)
     c.in_ok-pattern.ensures.pattern) c.text_of_read.ensures.fault

@@ -19,7 +19,8 @@ pub returns-clause-rle : goal.returns-clause-rle
 returns-clause-rle c = λ is ok.
     let file = joined c.args.pieces.now in
     let begun = is_open c.args.form c.args.room.limit c.open-opened.result c.open-opened.new.stream.held.session c.open-opened.ensures ok in
-    ended_so is c.args.room.limit file (c.told_of_pieces.ensures c.args.form c.args.room.limit begun) (rle_so file) (λ fault. inl) (unwritten c.args.room.limit file)
+    ended_so is c.args.room.limit file (c.told_of_pieces.ensures c.args.form c.args.room.limit begun) (rle_so file) (λ fault. inl)
+    (unwritten c.args.room.limit file)
 
 pub returns-clause-lines : goal.returns-clause-lines
 returns-clause-lines c = λ is ok.

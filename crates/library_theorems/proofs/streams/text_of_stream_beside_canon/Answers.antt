@@ -16,7 +16,8 @@ pub returns-clause-lines : goal.returns-clause-lines
 returns-clause-lines c = λ is cut opened status.
     let begun = is_open c.args.form c.args.room.limit c.open-opened.result c.open-opened.new.stream.held.session c.open-opened.ensures opened in
     map_ok c.canon-text.result
-    (λ text canonical. counted_so c.files_are_on_plane.ensures c.files_are_unique.ensures c.texts_are_files.ensures (joined c.args.pieces.now) text.items _ _ _ canonical
+    (λ text canonical. counted_so c.files_are_on_plane.ensures c.files_are_unique.ensures c.texts_are_files.ensures (joined c.args.pieces.now)
+    text.items _ _ _ canonical
     (of_form is (joined c.args.pieces.now) (c.told_of_pieces.ensures c.args.form c.args.room.limit begun)) status) (rw cut at c.canon-text.ensures.text)
 
 pub returns-clause-next : goal.returns-clause-next
