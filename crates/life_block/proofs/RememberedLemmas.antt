@@ -5,7 +5,7 @@ use Rattle.life_base.specs.Tree.{Tree}
 use Rattle.life_quad.specs.Keeping.{KeepsSquares}
 use Rattle.life_quad.specs.Memory.{Recalls}
 use Rattle.life_quad.specs.declared.id.Id.{Id}
-use Rattle.life_quad.specs.declared.memory.Place.{Place}
+use Rattle.life_quad.specs.declared.memory.Slot.{Slot}
 use Rattle.life_sweep.specs.Generation.{next_life}
 use Rattle.life_block.specs.declared.grid.Three.{Three}
 use Rattle.life_block.specs.Pieces.{Nine, Sixteen, IsPiece, IsBinary, IsAt, InThree, InNine, AreThreeAt, AreNine, AreSixteen}
@@ -27,7 +27,7 @@ unfolding nine_of
 same-nine a b e = ap nine_of e
 
 -- an answer by the list of its squares is one by the squares
-pub put-nine : {old new : List Place} {nine : Nine} {ids : List Id} {answer : Id} → ids ≡ ids_of nine
+pub put-nine : {old new : List Slot} {nine : Nine} {ids : List Id} {answer : Id} → ids ≡ ids_of nine
     → ((around : List Id) (next : Id) → Recalls new around next → Recalls old around next ⊎ ((around ≡ ids) × (next ≡ answer)))
     → (other : Nine) (next : Id) → Recalls new (ids_of other) next → Recalls old (ids_of other) next ⊎ ((other ≡ nine) × (next ≡ answer))
 put-nine {old = old} {nine = nine} {ids = ids} {answer = answer} is put other next r = by (put _ next r)
@@ -63,7 +63,7 @@ module _ {S : Type 0} {knows : S → Id → Type 0} {content : S → Id → Tree
     next = λ cells x y binary p. IsPiece-kept keeps (next_life rule cells) x y h.at (h.next cells x y binary (AreNine-before cells h.known p));
   }
 
-  pub Remembers-kept : {rule : OuterTotalistic} {memory : List Place} → Remembers (knows old) (content old) rule memory
+  pub Remembers-kept : {rule : OuterTotalistic} {memory : List Slot} → Remembers (knows old) (content old) rule memory
       → Remembers (knows new) (content new) rule memory
   Remembers-kept h = record { answers = λ nine answer r. IsAnswer-kept (h.answers nine answer r) }
 
@@ -85,11 +85,11 @@ module _ {S : Type 0} {knows : S → Id → Type 0} {content : S → Id → Tree
 
 module _ {knows : Id → Type 0} {content : Id → Tree} {rule : OuterTotalistic} where
   -- a memory without answers
-  pub Remembers-none : {memory : List Place} → ((ids : List Id) (answer : Id) → ¬ Recalls memory ids answer) → Remembers knows content rule memory
+  pub Remembers-none : {memory : List Slot} → ((ids : List Id) (answer : Id) → ¬ Recalls memory ids answer) → Remembers knows content rule memory
   Remembers-none none = record { answers = λ nine answer r. absurd (none (ids_of nine) answer r) }
 
   -- one more answer
-  pub Remembers-more : {old new : List Place} {nine : Nine} {answer : Id} → IsAnswer knows content rule nine answer
+  pub Remembers-more : {old new : List Slot} {nine : Nine} {answer : Id} → IsAnswer knows content rule nine answer
       → ((other : Nine) (next : Id) → Recalls new (ids_of other) next → Recalls old (ids_of other) next ⊎ ((other ≡ nine) × (next ≡ answer)))
       → Remembers knows content rule old → Remembers knows content rule new
   Remembers-more {old = old} {nine = nine} {answer = answer} here put h = record { answers = λ other next r. by other next (put other next r) }
@@ -100,7 +100,7 @@ module _ {knows : Id → Type 0} {content : Id → Tree} {rule : OuterTotalistic
           subst (λ n. IsAnswer knows content rule n next) (sym e.0) (subst (λ a. IsAnswer knows content rule nine a) (sym e.1) here)
 
   -- what is recalled for nine squares of a level
-  module _ {memory : List Place} {nine : Nine} {answer : Id} {k : ℕ} (h : Remembers knows content rule memory)
+  module _ {memory : List Slot} {nine : Nine} {answer : Id} {k : ℕ} (h : Remembers knows content rule memory)
       (recalls : Recalls memory (ids_of nine) answer) (known : InNine (IsAt knows content k) nine) where
     level : (h.answers nine answer recalls).level ≡ k
     level = sym (h.answers nine answer recalls).known.here.here.level ∙ known.here.here.level

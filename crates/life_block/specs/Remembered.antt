@@ -4,7 +4,7 @@ use Rattle.life_base.specs.Sets.{OuterTotalistic}
 use Rattle.life_base.specs.Tree.{Tree}
 use Rattle.life_quad.specs.Memory.{Recalls}
 use Rattle.life_quad.specs.declared.id.Id.{Id}
-use Rattle.life_quad.specs.declared.memory.Place.{Place}
+use Rattle.life_quad.specs.declared.memory.Slot.{Slot}
 use Rattle.life_sweep.specs.Generation.{next_life}
 use Rattle.life_block.specs.Pieces.{Nine, IsPiece, IsBinary, IsAt, InNine, AreNine}
 
@@ -24,5 +24,5 @@ module _ (knows : Id → Type 0) (content : Id → Tree) (rule : OuterTotalistic
     pub next : (cells : ℤ → ℤ → ℕ) (x y : ℤ) → IsBinary cells → AreNine content cells (2 ^ level) x y nine → IsPiece (next_life rule cells) x y (content answer)
 
   -- each answer that is remembered is right
-  pub record Remembers (memory : List Place) : Type 0 where
+  pub record Remembers (memory : List Slot) : Type 0 where
     pub answers : (nine : Nine) (answer : Id) → Recalls memory (ids_of nine) answer → IsAnswer nine answer
