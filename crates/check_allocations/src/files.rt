@@ -11,16 +11,6 @@ const GLIDER: &[u8] = b"x = 3, y = 3, rule = B3/S23\nbo$2bo$3o!\n";
 // Two cells of a rule that is known by its name.
 const WIRES: &[u8] = b"#CXRLE Pos=-1,-1 Gen=7\nx = 2, y = 1, rule = WireWorld\nApA!\n";
 
-// One cell under seven levels of squares.
-const LONE: &[u8] =
-    b"[M2] (golly 4.2)\n#R B3/S23\n....*$$$$$$$$\n4 1 0 0 0\n5 2 0 0 0\n6 3 0 0 0\n7 4 0 0 0\n8 5 0 0 0\n9 0 0 0 6\n";
-
-// The same, as it is written.
-const LONE_TEXT: &[u8] =
-    b"[M2] (canonical 1)\n#R B3/S23\n....*$$$$$$$$\n4 1 0 0 0\n5 2 0 0 0\n6 3 0 0 0\n7 4 0 0 0\n8 5 0 0 0\n9 0 0 0 6\n";
-
-const WIRES_TEXT: &[u8] = b"[M2] (canonical 1)\n#R WireWorld\n#G 7\n1 1 25 0 0\n";
-
 fn run(x: i64, y: i64, len: u64, state: u8) -> Run {
     Run { x, y, len, state }
 }
@@ -99,15 +89,23 @@ pub(crate) fn rle_written(alloc: Global) -> Result<bool, Fault> {
     )
 }
 
+// The two cells, as they are written.
+const WIRES_TEXT: &[u8] = b"[M2] (canonical 1)\n#R WireWorld\n#G 7\n1 1 25 0 0\n";
+
 /// The squares of a file.
 pub(crate) fn mc_read(alloc: Global) -> Result<bool, Fault> {
-    let file = read_mc(
-        alloc,
-        b"[M2] (canonical 1)\n#R WireWorld\n#G 7\n1 1 25 0 0\n",
-    )?;
+    let file = read_mc(alloc, WIRES_TEXT)?;
     let squares = [Line::Quad(1, 1, 25, 0, 0)];
     Ok(file.generation == 7 && file.lines.as_slice() == squares.as_slice())
 }
+
+// One cell under seven levels of squares.
+const LONE: &[u8] =
+    b"[M2] (golly 4.2)\n#R B3/S23\n....*$$$$$$$$\n4 1 0 0 0\n5 2 0 0 0\n6 3 0 0 0\n7 4 0 0 0\n8 5 0 0 0\n9 0 0 0 6\n";
+
+// The same, as it is written.
+const LONE_TEXT: &[u8] =
+    b"[M2] (canonical 1)\n#R B3/S23\n....*$$$$$$$$\n4 1 0 0 0\n5 2 0 0 0\n6 3 0 0 0\n7 4 0 0 0\n8 5 0 0 0\n9 0 0 0 6\n";
 
 // Whether the file is written so.
 fn is_mc_text(alloc: Global, input: &[u8], wanted: &[u8]) -> Result<bool, Fault> {

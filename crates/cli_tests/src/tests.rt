@@ -45,6 +45,11 @@ const WIRES: &[u8] = b"#CXRLE Pos=-1,-1 Gen=7\nx = 2, y = 1, rule = WireWorld\nA
 
 const WIRES_TEXT: &[u8] = b"[M2] (canonical 1)\n#R WireWorld\n#G 7\n1 1 25 0 0\n";
 
+/// What is written of two files that are compared.
+const SAME: &[u8] = b"same\n";
+
+const DIFFERENT: &[u8] = b"different\n";
+
 /// Jobs with their files, the status that they end with, and what they write.
 const JOBS: [(Job, &[u8], Option<&[u8]>, u8, &[u8]); 13] = [
     (Job::Show, TWINS, None, 0, TWINS_SHOWN),
@@ -55,33 +60,9 @@ const JOBS: [(Job, &[u8], Option<&[u8]>, u8, &[u8]); 13] = [
     (Job::Convert(Target::Rle), TWINS, None, 0, TWINS_RUNS),
     (Job::Convert(Target::Mc), TWINS_IN_RLE, None, 0, TWINS_TEXT),
     (Job::Step, LINE, None, 0, NEXT_LINE),
-    (
-        Job::Same(Form::Placed),
-        TWINS,
-        Some(TWINS_IN_RLE),
-        0,
-        b"same\n",
-    ),
-    (
-        Job::Same(Form::Placed),
-        TWINS,
-        Some(WIRES),
-        1,
-        b"different\n",
-    ),
-    (
-        Job::Same(Form::Moved),
-        GLIDER,
-        Some(EAST_GLIDER),
-        0,
-        b"same\n",
-    ),
-    (
-        Job::Same(Form::Turned),
-        LINE,
-        Some(TWINS),
-        1,
-        b"different\n",
-    ),
+    (Job::Same(Form::Placed), TWINS, Some(TWINS_IN_RLE), 0, SAME),
+    (Job::Same(Form::Placed), TWINS, Some(WIRES), 1, DIFFERENT),
+    (Job::Same(Form::Moved), GLIDER, Some(EAST_GLIDER), 0, SAME),
+    (Job::Same(Form::Turned), LINE, Some(TWINS), 1, DIFFERENT),
     (Job::StepTable, SEED, Some(SPREAD), 0, SPREAD_TEXT),
 ];

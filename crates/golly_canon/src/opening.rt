@@ -2,7 +2,7 @@
 
 use life_cli::{Opened, Origin};
 use std::fs;
-use std::fs::File;
+use std::fs::{File, Metadata};
 use std::io::{ErrorKind, Read, Result};
 use std::os::fd::AsRawFd;
 use std::rt::Stdin;
@@ -58,28 +58,22 @@ pub(crate) fn open(rt: &HostRuntime, origin: Origin<'_>) -> Result<Opened<Input>
     Ok(Opened { input, bytes })
 }
 
-/// About how many bytes an input has, where the system tells it: of a file its length, of what is no file 0.
-fn length(rt: &HostRuntime, input: &Input) -> u64 {
-    let metadata = match input {
+/// What the system tells of an input.
+fn metadata(rt: &HostRuntime, input: &Input) -> Result<Metadata> {
+    match input {
         Input::File(file) => file.metadata(),
         Input::Standard(_) => fs::metadata(rt, "/dev/stdin"),
-    };
-    match metadata {
-        Ok(metadata) => metadata.len(),
-        Err(_) => 0,
     }
+}
+
+/// About how many bytes an input has, where the system tells it: of a file its length, of what is no file 0.
+fn length(rt: &HostRuntime, input: &Input) -> u64 {
+    metadata(rt, input).map_or(0, |metadata| metadata.len())
 }
 
 /// Whether an input is a folder, of which nothing can be read, where the system tells it.
 fn is_folder(rt: &HostRuntime, input: &Input) -> bool {
-    let metadata = match input {
-        Input::File(file) => file.metadata(),
-        Input::Standard(_) => fs::metadata(rt, "/dev/stdin"),
-    };
-    match metadata {
-        Ok(metadata) => metadata.is_dir(),
-        Err(_) => false,
-    }
+    metadata(rt, input).is_ok_and(|metadata| metadata.is_dir())
 }
 
 /// Opens what a word names, unless it is a folder, or a standard input that a caller has closed.

@@ -18,6 +18,7 @@ use Rattle.life_cli.specs.Jobs.{HasNoText, HasText, InputRefuses, RefusesInForm}
 use Rattle.life_cli.specs.Keys.{end_of, IsKeyIn, key_line, pieces_of, refused_line, unopened_line}
 use Rattle.life_cli.specs.Origins.{Gives, IsOriginOf}
 use Rattle.life_cli.specs.declared.keys.outputs.Outputs.{Outputs}
+use Rattle.life_cli.specs.declared.keys.runs.Run.{Run}
 use Rattle.life_cli.specs.declared.keys.outcome.Outcome.{Outcome}
 use Rattle.life_cli.specs.declared.keys.outcome.Outcome.TheVariants.{Key, Refused, Unopened}
 use Rattle.life_cli.specs.declared.origins.Opened.{Opened}
@@ -126,6 +127,12 @@ module _ {F R : Type 0} (step : F → Origin → Result (Opened R) IoError → F
   -- the files were taken one after another, in this order
   abbrev pub TakesAll : F → List Taken → F → Type 0
   TakesAll before taken after = FoldsTo Takes before taken after
+
+-- a run can take files: its opener can be called, standard output hasn't failed, nor has standard error as long as it is told
+pub record CanTake {F : Type 0} (is_callable : F → Type 0) (run : Run F) (out_failures err_failures : ℕ) : Type 0 where
+  pub callable : is_callable run.files.opener
+  pub works : out_failures ≡ 0
+  pub hears : run.outputs.tells ≡ true → err_failures ≡ 0
 
 -- the names of a run: the words, and then those in the list
 abbrev pub names_among : Bool → (words : List (List ℕ)) (list : List ℕ) → List Name

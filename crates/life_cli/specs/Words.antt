@@ -16,7 +16,7 @@ pub use Rattle.life_cli.specs.Forms.{AreSameIn, HasTooMany, IsMovedText, IsTextI
 pub use Rattle.life_cli.specs.Jobs.{AreUncompared, BreaksOff, CanonRefuses, ComesOf, HasNoTable, HasNoTextByTable, HasTable, HasTextByTable, InputRefuses}
 pub use Rattle.life_cli.specs.Jobs.{IsPatternIn, IsWantFor, JobRan, JobRefuses, made_status, made_text, MadeOf, Makes, OfFile, OfTable, RefusesInForm}
 pub use Rattle.life_cli.specs.Jobs.{RefusesMany, RefusesSame, RefusesStep, RefusesStepBy, Worked}
-pub use Rattle.life_cli.specs.KeyRuns.{Comes, error_line, IsToldAs, LacksList, Listed, names_among, names_in, outcome_status, output_line, Ran, ReadsList}
+pub use Rattle.life_cli.specs.KeyRuns.{CanTake, Comes, error_line, IsToldAs, LacksList, Listed, names_among, names_in, outcome_status, output_line, Ran, ReadsList}
 pub use Rattle.life_cli.specs.KeyRuns.{Takes, TakesNames, TellsOn, Word, Writes}
 pub use Rattle.life_cli.specs.Keys.{end_of, escaped, escaped_byte, fault_text, is_special, IsKeyIn, IsStatus, key_line, name_mark, pieces_of, reason_of}
 pub use Rattle.life_cli.specs.Keys.{refused_line, unopened_line}

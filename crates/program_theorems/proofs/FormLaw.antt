@@ -54,21 +54,19 @@ image_says p u turn s = record {
 }
 
 shift_to : (p q : Pattern) (u v : Universe) → Says p u → Says q v → LayerShift u v → IsShift p q
-shift_to p q u v a b s = record {
-  rule = a.rule ∙ ap rule_in s.rule ∙ sym b.rule;
-  generation = a.generation ∙ s.generation ∙ sym b.generation;
-  columns = s.columns;
-  rows = s.rows;
-  cells = λ x y. b.cells (x +ℤ s.columns) (y +ℤ s.rows) ∙ s.cells x y ∙ sym (a.cells x y);
-}
+shift_to p q u v a b s = (
+  a.rule ∙ ap rule_in s.rule ∙ sym b.rule,
+  a.generation ∙ s.generation ∙ sym b.generation,
+  (s.columns, s.rows, λ x y. b.cells (x +ℤ s.columns) (y +ℤ s.rows) ∙ s.cells x y ∙ sym (a.cells x y)),
+)
 
 shift_from : (p q : Pattern) (u v : Universe) → IsRule u.rule → IsRule v.rule → Says p u → Says q v → IsShift p q → LayerShift u v
-shift_from p q u v one two a b s = record {
-  rule = rules_are u.rule v.rule one two (sym a.rule ∙ s.rule ∙ b.rule);
-  generation = sym a.generation ∙ s.generation ∙ b.generation;
-  columns = s.columns;
-  rows = s.rows;
-  cells = λ x y. sym (b.cells (x +ℤ s.columns) (y +ℤ s.rows)) ∙ s.cells x y ∙ a.cells x y;
+shift_from p q u v one two a b (rule, generation, (columns, rows, cells)) = record {
+  rule = rules_are u.rule v.rule one two (sym a.rule ∙ rule ∙ b.rule);
+  generation = sym a.generation ∙ generation ∙ b.generation;
+  columns = columns;
+  rows = rows;
+  cells = λ x y. sym (b.cells (x +ℤ columns) (y +ℤ rows)) ∙ cells x y ∙ a.cells x y;
 }
 
 turned_to : (p q : Pattern) (u v : Universe) → Says p u → Says q v → LayerTurnedShift u v → IsTurnedShift p q
@@ -96,13 +94,8 @@ related_to : {L : Universe → Universe → Type 0} {R : Pattern → Pattern →
 related_to to a b s =
     let p = files_agree a s.first s.reads_first in
     let q = files_agree b s.second s.reads_second in
-    record {
-      first = p.pattern;
-      second = q.pattern;
-      first_is = p.is;
-      second_is = q.is;
-      related = to p.pattern q.pattern s.first s.second (said a s.first p) (said b s.second q) s.related;
-    }
+    let related = to p.pattern q.pattern s.first s.second (said a s.first p) (said b s.second q) s.related in
+    record { first = p.pattern; second = q.pattern; first_is = p.is; second_is = q.is; related = related }
 
 related_from : {L : Universe → Universe → Type 0} {R : Pattern → Pattern → Type 0} → FilesAreOnPlane 62
     → ((p q : Pattern) (u v : Universe) → IsRule u.rule → IsRule v.rule → Says p u → Says q v → R p q → L u v)

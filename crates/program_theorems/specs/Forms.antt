@@ -8,12 +8,9 @@ use Rattle.claims.specs.Generation.{SaysMoreCells}
 use Rattle.claims.specs.Pattern.{Pattern}
 
 -- the second is the first, with each cell so many columns further east and rows further south
-pub record IsShift (p q : Pattern) : Type 0 where
-  pub rule : p.rule ≡ q.rule
-  pub generation : p.generation ≡ q.generation
-  pub columns : ℤ
-  pub rows : ℤ
-  pub cells : (x y : ℤ) → q.cell (x +ℤ columns) (y +ℤ rows) ≡ p.cell x y
+abbrev pub IsShift : Pattern → Pattern → Type 0
+IsShift p q = (p.rule ≡ q.rule) × (p.generation ≡ q.generation)
+    × ((columns : ℤ) × (rows : ℤ) × ((x y : ℤ) → q.cell (x +ℤ columns) (y +ℤ rows) ≡ p.cell x y))
 
 -- a column or row counted from the other side of the plane, -1 - x, or not
 abbrev pub counted : Bool → ℤ → ℤ

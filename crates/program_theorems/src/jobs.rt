@@ -4,9 +4,9 @@ ghost use Rattle.std.specs.Prelude.{◌≡◌, ◌⊎◌, ◌<◌, ◌++◌, ℕ
 ghost use Rattle.program_theorems.specs.Words.{HasSecond, IsGiven, Answers, IsShort, IsRefused, Holds};
 
 use crate::laws::layers_agree;
+use crate::runs::Run;
 use life_base::{Sink, Source};
-use life_cli::plans::Job;
-use life_cli::{Seeds, work};
+use life_cli::work;
 use std::alloc::Global;
 
 /// A job writes the text that the bytes of its files ask for to `out`, behind what that held, and ends with its status: 0 or 1.
@@ -14,46 +14,45 @@ use std::alloc::Global;
 /// A sink that fails, or takes no bytes, has a front of the text or of the line.
 pub fn does_its_job<A: Source, B: Source, O: Sink, E: Sink>(
     alloc: Global,
-    seeds: &Seeds,
-    job: &Job,
-    first: &mut A,
-    second: &mut Option<B>,
-    out: &mut O,
-    err: &mut E,
+    run: &mut Run<A, B, O, E>,
 ) -> u8
-    requires { IsGiven job.now (A.failures first.old) B.failures second.old
-        (O.failures out.old) (O.stalled out.old) (E.failures err.old) (E.stalled err.old) }
-    ensures done { (file other : List ℕ) → A.remaining first.old ≡ Some file
-        → IfSome second.old (λ b. B.remaining b ≡ Some other) → result < 2
-        → (text : List ℕ) × Answers job.now file other result text
-        × ((held : List ℕ) → O.contents out.old ≡ Some held
-        → O.contents out.new ≡ Some (held ++ text)) }
-    ensures flushed { result < 2 → O.flushed out.new ≡ true }
-    ensures quiet { result < 2 → err.new ≡ err.old }
-    ensures whole { (file : List ℕ) → A.remaining first.old ≡ Some file → result < 2
-        → (A.remaining first.new ≡ Some []) × IsShort file }
-    ensures second_whole { (other : List ℕ) → HasSecond job.now
-        → IfSome second.old (λ b. B.remaining b ≡ Some other) → result < 2
-        → IsSomeAnd second.new (λ b. B.remaining b ≡ Some []) × IsShort other }
-    ensures refused { (file other : List ℕ) → A.remaining first.old ≡ Some file
-        → IfSome second.old (λ b. B.remaining b ≡ Some other) → 1 < result
-        → (line : List ℕ) × IsRefused job.now file other
-        ((A.failures first.new ≡ 1) ⊎ IsSomeAnd second.new (λ b. B.failures b ≡ 1))
-        ((O.failures out.new ≡ 1) ⊎ (O.stalled out.new ≡ true)) result line
-        × ((heard : List ℕ) → E.contents err.old ≡ Some heard
-        → Holds heard line ((E.failures err.new ≡ 1) ⊎ (E.stalled err.new ≡ true))
-        (E.contents err.new)) }
-    ensures unwritten { 1 < result → O.failures out.new ≡ 0 → O.stalled out.new ≡ false
-        → out.new ≡ out.old }
-    ensures broken { (file other : List ℕ) → A.remaining first.old ≡ Some file
-        → IfSome second.old (λ b. B.remaining b ≡ Some other)
-        → (O.failures out.new ≡ 1) ⊎ (O.stalled out.new ≡ true)
-        → (result ≡ 3) × ((status : ℕ) × (text : List ℕ) × Answers job.now file other status text
-        × ((held : List ℕ) → O.contents out.old ≡ Some held
-        → (n : ℕ) × (O.contents out.new ≡ Some (held ++ take n text)))) }
-    ensures unread { (A.failures first.new ≡ 1) ⊎ IsSomeAnd second.new (λ b. B.failures b ≡ 1)
-        → result ≡ 3 }
+    requires { IsGiven run.old.job (A.failures run.old.first) B.failures run.old.second
+        (O.failures run.old.out) (O.stalled run.old.out)
+        (E.failures run.old.err) (E.stalled run.old.err) }
+    ensures done { (file other : List ℕ) → A.remaining run.old.first ≡ Some file
+        → IfSome run.old.second (λ b. B.remaining b ≡ Some other) → result < 2
+        → (text : List ℕ) × Answers run.old.job file other result text
+        × ((held : List ℕ) → O.contents run.old.out ≡ Some held
+        → O.contents run.new.out ≡ Some (held ++ text)) }
+    ensures flushed { result < 2 → O.flushed run.new.out ≡ true }
+    ensures quiet { result < 2 → run.new.err ≡ run.old.err }
+    ensures whole { (file : List ℕ) → A.remaining run.old.first ≡ Some file → result < 2
+        → (A.remaining run.new.first ≡ Some []) × IsShort file }
+    ensures second_whole { (other : List ℕ) → HasSecond run.old.job
+        → IfSome run.old.second (λ b. B.remaining b ≡ Some other) → result < 2
+        → IsSomeAnd run.new.second (λ b. B.remaining b ≡ Some []) × IsShort other }
+    ensures refused { (file other : List ℕ) → A.remaining run.old.first ≡ Some file
+        → IfSome run.old.second (λ b. B.remaining b ≡ Some other) → 1 < result
+        → (line : List ℕ) × IsRefused run.old.job file other
+        ((A.failures run.new.first ≡ 1) ⊎ IsSomeAnd run.new.second (λ b. B.failures b ≡ 1))
+        ((O.failures run.new.out ≡ 1) ⊎ (O.stalled run.new.out ≡ true)) result line
+        × ((heard : List ℕ) → E.contents run.old.err ≡ Some heard
+        → Holds heard line ((E.failures run.new.err ≡ 1) ⊎ (E.stalled run.new.err ≡ true))
+        (E.contents run.new.err)) }
+    ensures unwritten { 1 < result → O.failures run.new.out ≡ 0 → O.stalled run.new.out ≡ false
+        → run.new.out ≡ run.old.out }
+    ensures broken { (file other : List ℕ) → A.remaining run.old.first ≡ Some file
+        → IfSome run.old.second (λ b. B.remaining b ≡ Some other)
+        → (O.failures run.new.out ≡ 1) ⊎ (O.stalled run.new.out ≡ true)
+        → (result ≡ 3) × ((status : ℕ) × (text : List ℕ)
+        × Answers run.old.job file other status text
+        × ((held : List ℕ) → O.contents run.old.out ≡ Some held
+        → (n : ℕ) × (O.contents run.new.out ≡ Some (held ++ take n text)))) }
+    ensures unread { (A.failures run.new.first ≡ 1)
+        ⊎ IsSomeAnd run.new.second (λ b. B.failures b ≡ 1) → result ≡ 3 }
 {
     layers_agree();
-    work(alloc, seeds, job, first, second, out, err)
+    let (first, second) = (&mut run.first, &mut run.second);
+    let (out, err) = (&mut run.out, &mut run.err);
+    work(alloc, &run.seeds, &run.job, first, second, out, err)
 }

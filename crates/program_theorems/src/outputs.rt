@@ -4,36 +4,35 @@ ghost use Rattle.std.specs.Prelude.{◌≡◌, ◌⊎◌, ◌↔◌, ◌<◌, �
 ghost use Rattle.program_theorems.specs.Words.{node_lines, Same, pattern_of, Pattern, IsShown, IsGiven, WritesCanonical, FormValue, SameIn};
 
 use crate::laws::layers_agree;
+use crate::runs::Run;
 use life_base::{Fault, Sink, Source};
 use life_canon::canon;
 use life_cli::plans::{Form, Job, Target};
-use life_cli::{Seeds, work};
+use life_cli::work;
 use life_quad::{Seed, Shared};
 use std::alloc::Global;
 
 /// What `canon`, without a form, and `convert --to mc` write is the canonical text that `canon` of `life_canon` makes of the bytes of the file.
 pub fn written_text_is_that_of_canon<A: Source, B: Source, O: Sink, E: Sink>(
     alloc: Global,
-    seeds: &Seeds,
-    job: &Job,
-    first: &mut A,
-    second: &mut Option<B>,
-    out: &mut O,
-    err: &mut E,
+    run: &mut Run<A, B, O, E>,
     file: &[u8],
     limit: u64,
     seed: Seed,
 ) -> (u8, Result<Vec<u8>, Fault>)
-    requires given { IsGiven job.now (A.failures first.old) B.failures second.old
-        (O.failures out.old) (O.stalled out.old) (E.failures err.old) (E.stalled err.old) }
+    requires given { IsGiven run.old.job (A.failures run.old.first) B.failures run.old.second
+        (O.failures run.old.out) (O.stalled run.old.out)
+        (E.failures run.old.err) (E.stalled run.old.err) }
     requires limit { limit ≤ 2 ^ 62 }
-    ensures { (held : List ℕ) → A.remaining first.old ≡ Some file.now
-        → O.contents out.old ≡ Some held → result.0 < 2
-        → (job.now ≡ Job.Canon Form.Placed) ⊎ (job.now ≡ Job.Convert Target.Mc)
-        → IfOk result.1 (λ text. O.contents out.new ≡ Some (held ++ text.items)) }
+    ensures { (held : List ℕ) → A.remaining run.old.first ≡ Some file.now
+        → O.contents run.old.out ≡ Some held → result.0 < 2
+        → (run.old.job ≡ Job.Canon Form.Placed) ⊎ (run.old.job ≡ Job.Convert Target.Mc)
+        → IfOk result.1 (λ text. O.contents run.new.out ≡ Some (held ++ text.items)) }
 {
     layers_agree();
-    let status = work(alloc, seeds, job, first, second, out, err);
+    let (first, second) = (&mut run.first, &mut run.second);
+    let (out, err) = (&mut run.out, &mut run.err);
+    let status = work(alloc, &run.seeds, &run.job, first, second, out, err);
     let mut store = Shared::new(alloc, seed, limit);
     (status, canon(alloc, &mut store, file))
 }
@@ -43,55 +42,42 @@ pub fn written_text_is_that_of_canon<A: Source, B: Source, O: Sink, E: Sink>(
 /// node lines the text has that `canon` writes of the same bytes without a form.
 pub fn outputs_of_two_runs<A: Source, B: Source, O: Sink, E: Sink>(
     alloc: Global,
-    seeds: &Seeds,
-    job: &Job,
-    first: &mut A,
-    second: &mut Option<B>,
-    out: &mut O,
-    err: &mut E,
-    other_seeds: &Seeds,
-    other_job: &Job,
-    other_first: &mut A,
-    other_second: &mut Option<B>,
-    other_out: &mut O,
-    other_err: &mut E,
+    one: &mut Run<A, B, O, E>,
+    two: &mut Run<A, B, O, E>,
 ) -> (u8, u8)
-    requires given { IsGiven job.now (A.failures first.old) B.failures second.old
-        (O.failures out.old) (O.stalled out.old) (E.failures err.old) (E.stalled err.old) }
-    requires other_given { IsGiven other_job.now (A.failures other_first.old) B.failures
-        other_second.old (O.failures other_out.old) (O.stalled other_out.old)
-        (E.failures other_err.old) (E.stalled other_err.old) }
-    ensures equal { (held kept : List ℕ) → O.contents out.old ≡ Some held
-        → O.contents other_out.old ≡ Some kept → result.0 < 2 → result.1 < 2
-        → WritesCanonical job.now → WritesCanonical other_job.now
-        → (text : List ℕ) × (other : List ℕ) × (O.contents out.new ≡ Some (held ++ text))
-        × (O.contents other_out.new ≡ Some (kept ++ other)) × ((text ≡ other) ↔ Same text other) }
+    requires given { IsGiven one.old.job (A.failures one.old.first) B.failures one.old.second
+        (O.failures one.old.out) (O.stalled one.old.out)
+        (E.failures one.old.err) (E.stalled one.old.err) }
+    requires other_given { IsGiven two.old.job (A.failures two.old.first) B.failures
+        two.old.second (O.failures two.old.out) (O.stalled two.old.out)
+        (E.failures two.old.err) (E.stalled two.old.err) }
+    ensures equal { (held kept : List ℕ) → O.contents one.old.out ≡ Some held
+        → O.contents two.old.out ≡ Some kept → result.0 < 2 → result.1 < 2
+        → WritesCanonical one.old.job → WritesCanonical two.old.job
+        → (text : List ℕ) × (other : List ℕ) × (O.contents one.new.out ≡ Some (held ++ text))
+        × (O.contents two.new.out ≡ Some (kept ++ other)) × ((text ≡ other) ↔ Same text other) }
     ensures forms { (form : FormValue) (file other_file held kept : List ℕ)
-        → O.contents out.old ≡ Some held → O.contents other_out.old ≡ Some kept → result.0 < 2
-        → result.1 < 2 → job.now ≡ Job.Canon form → other_job.now ≡ Job.Canon form
-        → A.remaining first.old ≡ Some file → A.remaining other_first.old ≡ Some other_file
-        → (text : List ℕ) × (other : List ℕ) × (O.contents out.new ≡ Some (held ++ text))
-        × (O.contents other_out.new ≡ Some (kept ++ other))
+        → O.contents one.old.out ≡ Some held → O.contents two.old.out ≡ Some kept → result.0 < 2
+        → result.1 < 2 → one.old.job ≡ Job.Canon form → two.old.job ≡ Job.Canon form
+        → A.remaining one.old.first ≡ Some file → A.remaining two.old.first ≡ Some other_file
+        → (text : List ℕ) × (other : List ℕ) × (O.contents one.new.out ≡ Some (held ++ text))
+        × (O.contents two.new.out ≡ Some (kept ++ other))
         × ((text ≡ other) ↔ SameIn form file other_file) }
-    ensures shown { (file held kept : List ℕ) → O.contents out.old ≡ Some held
-        → O.contents other_out.old ≡ Some kept → result.0 < 2 → result.1 < 2
-        → job.now ≡ Job.Canon Form.Placed → other_job.now ≡ Job.Show
-        → A.remaining first.old ≡ Some file → A.remaining other_first.old ≡ Some file
-        → (text : List ℕ) × (lines : List ℕ) × (O.contents out.new ≡ Some (held ++ text))
-        × (O.contents other_out.new ≡ Some (kept ++ lines))
+    ensures shown { (file held kept : List ℕ) → O.contents one.old.out ≡ Some held
+        → O.contents two.old.out ≡ Some kept → result.0 < 2 → result.1 < 2
+        → one.old.job ≡ Job.Canon Form.Placed → two.old.job ≡ Job.Show
+        → A.remaining one.old.first ≡ Some file → A.remaining two.old.first ≡ Some file
+        → (text : List ℕ) × (lines : List ℕ) × (O.contents one.new.out ≡ Some (held ++ text))
+        × (O.contents two.new.out ≡ Some (kept ++ lines))
         × ((pattern : Pattern) × (pattern_of file ≡ Ok pattern)
         × IsShown pattern (node_lines text) lines) }
 {
     layers_agree();
-    let status = work(alloc, seeds, job, first, second, out, err);
-    let other = work(
-        alloc,
-        other_seeds,
-        other_job,
-        other_first,
-        other_second,
-        other_out,
-        other_err,
-    );
+    let (first, second) = (&mut one.first, &mut one.second);
+    let (out, err) = (&mut one.out, &mut one.err);
+    let status = work(alloc, &one.seeds, &one.job, first, second, out, err);
+    let (first, second) = (&mut two.first, &mut two.second);
+    let (out, err) = (&mut two.out, &mut two.err);
+    let other = work(alloc, &two.seeds, &two.job, first, second, out, err);
     (status, other)
 }

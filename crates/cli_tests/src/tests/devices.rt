@@ -165,6 +165,27 @@ pub(super) fn assert_left(
     assert!(rt; !out.failed || status == 3);
 }
 
+/// The status of a job, and what standard error took, which has room for `heard.0` bytes and takes `heard.1` at a time.
+pub(super) fn told<A: Source, B: Source, O: Sink>(
+    alloc: Global,
+    job: &Job,
+    first: &mut A,
+    second: &mut Option<B>,
+    out: &mut O,
+    heard: (usize, usize),
+) -> (u8, Limited)
+    requires first_reads { A.failures first.old ≡ 0 }
+    requires second_reads { IfSome second.old (λ b. B.failures b ≡ 0) }
+    requires second_given { IsSome second.old ↔ HasSecond job.now }
+    requires writes { O.failures out.old ≡ 0 }
+    requires takes { O.stalled out.old ≡ false }
+{
+    let seeds = Seeds::fixed();
+    let mut err = sink_with(alloc, heard.0, heard.1);
+    let status = work(alloc, &seeds, job, first, second, out, &mut err);
+    (status, err)
+}
+
 /// A job, where standard output has room for `sink.0` bytes and takes `sink.1` at a time, leaves this: its status, what standard output took, and
 /// what standard error took.
 pub(super) fn assert_job<A: Source, B: Source + Drop>(
@@ -182,16 +203,7 @@ pub(super) fn assert_job<A: Source, B: Source + Drop>(
 {
     let mut second = second;
     let mut out = sink_with(alloc, sink.0, sink.1);
-    let mut err = sink_with(alloc, 99, 3);
-    let status = work(
-        alloc,
-        &Seeds::fixed(),
-        job,
-        first,
-        &mut second,
-        &mut out,
-        &mut err,
-    );
+    let (status, err) = told(alloc, job, first, &mut second, &mut out, (99, 3));
     assert_left(rt, (status, out, err), wanted);
 }
 

@@ -5,13 +5,12 @@ ghost use Rattle.life_cli.specs.Plans.{HasSecond};
 
 use super::JOBS;
 use super::devices::{
-    End, Limited, Narrow, READ_FAULT, WIDE, assert_job, assert_left, sink_with, source_of,
+    End, Limited, Narrow, READ_FAULT, WIDE, assert_job, assert_left, sink_with, source_of, told,
 };
 use life_base::{Device, Source};
 use life_cli::plans::{Form, Job};
-use life_cli::{Seeds, work};
 use std::alloc::Global;
-use std::io::{self, Write};
+use std::io;
 use std::process::Abort;
 
 /// A job whose first file fails at any of its reads is told so.
@@ -44,32 +43,6 @@ fn each_read_of_the_second_file_fails(rt: HostRuntime) {
     }
 }
 
-/// The status of a job that writes to this writer, and what standard error took.
-fn told<A: Source, B: Source, W: Write + Drop>(
-    alloc: Global,
-    job: &Job,
-    first: &mut A,
-    second: &mut Option<B>,
-    writer: W,
-) -> (u8, Limited)
-    requires first_reads { A.failures first.old ≡ 0 }
-    requires second_reads { IfSome second.old (λ b. B.failures b ≡ 0) }
-    requires second_given { IsSome second.old ↔ HasSecond job.now }
-{
-    let mut out = Device::new(writer);
-    let mut err = sink_with(alloc, 99, 3);
-    let status = work(
-        alloc,
-        &Seeds::fixed(),
-        job,
-        first,
-        second,
-        &mut out,
-        &mut err,
-    );
-    (status, err)
-}
-
 /// Whether the line of a failed write was told.
 fn is_write_fault(err: &Limited) -> bool {
     err.taken.as_slice() == b"WriteFault\n".as_slice()
@@ -97,7 +70,9 @@ fn assert_front<B: Source>(
         piece,
         end,
     };
-    let (status, err) = told(alloc, job, &mut first, second, writer);
+    let mut out = Device::new(writer);
+    let (status, err) = told(alloc, job, &mut first, second, &mut out, (99, 3));
+    drop(out);
     assert!(rt; status == 3 && is_write_fault(&err), "{room}");
     assert!(rt; text.starts_with(&taken) && taken.len() == room, "{room}");
 }
@@ -142,16 +117,9 @@ fn assert_error_front(rt: &impl Abort, alloc: Global, room: usize, piece: usize,
     let mut first = Device::new(b"o!\n".as_slice());
     let mut second = None::<Device<&[u8]>>;
     let mut out = sink_with(alloc, 999, 7);
-    let mut err = sink_with(alloc, room, piece);
-    let status = work(
-        alloc,
-        &Seeds::fixed(),
-        &Job::Canon(Form::Placed),
-        &mut first,
-        &mut second,
-        &mut out,
-        &mut err,
-    );
+    let job = Job::Canon(Form::Placed);
+    let heard = (room, piece);
+    let (status, err) = told(alloc, &job, &mut first, &mut second, &mut out, heard);
     assert_left(rt, (status, out, err), (2, b"", wanted));
 }
 

@@ -1,9 +1,11 @@
 //! The jobs that take a pattern in a form. The texts were worked out by hand.
 
 use super::devices::{READ_FAULT, WIDE, assert_files, assert_one, assert_texts, source_of};
-use super::{EAST_GLIDER, GLIDER, TWINS, TWINS_IN_RLE};
+use super::{DIFFERENT, EAST_GLIDER, GLIDER, SAME, TWINS, TWINS_IN_RLE};
 use life_base::Device;
 use life_cli::plans::{Form, Job};
+use std::alloc::Global;
+use std::process::Abort;
 
 /// A glider whose least box begins at (0, 0).
 pub const MOVED_GLIDER: &[u8] = b"[M2] (canonical 1)\n#R B3/S23\n$$$$.....*$......*$....***$$\n";
@@ -31,17 +33,22 @@ const MOVED_STATES: &[u8] =
 const TURNED_STATES: &[u8] =
     b"[M2] (canonical 1)\n#R WireWorld\n#G 7\n1 0 1 2 0\n1 0 255 0 25\n2 1 2 0 0\n3 0 0 0 3\n";
 
+/// The texts in a form, where those of a glider in the corners of the plane and of the states are these.
+fn assert_form(rt: &impl Abort, alloc: Global, form: Form, glider: &[u8], states: &[u8]) {
+    let rows = [
+        (NORTH_WEST, glider),
+        (SOUTH_EAST, glider),
+        (BLANK_WIRES, BLANK_WIRES_TEXT),
+        (STATES, states),
+    ];
+    assert_texts(rt, alloc, &Job::Canon(form), &rows);
+}
+
 #[test]
 fn moved_texts(rt: HostRuntime) {
-    let rows: [(&[u8], &[u8]); 6] = [
-        (EAST_GLIDER, MOVED_GLIDER),
-        (GLIDER, MOVED_GLIDER),
-        (NORTH_WEST, MOVED_GLIDER),
-        (SOUTH_EAST, MOVED_GLIDER),
-        (BLANK_WIRES, BLANK_WIRES_TEXT),
-        (STATES, MOVED_STATES),
-    ];
+    let rows = [(EAST_GLIDER, MOVED_GLIDER), (GLIDER, MOVED_GLIDER)];
     assert_texts(&rt, rt.alloc(), &Job::Canon(Form::Moved), &rows);
+    assert_form(&rt, rt.alloc(), Form::Moved, MOVED_GLIDER, MOVED_STATES);
 }
 
 /// The eight images of a glider, which have one text.
@@ -60,17 +67,11 @@ fn turned_texts(rt: HostRuntime) {
     for image in images {
         let rows = [(image, TURNED_GLIDER)];
         assert_texts(&rt, rt.alloc(), &Job::Canon(Form::Turned), &rows);
-        let wanted = (0, b"same\n".as_slice(), b"".as_slice());
+        let wanted = (0, SAME, b"".as_slice());
         let files = (image, SOUTH_EAST);
         assert_files(&rt, rt.alloc(), &Job::Same(Form::Turned), files, wanted);
     }
-    let rows = [
-        (NORTH_WEST, TURNED_GLIDER),
-        (SOUTH_EAST, TURNED_GLIDER),
-        (BLANK_WIRES, BLANK_WIRES_TEXT),
-        (STATES, TURNED_STATES),
-    ];
-    assert_texts(&rt, rt.alloc(), &Job::Canon(Form::Turned), &rows);
+    assert_form(&rt, rt.alloc(), Form::Turned, TURNED_GLIDER, TURNED_STATES);
 }
 
 #[test]
@@ -88,11 +89,7 @@ fn same_in_a_form(rt: HostRuntime) {
         (Form::Turned, TWINS, GLIDER, 1),
     ];
     for (form, a, b, status) in rows {
-        let line = if status == 0 {
-            b"same\n".as_slice()
-        } else {
-            b"different\n"
-        };
+        let line = if status == 0 { SAME } else { DIFFERENT };
         let wanted = (status, line, b"".as_slice());
         assert_files(&rt, rt.alloc(), &Job::Same(form), (a, b), wanted);
     }
@@ -118,7 +115,7 @@ fn refused_in_a_form(rt: HostRuntime) {
             assert_files(&rt, rt.alloc(), &Job::Same(form), (a, b), (2, b"", line));
         }
     }
-    let wanted = (0, b"same\n".as_slice(), b"".as_slice());
+    let wanted = (0, SAME, b"".as_slice());
     assert_files(
         &rt,
         rt.alloc(),

@@ -2,8 +2,8 @@
 
 use super::devices::{WIDE, assert_files, assert_jobs, assert_texts};
 use super::{
-    BLANK, EAST_GLIDER, EAST_GLIDER_SHOWN, LINE, TWINS, TWINS_IN_RLE, TWINS_RUNS, TWINS_TEXT,
-    WIRES, WIRES_TEXT,
+    BLANK, DIFFERENT, EAST_GLIDER, EAST_GLIDER_SHOWN, LINE, SAME, TWINS, TWINS_IN_RLE, TWINS_RUNS,
+    TWINS_TEXT, WIRES, WIRES_TEXT,
 };
 use life_cli::plans::{Form, Job, Target};
 
@@ -15,28 +15,23 @@ fn jobs_write_their_texts(rt: HostRuntime) {
 #[test]
 fn same_and_different(rt: HostRuntime) {
     let rows: [(&[u8], &[u8], u8, &[u8]); 7] = [
-        (LINE, b"x = 3, y = 1, rule = B3/S23\no2o!\n", 0, b"same\n"),
-        (
-            LINE,
-            b"x = 3, y = 1, rule = Life\no2o!\n",
-            1,
-            b"different\n",
-        ),
+        (LINE, b"x = 3, y = 1, rule = B3/S23\no2o!\n", 0, SAME),
+        (LINE, b"x = 3, y = 1, rule = Life\no2o!\n", 1, DIFFERENT),
         (
             b"x = 1, y = 1\no!\n",
             b"x = 1, y = 1\no999999bo!\n",
             1,
-            b"different\n",
+            DIFFERENT,
         ),
         (
             b"x = 1, y = 1\no!\n",
             b"#CXRLE Gen=1\nx = 1, y = 1\no!\n",
             1,
-            b"different\n",
+            DIFFERENT,
         ),
-        (TWINS, TWINS_IN_RLE, 0, b"same\n"),
-        (TWINS_IN_RLE, TWINS_TEXT, 0, b"same\n"),
-        (BLANK, b"[M2]", 0, b"same\n"),
+        (TWINS, TWINS_IN_RLE, 0, SAME),
+        (TWINS_IN_RLE, TWINS_TEXT, 0, SAME),
+        (BLANK, b"[M2]", 0, SAME),
     ];
     for (a, b, wanted, line) in rows {
         let wanted = (wanted, line, b"".as_slice());

@@ -1,7 +1,7 @@
 //! The command `keys`: its files, one after another.
 
 ghost use Rattle.std.specs.Prelude.{◌≡◌, OnOk, false, true, map};
-ghost use Rattle.life_cli.specs.Words.{sink_run, LeavesSink, IsStatus, end_of, Listed, names_among, names_in, Ran, TakesNames, Word};
+ghost use Rattle.life_cli.specs.Words.{sink_run, CanTake, LeavesSink, IsStatus, end_of, Listed, names_among, names_in, Ran, TakesNames, Word};
 
 use super::files::Files;
 use super::names::first_name;
@@ -16,7 +16,7 @@ use std::io::{Read, Result as IoResult};
 
 /// A run: its files, and what it writes of them.
 #[derive(Drop)]
-struct Run<F> {
+pub struct Run<F> {
     files: Files<F>,
     outputs: Outputs,
 }
@@ -29,17 +29,15 @@ impl<R: Read + Drop, F: FnMut(Origin<'_>) -> IoResult<Opened<R>> + Drop> Run<F> 
         out: &mut W,
         err: &mut E,
     ) -> Result<(), Kind>
-        requires callable { F.IsAlwaysCallable self.old.files.opener }
-        requires works { W.failures out.old ≡ 0 }
-        requires hears { self.old.outputs.tells ≡ true → E.failures err.old ≡ 0 }
+        requires { CanTake F.IsAlwaysCallable self.old (W.failures out.old) (E.failures err.old) }
+        ensures zero { self.new.outputs.zero ≡ self.old.outputs.zero }
+        ensures form { self.new.files.form ≡ self.old.files.form }
         ensures callable { F.IsAlwaysCallable self.new.files.opener }
         ensures took { TakesNames F.step R.remaining W.contents E.contents E.failures E.stalled
             self.old.files.form (map Word (map (λ word. word.now) words.now))
             self.old.files.opener self.new.files.opener out.old out.new err.old err.new
             self.old.outputs self.new.outputs result }
         ensures sink { LeavesSink W.failures W.stalled out.old out.new result }
-        ensures zero { self.new.outputs.zero ≡ self.old.outputs.zero }
-        ensures form { self.new.files.form ≡ self.old.files.form }
     {
         for word in words {
             let outcome = self.files.outcome(origin_of(word));
@@ -55,9 +53,7 @@ impl<R: Read + Drop, F: FnMut(Origin<'_>) -> IoResult<Opened<R>> + Drop> Run<F> 
         out: &mut W,
         err: &mut E,
     ) -> Result<(), Kind>
-        requires callable { F.IsAlwaysCallable self.old.files.opener }
-        requires works { W.failures out.old ≡ 0 }
-        requires hears { self.old.outputs.tells ≡ true → E.failures err.old ≡ 0 }
+        requires { CanTake F.IsAlwaysCallable self.old (W.failures out.old) (E.failures err.old) }
         ensures callable { F.IsAlwaysCallable self.new.files.opener }
         ensures took { TakesNames F.step R.remaining W.contents E.contents E.failures E.stalled
             self.old.files.form (map Listed (names_in (end_of self.old.outputs.zero) list.now))

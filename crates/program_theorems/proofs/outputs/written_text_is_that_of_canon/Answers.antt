@@ -6,7 +6,7 @@ use Rattle.program_theorems.proofs.AnswerLaw.{given_second, written_canonical}
 use Rattle.program_theorems.proofs.outputs.written_text_is_that_of_canon.Goals as goal
 
 pub work-status-requires-clause-second_given : goal.work-status-requires-clause-second_given
-work-status-requires-clause-second_given g c = given_second c.args.job.now c.requires.given.second_given
+work-status-requires-clause-second_given g c = given_second c.args.run.now.job c.requires.given.second_given
 
 pub returns : goal.returns
 returns g c =
@@ -16,5 +16,5 @@ returns g c =
     map_ok c.canon.result
     (λ other k. appended _ _ held text done.written f
     ∙ ap (λ (t : List ℕ). Some (held ++ t))
-    (one_text c.layers_agree.ensures.unique c.args.file.now text other.items (written_canonical c.args.job.now _ _ _ text c.args.file.now done.answer e is) k))
+    (one_text c.layers_agree.ensures.unique c.args.file.now text other.items (written_canonical c.args.run.now.job _ _ _ text c.args.file.now done.answer e is) k))
     c.canon.ensures.text

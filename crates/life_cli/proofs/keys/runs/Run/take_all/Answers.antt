@@ -2,8 +2,18 @@ use Rattle.std.proofs.Common.{◌++◌, map}
 use Rattle.std.proofs.lemmas.Result.{err_from_is_err_and}
 use Rattle.life_cli.specs.Keys.{end_of}
 use Rattle.life_cli.specs.KeyRuns.{Listed, names_in}
-use Rattle.life_cli.proofs.KeyRunLemmas.{on_ok, takes_both, takes_err, takes_flushed, takes_longer}
+use Rattle.life_cli.proofs.KeyRunLemmas.{hears_on, on_ok, takes_both, takes_err, takes_flushed, takes_longer}
 use Rattle.life_cli.proofs.keys.runs.Run.take_all.Goals as goal
+
+pub take_words-requires : goal.take_words-requires
+take_words-requires g c = record { callable = c.requires.callable; works = c.requires.works; hears = c.requires.hears }
+
+pub take_list-requires : goal.take_list-requires
+take_list-requires g c = record {
+  callable = c.in_ok-take_words.ensures.callable;
+  works = c.in_ok-take_words.ensures.sink.works;
+  hears = hears_on _ _ _ _ _ _ _ _ c.in_ok-take_words.ensures.took.2.writes.told;
+}
 
 pub returns-in_err-take_words-clause-took : goal.returns-in_err-take_words-clause-took
 returns-in_err-take_words-clause-took g c =

@@ -8,10 +8,8 @@ use Rattle.life_cli.proofs.keys.runs.Run.take_list.Goals.{then-self, else-self}
 
 pub loop-rest-init : goal.loop-rest-init
 loop-rest-init g c = record {
-  callable = c.requires.callable;
-  works = c.requires.works;
+  can = c.requires;
   stalled = refl;
-  hears = c.requires.hears;
   zero = refl;
   form = refl;
   ends = elim c.if-self.branch [
@@ -23,10 +21,8 @@ loop-rest-init g c = record {
 
 pub loop-rest-preserved-in-Continue-1 : goal.loop-rest-preserved-in-Continue-1
 loop-rest-preserved-in-Continue-1 g c = record {
-  callable = c.listed_outcome-outcome.ensures.callable;
-  works = c.in_ok-put.ensures.sink.works;
+  can = record { callable = c.listed_outcome-outcome.ensures.callable; works = c.in_ok-put.ensures.sink.works; hears = hears_on _ _ _ _ _ _ _ _ c.in_ok-put.ensures.taken.2.told };
   stalled = c.in_ok-put.ensures.sink.stalled ∙ c.loop-rest.invariant.stalled;
-  hears = hears_on _ _ _ _ _ _ _ _ c.in_ok-put.ensures.taken.2.told;
   zero = c.in_ok-put.ensures.zero ∙ c.loop-rest.invariant.zero;
   form = c.listed_outcome-outcome.ensures.form ∙ c.loop-rest.invariant.form;
   ends = c.loop-rest.invariant.ends;

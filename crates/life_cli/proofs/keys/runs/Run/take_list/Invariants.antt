@@ -1,17 +1,15 @@
-use Rattle.std.proofs.Common.{◌≡◌, true, length, map, Ok}
+use Rattle.std.proofs.Common.{◌≡◌, length, map, Ok}
 use Rattle.life_cli.specs.Keys.{end_of}
-use Rattle.life_cli.specs.KeyRuns.{Listed, names_in, TakesFiles}
+use Rattle.life_cli.specs.KeyRuns.{CanTake, Listed, names_in, TakesFiles}
 use Rattle.life_cli.proofs.keys.runs.Run.take_list.Given as goal
 
 abbrev pub invariant-loop-rest : goal.invariant-loop-rest
 invariant-loop-rest g l = record {
-  callable : goal.F-IsAlwaysCallable g l.self.files.opener;
-  works : g.W.Sink.failures l.out ≡ 0;
+  can : CanTake (goal.F-IsAlwaysCallable g) l.self (g.W.Sink.failures l.out) (g.E.Sink.failures l.err);
+  ends : l.end ≡ end_of l.initial.self.outputs.zero;
   stalled : g.W.Sink.stalled l.out ≡ g.W.Sink.stalled l.initial.out;
-  hears : l.self.outputs.tells ≡ true → g.E.Sink.failures l.err ≡ 0;
   zero : l.self.outputs.zero ≡ l.initial.self.outputs.zero;
   form : l.self.files.form ≡ l.initial.self.files.form;
-  ends : l.end ≡ end_of l.initial.self.outputs.zero;
   took : TakesFiles (goal.F-step g) g.R.Read.remaining g.W.Sink.contents g.E.Sink.contents g.E.Sink.failures g.E.Sink.stalled l.initial.self.files.form
       (map Listed (names_in (end_of l.initial.self.outputs.zero) l.list)) (map Listed (names_in (end_of l.initial.self.outputs.zero) l.rest))
       l.initial.self.files.opener l.self.files.opener l.initial.out l.out l.initial.err l.err l.initial.self.outputs l.self.outputs (Ok tt);

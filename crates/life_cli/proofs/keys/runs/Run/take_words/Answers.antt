@@ -5,15 +5,7 @@ use Rattle.life_cli.proofs.KeyRunLemmas.{hears_on, takes_err, takes_next, takes_
 use Rattle.life_cli.proofs.keys.runs.Run.take_words.Goals as goal
 
 pub loop-word-init : goal.loop-word-init
-loop-word-init g c = record {
-  callable = c.requires.callable;
-  works = c.requires.works;
-  stalled = refl;
-  hears = c.requires.hears;
-  zero = refl;
-  form = refl;
-  took = takes_none _ _ _ _ _ _ _ _ _ _ _ _ c.requires.hears;
-}
+loop-word-init g c = record { can = c.requires; stalled = refl; zero = refl; form = refl; took = takes_none _ _ _ _ _ _ _ _ _ _ _ _ c.requires.hears }
 
 pub returns-in_err-put-clause-took : goal.returns-in_err-put-clause-took
 returns-in_err-put-clause-took g c =
@@ -32,10 +24,8 @@ pub loop-word-preserved : goal.loop-word-preserved
 loop-word-preserved g c =
     let comes = c.outcome-outcome.ensures.comes in
     record {
-      callable = c.outcome-outcome.ensures.callable;
-      works = c.in_ok-put.ensures.sink.works;
+      can = record { callable = c.outcome-outcome.ensures.callable; works = c.in_ok-put.ensures.sink.works; hears = hears_on _ _ _ _ _ _ _ _ c.in_ok-put.ensures.taken.2.told };
       stalled = c.in_ok-put.ensures.sink.stalled ∙ c.loop-word.invariant.stalled;
-      hears = hears_on _ _ _ _ _ _ _ _ c.in_ok-put.ensures.taken.2.told;
       zero = c.in_ok-put.ensures.zero ∙ c.loop-word.invariant.zero;
       form = c.outcome-outcome.ensures.form ∙ c.loop-word.invariant.form;
       took = takes_next _ _ _ _ _ _ _ _ _ _ _ _ _ _ _ _ _ _ _ _ _ _ _ _ _ _ _

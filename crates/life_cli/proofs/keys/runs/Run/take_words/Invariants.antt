@@ -1,13 +1,11 @@
-use Rattle.std.proofs.Common.{◌≡◌, true, drop, map, Ok}
-use Rattle.life_cli.specs.KeyRuns.{TakesFiles, Word}
+use Rattle.std.proofs.Common.{◌≡◌, drop, map, Ok}
+use Rattle.life_cli.specs.KeyRuns.{CanTake, TakesFiles, Word}
 use Rattle.life_cli.proofs.keys.runs.Run.take_words.Given as goal
 
 abbrev pub invariant-loop-word : goal.invariant-loop-word
 invariant-loop-word g l = record {
-  callable : goal.F-IsAlwaysCallable g l.self.files.opener;
-  works : g.W.Sink.failures l.out ≡ 0;
+  can : CanTake (goal.F-IsAlwaysCallable g) l.self (g.W.Sink.failures l.out) (g.E.Sink.failures l.err);
   stalled : g.W.Sink.stalled l.out ≡ g.W.Sink.stalled l.initial.out;
-  hears : l.self.outputs.tells ≡ true → g.E.Sink.failures l.err ≡ 0;
   zero : l.self.outputs.zero ≡ l.initial.self.outputs.zero;
   form : l.self.files.form ≡ l.initial.self.files.form;
   took : TakesFiles (goal.F-step g) g.R.Read.remaining g.W.Sink.contents g.E.Sink.contents g.E.Sink.failures g.E.Sink.stalled l.initial.self.files.form

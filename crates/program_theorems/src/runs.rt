@@ -1,0 +1,14 @@
+//! A run of the program.
+
+use life_cli::Seeds;
+use life_cli::plans::Job;
+
+/// A run of a job: its files, and the outputs that it writes to and tells on.
+pub struct Run<A, B, O, E> {
+    pub seeds: Seeds,
+    pub job: Job,
+    pub first: A,
+    pub second: Option<B>,
+    pub out: O,
+    pub err: E,
+}
