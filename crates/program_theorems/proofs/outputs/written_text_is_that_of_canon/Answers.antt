@@ -16,5 +16,6 @@ returns g c =
     map_ok c.canon.result
     (λ other k. appended _ _ held text done.written f
     ∙ ap (λ (t : List ℕ). Some (held ++ t))
-    (one_text c.layers_agree.ensures.unique c.args.file.now text other.items (written_canonical c.args.run.now.job _ _ _ text c.args.file.now done.answer e is) k))
+    (one_text c.layers_agree.ensures.unique c.args.file.now text other.items
+    (written_canonical c.args.run.now.job _ _ _ text c.args.file.now done.answer e is) k))
     c.canon.ensures.text

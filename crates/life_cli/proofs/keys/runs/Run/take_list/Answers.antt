@@ -21,7 +21,11 @@ loop-rest-init g c = record {
 
 pub loop-rest-preserved-in-Continue-1 : goal.loop-rest-preserved-in-Continue-1
 loop-rest-preserved-in-Continue-1 g c = record {
-  can = record { callable = c.listed_outcome-outcome.ensures.callable; works = c.in_ok-put.ensures.sink.works; hears = hears_on _ _ _ _ _ _ _ _ c.in_ok-put.ensures.taken.2.told };
+  can = record {
+    callable = c.listed_outcome-outcome.ensures.callable;
+    works = c.in_ok-put.ensures.sink.works;
+    hears = hears_on _ _ _ _ _ _ _ _ c.in_ok-put.ensures.taken.2.told;
+  };
   stalled = c.in_ok-put.ensures.sink.stalled ∙ c.loop-rest.invariant.stalled;
   zero = c.in_ok-put.ensures.zero ∙ c.loop-rest.invariant.zero;
   form = c.listed_outcome-outcome.ensures.form ∙ c.loop-rest.invariant.form;

@@ -24,7 +24,11 @@ pub loop-word-preserved : goal.loop-word-preserved
 loop-word-preserved g c =
     let comes = c.outcome-outcome.ensures.comes in
     record {
-      can = record { callable = c.outcome-outcome.ensures.callable; works = c.in_ok-put.ensures.sink.works; hears = hears_on _ _ _ _ _ _ _ _ c.in_ok-put.ensures.taken.2.told };
+      can = record {
+        callable = c.outcome-outcome.ensures.callable;
+        works = c.in_ok-put.ensures.sink.works;
+        hears = hears_on _ _ _ _ _ _ _ _ c.in_ok-put.ensures.taken.2.told;
+      };
       stalled = c.in_ok-put.ensures.sink.stalled ∙ c.loop-word.invariant.stalled;
       zero = c.in_ok-put.ensures.zero ∙ c.loop-word.invariant.zero;
       form = c.outcome-outcome.ensures.form ∙ c.loop-word.invariant.form;
