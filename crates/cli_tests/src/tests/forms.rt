@@ -34,7 +34,7 @@ const TURNED_STATES: &[u8] =
     b"[M2] (canonical 1)\n#R WireWorld\n#G 7\n1 0 1 2 0\n1 0 255 0 25\n2 1 2 0 0\n3 0 0 0 3\n";
 
 /// The texts in a form, where those of a glider in the corners of the plane and of the states are these.
-fn assert_form(rt: &impl Abort, alloc: Global, form: Form, glider: &[u8], states: &[u8]) {
+fn assert_form<'a>(rt: &impl Abort, alloc: Global, form: Form, glider: &'a [u8], states: &'a [u8]) {
     let rows = [
         (NORTH_WEST, glider),
         (SOUTH_EAST, glider),
