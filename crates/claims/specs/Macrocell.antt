@@ -23,7 +23,7 @@ pub data Node : Type 0 where
   leaf : (rows : List (List ℕ)) → Node
   quad : (level nw ne sw se : ℕ) → Node
 
--- a square of level k is 2 ^ k cells wide
+-- the level of a square, which is 2 ^ level cells wide; that of a line of eight rows is 3
 abbrev pub level_of : Node → ℕ
 level_of (leaf rows) = 3
 level_of (quad level nw ne sw se) = level

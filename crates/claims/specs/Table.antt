@@ -229,11 +229,12 @@ reflected v r = map (λ i. slice_index v ((length v - i + r) % length v)) (range
 abbrev pub turns : (List ℕ → ℕ → List ℕ) → List ℕ → ℕ → ℕ → List (List ℕ)
 turns by v count step = map (λ k. by v (k * step)) (range_with_len 0 count)
 
--- every order of a list
+-- an item put at each place of a list
 abbrev pub insertions : (item : ℕ) → (items : List ℕ) → List (List ℕ)
 insertions x [] = (x ∷ []) ∷ []
 insertions x (y ∷ ys) = (x ∷ y ∷ ys) ∷ map (λ zs. y ∷ zs) (insertions x ys)
 
+-- every order of a list
 abbrev pub orders : List ℕ → List (List ℕ)
 orders [] = [] ∷ []
 orders (x ∷ xs) = flat_map (insertions x) (orders xs)

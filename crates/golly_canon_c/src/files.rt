@@ -5,7 +5,7 @@ ghost use Rattle.golly_canon_c.specs.Words.{IsCanonicalText, IsRleText, RefusesW
 
 use crate::told::{tell, tell_compared};
 use library_calls::{
-    Room, canon, canon_form, key, same, same_form, show, step, step_by_table, to_rle,
+    Options, canon, canon_form, key, same, same_form, show, step, step_by_table, to_rle,
 };
 use life_base::MAX_LEVEL;
 use std::alloc::Global;
@@ -24,7 +24,11 @@ pub extern "C" fn golly_canon_canon(
     ensures { Answers (IsCanonicalText bytes.now) (RefusesWithin limit bytes.now) out.old out.new
         (told result needed.new line.new) }
 {
-    tell(canon(alloc, bytes, Room { limit, seed }, out), needed, line)
+    tell(
+        canon(alloc, bytes, Options { limit, seed }, out),
+        needed,
+        line,
+    )
 }
 
 /// The text in extended RLE of the pattern of a file of either format.
@@ -41,7 +45,7 @@ pub extern "C" fn golly_canon_to_rle(
     ensures { Answers (IsRleText bytes.now) (RefusesRleWithin limit bytes.now) out.old out.new
         (told result needed.new line.new) }
 {
-    let answer = to_rle(alloc, bytes, Room { limit, seed }, out);
+    let answer = to_rle(alloc, bytes, Options { limit, seed }, out);
     tell(answer, needed, line)
 }
 
@@ -59,7 +63,11 @@ pub extern "C" fn golly_canon_show(
     ensures { Answers (IsShown MAX_LEVEL bytes.now) (RefusesWithin limit bytes.now) out.old
         out.new (told result needed.new line.new) }
 {
-    tell(show(alloc, bytes, Room { limit, seed }, out), needed, line)
+    tell(
+        show(alloc, bytes, Options { limit, seed }, out),
+        needed,
+        line,
+    )
 }
 
 /// The canonical text of the next generation of the pattern of a file, under its B/S rule.
@@ -76,7 +84,11 @@ pub extern "C" fn golly_canon_step(
     ensures { Answers (IsStepped bytes.now) (RefusesStepWithin limit bytes.now) out.old out.new
         (told result needed.new line.new) }
 {
-    tell(step(alloc, bytes, Room { limit, seed }, out), needed, line)
+    tell(
+        step(alloc, bytes, Options { limit, seed }, out),
+        needed,
+        line,
+    )
 }
 
 /// The canonical text of the next generation of the pattern of a file, by a rule table, whose file is `table`. A refusal of the table itself
@@ -96,7 +108,7 @@ pub extern "C" fn golly_canon_step_by_table(
     ensures { StepsByTable limit bytes.now table.now in_table.new out.old out.new
         (told result needed.new line.new) }
 {
-    let (answer, of_table) = step_by_table(alloc, bytes, table, Room { limit, seed }, out);
+    let (answer, of_table) = step_by_table(alloc, bytes, table, Options { limit, seed }, out);
     *in_table = of_table;
     tell(answer, needed, line)
 }
@@ -116,7 +128,7 @@ pub extern "C" fn golly_canon_canon_form(
     ensures { AnswersInForm IsTextInForm form limit bytes.now out.old out.new
         (told result needed.new line.new) }
 {
-    let answer = canon_form(alloc, bytes, form, Room { limit, seed }, out);
+    let answer = canon_form(alloc, bytes, form, Options { limit, seed }, out);
     tell(answer, needed, line)
 }
 
@@ -135,7 +147,7 @@ pub extern "C" fn golly_canon_key(
     ensures { AnswersInForm IsKeyInForm form limit bytes.now out.old out.new
         (told result needed.new line.new) }
 {
-    let answer = key(alloc, bytes, form, Room { limit, seed }, out);
+    let answer = key(alloc, bytes, form, Options { limit, seed }, out);
     tell(answer, needed, line)
 }
 
@@ -156,7 +168,7 @@ pub extern "C" fn golly_canon_same_form(
         (λ form. ComparesInForm form limit first.now second.now
         (compared result is_same.new line.new)) }
 {
-    let answer = same_form(alloc, first, second, form, Room { limit, seed });
+    let answer = same_form(alloc, first, second, form, Options { limit, seed });
     tell_compared(answer, is_same, line)
 }
 
@@ -173,6 +185,6 @@ pub extern "C" fn golly_canon_same(
 ) -> u32
     ensures { ComparesWithin limit first.now second.now (compared result is_same.new line.new) }
 {
-    let answer = same(alloc, first, second, Room { limit, seed });
+    let answer = same(alloc, first, second, Options { limit, seed });
     tell_compared(answer, is_same, line)
 }

@@ -4,7 +4,7 @@ ghost use Rattle.std.specs.Prelude.{◌≡◌, None, IfSome, MatchOption};
 ghost use Rattle.golly_canon_c.specs.Words.{text_in, form_numbered, session_of, Opens, Feeds, Finishes, IsSpent, TellsPiece, TellsNothing, TellsEnd, told, FormValue};
 
 use crate::told::tell;
-use library_calls::{Form, Room, Stream, close, feed, finish, open, open_canon_form};
+use library_calls::{Form, Options, Stream, close, feed, finish, open, open_canon_form};
 use std::alloc::Global;
 
 /// Opens a stream whose end gives the canonical text, and closes it first where it is open.
@@ -17,7 +17,7 @@ pub extern "C" fn golly_canon_open_canon(
 ) -> u32
     ensures { Opens FormValue.Canonical limit result (session_of stream.new) }
 {
-    open(alloc, stream, Form::Canonical, Room { limit, seed })
+    open(alloc, stream, Form::Canonical, Options { limit, seed })
 }
 
 /// Opens a stream whose end gives the canonical text in the form with this number, and closes it first where it is open.
@@ -32,7 +32,7 @@ pub extern "C" fn golly_canon_open_canon_form(
     ensures { MatchOption (form_numbered form) ((result ≡ 65) × (session_of stream.new ≡ None))
         (λ form. Opens (text_in form) limit result (session_of stream.new)) }
 {
-    open_canon_form(alloc, stream, form, Room { limit, seed })
+    open_canon_form(alloc, stream, form, Options { limit, seed })
 }
 
 /// Opens a stream whose end gives the pattern in extended RLE, and closes it first where it is open.
@@ -45,7 +45,7 @@ pub extern "C" fn golly_canon_open_to_rle(
 ) -> u32
     ensures { Opens FormValue.Rle limit result (session_of stream.new) }
 {
-    open(alloc, stream, Form::Rle, Room { limit, seed })
+    open(alloc, stream, Form::Rle, Options { limit, seed })
 }
 
 /// Opens a stream whose end gives five lines on the pattern, and closes it first where it is open.
@@ -58,7 +58,7 @@ pub extern "C" fn golly_canon_open_show(
 ) -> u32
     ensures { Opens FormValue.Lines limit result (session_of stream.new) }
 {
-    open(alloc, stream, Form::Lines, Room { limit, seed })
+    open(alloc, stream, Form::Lines, Options { limit, seed })
 }
 
 /// Opens a stream whose end gives the canonical text of the next generation under the file's B/S rule, and closes it first where it is open.
@@ -71,7 +71,7 @@ pub extern "C" fn golly_canon_open_step(
 ) -> u32
     ensures { Opens FormValue.Next limit result (session_of stream.new) }
 {
-    open(alloc, stream, Form::Next, Room { limit, seed })
+    open(alloc, stream, Form::Next, Options { limit, seed })
 }
 
 /// Takes the next piece of the file. The fault of a line that it tells is that of the whole file, whatever bytes follow (`faults_stay` of

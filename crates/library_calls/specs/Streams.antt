@@ -59,12 +59,12 @@ pub record StaysEnded (old new : Option Session) : Type 0 where
   pub text : (text : List ℕ) → IsOpen (HasText text) old → IsOpen (HasText text) new
   pub fault : (fault : Fault) → IsOpen (HasFault fault) old → IsOpen (HasFault fault) new
 
--- what a piece makes of the session of a stream
+-- what a piece makes of the session of a stream: one that was fed so far takes the piece too, and one that has ended stays as it is
 pub record Feeds (piece : List ℕ) (old new : Option Session) : Type 0 where
   pub takes : (form : Form) (limit : ℕ) (bytes : List ℕ) → IsOpen (IsFed form limit bytes) old → IsOpen (Takes form limit (bytes ++ piece)) new
   pub stays : StaysEnded old new
 
--- what the end of the file makes of it
+-- what the end of the file makes of it: one that was fed so far ends with the text or the fault of all its bytes
 pub record Finishes (old new : Option Session) : Type 0 where
   pub ends : (form : Form) (limit : ℕ) (bytes : List ℕ) → IsOpen (IsFed form limit bytes) old → IsOpen (Ends form limit bytes) new
   pub stays : StaysEnded old new

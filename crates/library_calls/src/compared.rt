@@ -4,8 +4,8 @@ ghost use Rattle.std.specs.Prelude.{◌≡◌, if◌then◌else◌};
 ghost use Rattle.library_calls.specs.Words.{kind_number, ComparesWithin, compared};
 
 use crate::comparison::compare;
+use crate::options::Options;
 use crate::pattern_form::PatternForm;
-use crate::room::Room;
 use life_base::Fault;
 use std::alloc::Global;
 
@@ -45,8 +45,8 @@ impl Compared {
 }
 
 /// Whether two files, each of either format, are one pattern.
-pub fn same(alloc: Global, first: &[u8], second: &[u8], room: Room) -> Compared
-    ensures { ComparesWithin room.limit first.now second.now result }
+pub fn same(alloc: Global, first: &[u8], second: &[u8], options: Options) -> Compared
+    ensures { ComparesWithin options.limit first.now second.now result }
 {
-    compare(alloc, first, second, PatternForm::Placed, room)
+    compare(alloc, first, second, PatternForm::Placed, options)
 }

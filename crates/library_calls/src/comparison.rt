@@ -5,8 +5,8 @@ ghost use Rattle.library_calls.specs.Words.{fault_of, MAX_LEVEL, Full, held, Acc
 
 use crate::compared::Compared;
 use crate::in_form::{NO_FORM, form_of};
+use crate::options::Options;
 use crate::pattern_form::PatternForm;
-use crate::room::Room;
 use crate::session::store_of;
 use life_base::Fault;
 use life_canon::laws::{
@@ -82,11 +82,11 @@ pub(crate) fn compare(
     first: &[u8],
     second: &[u8],
     form: PatternForm,
-    room: Room,
+    options: Options,
 ) -> Compared
-    ensures { ComparesInForm form room.limit first.now second.now result }
+    ensures { ComparesInForm form options.limit first.now second.now result }
 {
-    let mut store = store_of(alloc, room);
+    let mut store = store_of(alloc, options);
     match are_one(alloc, &mut store, first, second, form) {
         Ok(answer) => Compared::of(answer),
         Err(fault) => Compared::refused(&fault),
@@ -94,9 +94,15 @@ pub(crate) fn compare(
 }
 
 /// Whether two files, each of either format, are one pattern in the form with this number.
-pub fn same_form(alloc: Global, first: &[u8], second: &[u8], form: u32, room: Room) -> Compared
+pub fn same_form(
+    alloc: Global,
+    first: &[u8],
+    second: &[u8],
+    form: u32,
+    options: Options,
+) -> Compared
     ensures { MatchOption (form_numbered form) (ComparesInNone result)
-        (λ form. ComparesInForm form room.limit first.now second.now result) }
+        (λ form. ComparesInForm form options.limit first.now second.now result) }
 {
     let Some(form) = form_of(form) else {
         return Compared {
@@ -105,5 +111,5 @@ pub fn same_form(alloc: Global, first: &[u8], second: &[u8], form: u32, room: Ro
             line: 0,
         };
     };
-    compare(alloc, first, second, form, room)
+    compare(alloc, first, second, form, options)
 }

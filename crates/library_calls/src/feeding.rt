@@ -3,7 +3,7 @@
 ghost use Rattle.std.specs.Prelude.{◌≡◌, ◌++◌, ℕ, [], IfOk, IfErr, OnOk};
 ghost use Rattle.library_calls.specs.Words.{FaultValue, RefusesFront, room_of, IsTextOf, RefusesTextOf, RefusesPiece};
 
-use crate::room::Room;
+use crate::options::Options;
 use crate::session::{Form, store_of};
 use crate::texts::text_of_read;
 use life_base::{Fault, MAX_LEVEL};
@@ -37,13 +37,13 @@ impl Model for Feeding {
 }
 
 impl Feeding {
-    /// A file of which no byte came, and the text that its end gives. Its store has this room.
-    pub(crate) fn new(alloc: Global, form: Form, room: Room) -> Feeding
-        ensures { result ≡ record { form = form; room = room_of room.limit; bytes = [] } }
+    /// A file of which no byte came, and the text that its end gives. Its store has this limit.
+    pub(crate) fn new(alloc: Global, form: Form, options: Options) -> Feeding
+        ensures { result ≡ record { form = form; room = room_of options.limit; bytes = [] } }
     {
         Feeding {
             reader: Reader::new(alloc),
-            store: store_of(alloc, room),
+            store: store_of(alloc, options),
             form,
         }
     }

@@ -3,8 +3,8 @@
 ghost use Rattle.std.specs.Prelude.{◌≡◌};
 ghost use Rattle.library_calls.specs.Words.{AnswersInForm, told, text_in, form_numbered, IsTextInForm, IsKeyInForm};
 
+use crate::options::Options;
 use crate::pattern_form::PatternForm;
-use crate::room::Room;
 use crate::session::Form;
 use crate::texts::{answer, text_of_file};
 use crate::told::{Told, give, refuse};
@@ -49,23 +49,23 @@ fn no_form() -> Told
 }
 
 /// The canonical text of the pattern of a file of either format, in the form with this number.
-pub fn canon_form(alloc: Global, bytes: &[u8], form: u32, room: Room, out: &mut [u8]) -> Told
-    ensures { AnswersInForm IsTextInForm form room.limit bytes.now out.old out.new result }
+pub fn canon_form(alloc: Global, bytes: &[u8], form: u32, options: Options, out: &mut [u8]) -> Told
+    ensures { AnswersInForm IsTextInForm form options.limit bytes.now out.old out.new result }
 {
     let Some(form) = form_of(form) else {
         return no_form();
     };
-    answer(alloc, bytes, text_in(form), room, out)
+    answer(alloc, bytes, text_in(form), options, out)
 }
 
 /// The key of the pattern of a file of either format, in the form with this number: the SHA-256 of the text that `canon_form` gives, 32 bytes.
-pub fn key(alloc: Global, bytes: &[u8], form: u32, room: Room, out: &mut [u8]) -> Told
-    ensures { AnswersInForm IsKeyInForm form room.limit bytes.now out.old out.new result }
+pub fn key(alloc: Global, bytes: &[u8], form: u32, options: Options, out: &mut [u8]) -> Told
+    ensures { AnswersInForm IsKeyInForm form options.limit bytes.now out.old out.new result }
 {
     let Some(form) = form_of(form) else {
         return no_form();
     };
-    match text_of_file(alloc, bytes, text_in(form), room) {
+    match text_of_file(alloc, bytes, text_in(form), options) {
         Ok(text) => give(&Sha256::digest(text.as_slice()), out),
         Err(fault) => refuse(&fault),
     }

@@ -4,7 +4,7 @@ ghost use Rattle.std.specs.Prelude.{Some};
 ghost use Rattle.library_calls.specs.Words.{IsFresh, Feeds, Finishes};
 
 use crate::feeding::Feeding;
-use crate::room::Room;
+use crate::options::Options;
 use crate::seeds::seed_of_squares;
 use life_base::Fault;
 use life_quad::Shared;
@@ -13,16 +13,16 @@ use std::alloc::Global;
 /// How many different squares a store holds at most, whatever limit is asked for.
 const GREATEST_LIMIT: u64 = 1 << 62;
 
-/// An empty store with this room, whose limit counts as 2^62 where it is more.
-pub(crate) fn store_of(alloc: Global, room: Room) -> Shared
-    ensures { IsFresh room.limit result }
+/// An empty store with this limit, which counts as 2^62 where it is more.
+pub(crate) fn store_of(alloc: Global, options: Options) -> Shared
+    ensures { IsFresh options.limit result }
 {
-    let most = if room.limit < GREATEST_LIMIT {
-        room.limit
+    let most = if options.limit < GREATEST_LIMIT {
+        options.limit
     } else {
         GREATEST_LIMIT
     };
-    Shared::new(alloc, seed_of_squares(room.seed), most)
+    Shared::new(alloc, seed_of_squares(options.seed), most)
 }
 
 /// The text that a stream gives at its end.

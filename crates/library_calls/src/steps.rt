@@ -2,7 +2,7 @@
 
 ghost use Rattle.library_calls.specs.Words.{Answers, IsStepped, IsSteppedBy, RefusesStepByWithin, RefusesStepWithin, StepsByTable};
 
-use crate::room::Room;
+use crate::options::Options;
 use crate::seeds::seed_of_names;
 use crate::session::{Form, store_of};
 use crate::texts::answer;
@@ -12,19 +12,19 @@ use life_table::{Table, read_table};
 use std::alloc::Global;
 
 /// The canonical text of the next generation of the pattern of a file, under its B/S rule.
-pub fn step(alloc: Global, bytes: &[u8], room: Room, out: &mut [u8]) -> Told
-    ensures { Answers (IsStepped bytes.now) (RefusesStepWithin room.limit bytes.now) out.old out.new
+pub fn step(alloc: Global, bytes: &[u8], options: Options, out: &mut [u8]) -> Told
+    ensures { Answers (IsStepped bytes.now) (RefusesStepWithin options.limit bytes.now) out.old out.new
         result }
 {
-    answer(alloc, bytes, Form::Next, room, out)
+    answer(alloc, bytes, Form::Next, options, out)
 }
 
 /// The same by a table that is read.
-fn step_by(alloc: Global, bytes: &[u8], table: &Table, room: Room, out: &mut [u8]) -> Told
+fn step_by(alloc: Global, bytes: &[u8], table: &Table, options: Options, out: &mut [u8]) -> Told
     ensures { Answers (IsSteppedBy table.now bytes.now)
-        (RefusesStepByWithin table.now room.limit bytes.now) out.old out.new result }
+        (RefusesStepByWithin table.now options.limit bytes.now) out.old out.new result }
 {
-    let mut store = store_of(alloc, room);
+    let mut store = store_of(alloc, options);
     let found = step_table(alloc, &mut store, bytes, table);
     tell(found, out)
 }
@@ -35,13 +35,13 @@ pub fn step_by_table(
     alloc: Global,
     bytes: &[u8],
     table: &[u8],
-    room: Room,
+    options: Options,
     out: &mut [u8],
 ) -> (Told, u32)
-    ensures { StepsByTable room.limit bytes.now table.now result.1 out.old out.new result.0 }
+    ensures { StepsByTable options.limit bytes.now table.now result.1 out.old out.new result.0 }
 {
-    match read_table(alloc, seed_of_names(room.seed), table) {
-        Ok(table) => (step_by(alloc, bytes, &table, room, out), 0),
+    match read_table(alloc, seed_of_names(options.seed), table) {
+        Ok(table) => (step_by(alloc, bytes, &table, options, out), 0),
         Err(fault) => (refuse(&fault), 1),
     }
 }

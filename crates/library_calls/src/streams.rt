@@ -5,7 +5,7 @@ ghost use Rattle.library_calls.specs.Words.{text_in, form_numbered, session_of, 
 
 use crate::feeding::Feeding;
 use crate::in_form::{NO_FORM, form_of, text_in};
-use crate::room::Room;
+use crate::options::Options;
 use crate::session::{Form, Session, ended, fed};
 use crate::stream::{Stream, put, take};
 use crate::told::{Told, give, refuse};
@@ -14,11 +14,11 @@ use std::alloc::Global;
 use std::mem;
 
 /// Opens a stream whose end gives a text of this form, and closes it first where it is open. The answer is the status.
-pub fn open(alloc: Global, stream: &mut Stream, form: Form, room: Room) -> u32
-    ensures { Opens form room.limit result (session_of stream.new) }
+pub fn open(alloc: Global, stream: &mut Stream, form: Form, options: Options) -> u32
+    ensures { Opens form options.limit result (session_of stream.new) }
 {
     close(alloc, stream);
-    let feeding = Feeding::new(alloc, form, room);
+    let feeding = Feeding::new(alloc, form, options);
     match Box::new(alloc, Session::Reading(feeding)) {
         Ok(session) => {
             put(stream, session);
@@ -30,13 +30,13 @@ pub fn open(alloc: Global, stream: &mut Stream, form: Form, room: Room) -> u32
 
 /// Opens a stream whose end gives the canonical text in the form with this number, and closes it first where it is open. The
 /// answer is the status.
-pub fn open_canon_form(alloc: Global, stream: &mut Stream, form: u32, room: Room) -> u32
+pub fn open_canon_form(alloc: Global, stream: &mut Stream, form: u32, options: Options) -> u32
     ensures { MatchOption (form_numbered form) ((result ≡ 65) × (session_of stream.new ≡ None))
-        (λ form. Opens (text_in form) room.limit result (session_of stream.new)) }
+        (λ form. Opens (text_in form) options.limit result (session_of stream.new)) }
 {
     close(alloc, stream);
     match form_of(form) {
-        Some(form) => open(alloc, stream, text_in(form), room),
+        Some(form) => open(alloc, stream, text_in(form), options),
         None => NO_FORM,
     }
 }

@@ -3,7 +3,7 @@
 ghost use Rattle.std.specs.Prelude.{IfOk, IfErr};
 ghost use Rattle.library_calls.specs.Words.{Answers, IsCanonicalText, IsRleText, RefusesWithin, RefusesRleWithin, IsTextOf, IsTextOfRead, RefusesTextOf, RefusesTextOfRead, IsOfFile, IsShown};
 
-use crate::room::Room;
+use crate::options::Options;
 use crate::session::{Form, store_of};
 use crate::told::{Told, tell};
 use life_base::{Fault, MAX_LEVEL};
@@ -50,44 +50,50 @@ pub(crate) fn text_of_file(
     alloc: Global,
     bytes: &[u8],
     form: Form,
-    room: Room,
+    options: Options,
 ) -> Result<Vec<u8>, Fault>
     ensures text { IfOk result (λ text. IsTextOf form bytes.now text.items) }
-    ensures fault { IfErr result (RefusesTextOf form room.limit bytes.now) }
+    ensures fault { IfErr result (RefusesTextOf form options.limit bytes.now) }
 {
-    let mut store = store_of(alloc, room);
+    let mut store = store_of(alloc, options);
     let pattern = read(alloc, &mut store, bytes)?;
     text_of_read(alloc, &mut store, pattern, form)
 }
 
 /// Gives that text, or tells why there is none.
-pub(crate) fn answer(alloc: Global, bytes: &[u8], form: Form, room: Room, out: &mut [u8]) -> Told
-    ensures { Answers (IsTextOf form bytes.now) (RefusesTextOf form room.limit bytes.now) out.old
+pub(crate) fn answer(
+    alloc: Global,
+    bytes: &[u8],
+    form: Form,
+    options: Options,
+    out: &mut [u8],
+) -> Told
+    ensures { Answers (IsTextOf form bytes.now) (RefusesTextOf form options.limit bytes.now) out.old
         out.new result }
 {
-    tell(text_of_file(alloc, bytes, form, room), out)
+    tell(text_of_file(alloc, bytes, form, options), out)
 }
 
 /// The canonical text of the pattern of a file of either format.
-pub fn canon(alloc: Global, bytes: &[u8], room: Room, out: &mut [u8]) -> Told
-    ensures { Answers (IsCanonicalText bytes.now) (RefusesWithin room.limit bytes.now) out.old
+pub fn canon(alloc: Global, bytes: &[u8], options: Options, out: &mut [u8]) -> Told
+    ensures { Answers (IsCanonicalText bytes.now) (RefusesWithin options.limit bytes.now) out.old
         out.new result }
 {
-    answer(alloc, bytes, Form::Canonical, room, out)
+    answer(alloc, bytes, Form::Canonical, options, out)
 }
 
 /// The text in extended RLE of the pattern of a file of either format.
-pub fn to_rle(alloc: Global, bytes: &[u8], room: Room, out: &mut [u8]) -> Told
-    ensures { Answers (IsRleText bytes.now) (RefusesRleWithin room.limit bytes.now) out.old out.new
+pub fn to_rle(alloc: Global, bytes: &[u8], options: Options, out: &mut [u8]) -> Told
+    ensures { Answers (IsRleText bytes.now) (RefusesRleWithin options.limit bytes.now) out.old out.new
         result }
 {
-    answer(alloc, bytes, Form::Rle, room, out)
+    answer(alloc, bytes, Form::Rle, options, out)
 }
 
 /// Five lines on the pattern of a file of either format.
-pub fn show(alloc: Global, bytes: &[u8], room: Room, out: &mut [u8]) -> Told
-    ensures { Answers (IsShown MAX_LEVEL bytes.now) (RefusesWithin room.limit bytes.now) out.old
+pub fn show(alloc: Global, bytes: &[u8], options: Options, out: &mut [u8]) -> Told
+    ensures { Answers (IsShown MAX_LEVEL bytes.now) (RefusesWithin options.limit bytes.now) out.old
         out.new result }
 {
-    answer(alloc, bytes, Form::Lines, room, out)
+    answer(alloc, bytes, Form::Lines, options, out)
 }

@@ -3,7 +3,7 @@
 ghost use Rattle.std.specs.Prelude.{◌≡◌, ◌⊎◌, Ok, Err, IfOk};
 ghost use Rattle.library_theorems.specs.Words.{Fault, IsSteppedBy, IsUnsteppedBy, fault_of, IsStepped, IsUnstepped, Table, table_of, Answers, Gives, Tells, IsUnread};
 
-use library_calls::{Room, Told, step, step_by_table};
+use library_calls::{Options, Told, step, step_by_table};
 use life_base::{Fault, Kind};
 use life_canon::laws::{files_are_on_plane, files_are_unique};
 use life_quad::Shared;
@@ -13,12 +13,12 @@ use table_laws::laws::{tables_decide, tables_read, tables_refuse};
 
 /// A text of the next generation of a file under its B/S rule stands at the front of the caller's memory, or its length is
 /// told where it doesn't fit; or the number and the line of the file's fault are told, or the first reason why it has none.
-pub fn next_is_told(alloc: Global, file: &[u8], room: Room, out: &mut [u8]) -> Told
+pub fn next_is_told(alloc: Global, file: &[u8], options: Options, out: &mut [u8]) -> Told
     ensures { Answers (IsStepped file.now)
         (λ fault. IsUnread file.now fault ⊎ IsUnstepped file.now fault) out.old out.new result }
 {
     files_are_on_plane();
-    step(alloc, file, room, out)
+    step(alloc, file, options, out)
 }
 
 /// The same by a rule table. Where 0 is told beside it, the line of `Ambiguous` is one of the table's file. Where 1 is told,
@@ -27,7 +27,7 @@ pub fn next_by_table_is_told(
     alloc: Global,
     file: &[u8],
     rules: &[u8],
-    room: Room,
+    options: Options,
     out: &mut [u8],
 ) -> (Told, u32)
     ensures { ((result.1 ≡ 0) × ((table : Table) × (table_of rules.now ≡ Ok table)
@@ -42,7 +42,7 @@ pub fn next_by_table_is_told(
     tables_read();
     tables_refuse();
     tables_decide();
-    step_by_table(alloc, file, rules, room, out)
+    step_by_table(alloc, file, rules, options, out)
 }
 
 /// The text of the next generation that was put into the caller's memory, under the B/S rule or by a rule table, is its own
@@ -51,7 +51,7 @@ pub fn told_next_texts_are_fixed(
     alloc: Global,
     file: &[u8],
     rules: &[u8],
-    room: Room,
+    options: Options,
     out: &mut [u8],
     out_by_table: &mut [u8],
     store: &mut Shared,
@@ -64,7 +64,7 @@ pub fn told_next_texts_are_fixed(
         → IfOk result.2 (λ again. again.items ≡ text.now) }
 {
     files_are_unique();
-    let by_rule = step(alloc, file, room, out);
-    let (by_table, _) = step_by_table(alloc, file, rules, room, out_by_table);
+    let by_rule = step(alloc, file, options, out);
+    let (by_table, _) = step_by_table(alloc, file, rules, options, out_by_table);
     (by_rule, by_table, life_canon::canon(alloc, store, text))
 }

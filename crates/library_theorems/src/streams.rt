@@ -3,7 +3,7 @@
 ghost use Rattle.std.specs.Prelude.{◌≡◌, ◌⊎◌, ℕ, List, [], Ok, IfOk};
 ghost use Rattle.library_theorems.specs.Words.{kind_number, node_lines, IsCanonicalText, pattern_of, IsStepped, IsUnstepped, Pattern, IsShown, IsTextOf, session_of, IsOpen, IsFed, Answers, Gives, FormValue, IsRleText, AreFiveLines, IsUnread, IsUnreadWithin, IsUnwritten, IsEndFault, joined};
 
-use library_calls::{Form, Room, Stream, Told, close, feed, finish, open};
+use library_calls::{Form, Options, Stream, Told, close, feed, finish, open};
 use life_base::{Fault, Kind};
 use life_canon::laws::{
     canonical_is_least, faults_stay, files_are_on_plane, files_are_unique, texts_are_files,
@@ -35,19 +35,19 @@ pub fn text_of_stream(
     stream: &mut Stream,
     pieces: &[Vec<u8>],
     form: Form,
-    room: Room,
+    options: Options,
     out: &mut [u8],
 ) -> (u32, Told)
     ensures opened { (result.0 ≡ 0) ⊎ (result.0 ≡ kind_number Kind.Memory) }
     ensures canonical { form ≡ FormValue.Canonical → result.0 ≡ 0
         → Answers (IsCanonicalText (joined pieces.now))
-        (IsUnreadWithin room.limit (joined pieces.now)) out.old out.new result.1 }
+        (IsUnreadWithin options.limit (joined pieces.now)) out.old out.new result.1 }
     ensures rle { form ≡ FormValue.Rle → result.0 ≡ 0
-        → Answers (IsRleText (joined pieces.now)) (IsUnwritten room.limit (joined pieces.now))
+        → Answers (IsRleText (joined pieces.now)) (IsUnwritten options.limit (joined pieces.now))
         out.old out.new result.1 }
     ensures lines { form ≡ FormValue.Lines → result.0 ≡ 0
         → Answers (AreFiveLines (joined pieces.now))
-        (IsUnreadWithin room.limit (joined pieces.now)) out.old out.new result.1 }
+        (IsUnreadWithin options.limit (joined pieces.now)) out.old out.new result.1 }
     ensures next { form ≡ FormValue.Next → result.0 ≡ 0
         → Answers (IsStepped (joined pieces.now))
         (λ fault. IsUnread (joined pieces.now) fault ⊎ IsUnstepped (joined pieces.now) fault)
@@ -58,7 +58,7 @@ pub fn text_of_stream(
     files_are_unique();
     texts_are_files();
     texts_keep_patterns();
-    let opened = open(alloc, stream, form, room);
+    let opened = open(alloc, stream, form, options);
     (opened, told_of_pieces(alloc, stream, pieces, out))
 }
 
@@ -72,7 +72,7 @@ pub fn text_of_stream_beside_canon(
     stream: &mut Stream,
     pieces: &[Vec<u8>],
     form: Form,
-    room: Room,
+    options: Options,
     out: &mut [u8],
 ) -> (u32, Told, Result<Vec<u8>, Fault>)
     ensures text { form ≡ FormValue.Canonical → bytes.now ≡ joined pieces.now → result.0 ≡ 0
@@ -90,7 +90,7 @@ pub fn text_of_stream_beside_canon(
     files_are_on_plane();
     files_are_unique();
     texts_are_files();
-    let opened = open(alloc, stream, form, room);
+    let opened = open(alloc, stream, form, options);
     let text = life_canon::canon(alloc, store, bytes);
     (opened, told_of_pieces(alloc, stream, pieces, out), text)
 }

@@ -3,7 +3,7 @@
 ghost use Rattle.std.specs.Prelude.{◌≡◌, ◌⊎◌, ℕ, List, Ok, IfOk};
 ghost use Rattle.library_theorems.specs.Words.{node_lines, IsCanonicalText, pattern_of, Pattern, IsShown, Answers, Gives, IsRleText, AreFiveLines, IsUnreadWithin, IsUnwritten};
 
-use library_calls::{Room, Told, canon, show, to_rle};
+use library_calls::{Options, Told, canon, show, to_rle};
 use life_base::Fault;
 use life_canon::laws::{
     canonical_is_least, files_are_on_plane, files_are_unique, texts_are_files, texts_keep_patterns,
@@ -14,27 +14,27 @@ use std::alloc::Global;
 /// The canonical text of a file stands at the front of the caller's memory, or its length is told where it doesn't fit; or
 /// the number and the line of the file's fault are told, and `Full` only where the limit is below 14 squares for each byte of
 /// the file, and 264.
-pub fn text_is_told(alloc: Global, file: &[u8], room: Room, out: &mut [u8]) -> Told
-    ensures { Answers (IsCanonicalText file.now) (IsUnreadWithin room.limit file.now) out.old
+pub fn text_is_told(alloc: Global, file: &[u8], options: Options, out: &mut [u8]) -> Told
+    ensures { Answers (IsCanonicalText file.now) (IsUnreadWithin options.limit file.now) out.old
         out.new result }
 {
     files_are_on_plane();
     texts_are_files();
     texts_keep_patterns();
-    canon(alloc, file, room, out)
+    canon(alloc, file, options, out)
 }
 
 /// The same of the text in extended RLE of a file, for which the file may have too many cells.
-pub fn rle_is_told(alloc: Global, file: &[u8], room: Room, out: &mut [u8]) -> Told
-    ensures { Answers (IsRleText file.now) (IsUnwritten room.limit file.now) out.old out.new
+pub fn rle_is_told(alloc: Global, file: &[u8], options: Options, out: &mut [u8]) -> Told
+    ensures { Answers (IsRleText file.now) (IsUnwritten options.limit file.now) out.old out.new
         result }
 {
-    to_rle(alloc, file, room, out)
+    to_rle(alloc, file, options, out)
 }
 
 /// The same of the five lines that tell a file's pattern.
-pub fn lines_are_told(alloc: Global, file: &[u8], room: Room, out: &mut [u8]) -> Told
-    ensures { Answers (AreFiveLines file.now) (IsUnreadWithin room.limit file.now) out.old out.new
+pub fn lines_are_told(alloc: Global, file: &[u8], options: Options, out: &mut [u8]) -> Told
+    ensures { Answers (AreFiveLines file.now) (IsUnreadWithin options.limit file.now) out.old out.new
         result }
 {
     canonical_is_least();
@@ -42,7 +42,7 @@ pub fn lines_are_told(alloc: Global, file: &[u8], room: Room, out: &mut [u8]) ->
     files_are_unique();
     texts_are_files();
     texts_keep_patterns();
-    show(alloc, file, room, out)
+    show(alloc, file, options, out)
 }
 
 /// Where no fault is told, the text is the one that `canon` of `life_canon` makes of the file; and the five lines tell the file's
@@ -50,7 +50,7 @@ pub fn lines_are_told(alloc: Global, file: &[u8], room: Room, out: &mut [u8]) ->
 pub fn told_texts_are_those_of_canon(
     alloc: Global,
     file: &[u8],
-    room: Room,
+    options: Options,
     out: &mut [u8],
     shown: &mut [u8],
     store: &mut Shared,
@@ -65,7 +65,7 @@ pub fn told_texts_are_those_of_canon(
     files_are_on_plane();
     files_are_unique();
     texts_are_files();
-    let text = canon(alloc, file, room, out);
-    let lines = show(alloc, file, room, shown);
+    let text = canon(alloc, file, options, out);
+    let lines = show(alloc, file, options, shown);
     (text, lines, life_canon::canon(alloc, store, file))
 }

@@ -47,15 +47,6 @@ marks text = map to_ascii_uppercase (filter (λ b. not (is_count_digit b)) text)
 abbrev pub sets : List ℕ → List ℕ → Option DigitSets
 sets births survivals = Some (record { births = digit_set births; survivals = digit_set survivals })
 
--- the sets of two numbers, if there are two
-abbrev pub sets_in : Option (ℕ × ℕ) → Option DigitSets
-sets_in found = option_map (λ p. record { births = p.0; survivals = p.1 }) found
-
--- the numbers found, each below a bound, are these sets
-pub record AreSets (bound : ℕ) (told : Option DigitSets) (found : Option (ℕ × ℕ)) : Type 0 where
-  pub same : sets_in found ≡ told
-  pub below : IfSome found (λ p. (p.0 < bound) × (p.1 < bound))
-
 -- The five forms of a B/S rule, by the texts between its marks and by the marks: `B3/S23` (Golly Help, QuickLife); `B3S23`,
 -- `S23/B3`, `S23B3` and, survivals first, `23/3` (the project's own). Each group of digits may be empty.
 abbrev pub life_form : List (List ℕ) → List ℕ → Option DigitSets
@@ -226,3 +217,12 @@ pub record MooreRuleStays (text : List ℕ) : Type 0 where
 -- so of each text
 abbrev pub MooreRulesStay : Type 0
 MooreRulesStay = (text : List ℕ) → MooreRuleStays text
+
+-- the sets of two numbers, if there are two
+abbrev pub sets_in : Option (ℕ × ℕ) → Option DigitSets
+sets_in found = option_map (λ p. record { births = p.0; survivals = p.1 }) found
+
+-- the numbers found, each below a bound, are these sets
+pub record AreSets (bound : ℕ) (wanted : Option DigitSets) (found : Option (ℕ × ℕ)) : Type 0 where
+  pub same : sets_in found ≡ wanted
+  pub below : IfSome found (λ p. (p.0 < bound) × (p.1 < bound))

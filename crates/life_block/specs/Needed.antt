@@ -28,10 +28,6 @@ abbrev pub next_plane : OuterTotalistic → Tree → Tree
 next_plane rule t =
     let corner = neg_ℤ (pos (half_side t)) in square_from (next_life rule (tree_cell t)) (depth t) corner corner
 
--- the second square has the cells of the first one's next generation under a B/S rule
-abbrev pub IsNextLife : OuterTotalistic → Tree → Tree → Type 0
-IsNextLife rule t next = (x y : ℤ) → tree_cell next x y ≡ next_life rule (tree_cell t) x y
-
 -- no cell of the square is in its first or last column or row
 abbrev pub HasClearEdge : Tree → Type 0
 HasClearEdge t =

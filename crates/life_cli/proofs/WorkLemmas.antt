@@ -39,7 +39,7 @@ use Rattle.life_cli.specs.Plans.{HasSecond, WritesPlacedText}
 use Rattle.life_step.specs.Stepped.{IsStepped, IsSteppedBy}
 use Rattle.life_cli.specs.Jobs.{InputRefuses, by_length, by_source, HasNoText, by_input, by_file, by_want, AreUncompared}
 use Rattle.life_cli.specs.Jobs.{by_first, by_second, by_form, by_first_shortage, by_second_shortage, RefusesInForm, RefusesSame}
-use Rattle.life_cli.specs.Jobs.{IsWantFor, WantsFor, RefusesMany, Compares, made_text, made_status, HasAnswer, Makes, Writes, Worked, BreaksOff, HasText, FileRefuses, ComesOf}
+use Rattle.life_cli.specs.Jobs.{IsWantFor, WantsFor, RefusesMany, Compares, made_text, made_status, HasAnswer, JobMakes, Writes, Worked, BreaksOff, HasText, FileRefuses, ComesOf}
 use Rattle.life_cli.specs.Jobs.{by_comparing, by_reading, by_writing, by_telling, HasTextByTable, HasNoTextByTable, MadeOf}
 use Rattle.life_cli.specs.Jobs.{RefusesStep, HasTable, HasNoTable, table_by_input, table_by_lines}
 use Rattle.life_cli.specs.Jobs.{table_by_memory, CanonRefuses, OfFile, JobRan, JobRefuses}
@@ -118,7 +118,7 @@ answers form a b false is = inr (refl, (λ same. let bad : false ≡ true = is.1
 
 compared_files : (form : Form) (first second : SourceRun) (a b : List ℕ) (answer : Bool) → ReadAll (2 ^ 30) first.before first.after a
     → ReadAll (2 ^ 30) second.before second.after b → Accepted MAX_LEVEL a → Accepted MAX_LEVEL b → ¬ HasTooMany form MAX_LEVEL a b
-    → IsTrue answer ↔ AreSameIn form MAX_LEVEL a b → Makes (Same form) first second (Comparison answer)
+    → IsTrue answer ↔ AreSameIn form MAX_LEVEL a b → JobMakes (Same form) first second (Comparison answer)
 compared_files form first second a b answer one two first_is second_is few is = record {
   first_bytes = a;
   second_bytes = b;
@@ -133,13 +133,13 @@ module _ (form : Form) (first second : SourceRun) (store : Nodes) (a b : List �
     (others : IsRead MAX_LEVEL b store q) where
   pub compared_in : IfOk r (λ answer. (f s : List ℕ) → IsRead MAX_LEVEL f store p → IsRead MAX_LEVEL s store q → IsTrue answer ↔ AreSameIn form MAX_LEVEL f s)
       → OnOk r ((f s : List ℕ) → IsRead MAX_LEVEL f store p → IsRead MAX_LEVEL s store q → ¬ HasTooMany form MAX_LEVEL f s)
-      → IfOk r (λ answer. Makes (Same form) first second (Comparison answer))
+      → IfOk r (λ answer. JobMakes (Same form) first second (Comparison answer))
   compared_in h few = go r h few
     where
       go : (r : Result Bool Fault)
           → IfOk r (λ answer. (f s : List ℕ) → IsRead MAX_LEVEL f store p → IsRead MAX_LEVEL s store q → IsTrue answer ↔ AreSameIn form MAX_LEVEL f s)
           → OnOk r ((f s : List ℕ) → IsRead MAX_LEVEL f store p → IsRead MAX_LEVEL s store q → ¬ HasTooMany form MAX_LEVEL f s)
-          → IfOk r (λ answer. Makes (Same form) first second (Comparison answer))
+          → IfOk r (λ answer. JobMakes (Same form) first second (Comparison answer))
       go (Ok answer) h few =
           compared_files form first second a b answer one two (reads.universe, reads.reads) (others.universe, others.reads) (few a b reads others)
           (h a b reads others)
@@ -276,7 +276,7 @@ made_of_text make items gives refuses job first second (Err fault) m is works al
 
 -- of a comparison
 pub made_of_comparison : (form : Form) (first second : SourceRun) (r : Result Bool Fault) (m : Result Made Refusal)
-    → IfOk r (λ is_same. Makes (Same form) first second (Comparison is_same)) → IfErr r (AreUncompared form first second)
+    → IfOk r (λ is_same. JobMakes (Same form) first second (Comparison is_same)) → IfErr r (AreUncompared form first second)
     → ((first.failures ≡ 1) ⊎ (second.failures ≡ 1) → IsErrAnd r (λ fault. fault.kind ≡ ReadFault))
     → IfOk r (λ is_same. m ≡ Ok (Comparison is_same)) → IfErr r (λ f. m ≡ Err (refusal_of f)) → MadeOf (Same form) first second m
 made_of_comparison form first second (Ok is_same) m makes refuses told made failed =
@@ -308,7 +308,7 @@ not_so true P is fails holds = absurd cc
 not_so false P is fails holds = let bad : false ≡ true = is.1 holds in absurd cc
 
 -- what was made is written: the job is done
-worked : (job : Job) (first second : SourceRun) (output : SinkRun) (made : Made) → Makes job first second made
+worked : (job : Job) (first second : SourceRun) (output : SinkRun) (made : Made) → JobMakes job first second made
     → Appends output.before output.after (made_text made) → Worked job (made_status made) first second output
 worked job first second output made makes written = record { text = made_text made; answer = makes; written = written }
 
@@ -319,7 +319,7 @@ broken_text : (gives : List ℕ → List ℕ → Type 0) (refuses : List ℕ →
 broken_text gives refuses source output bytes text fault read is broken = by_writing text (record { bytes = bytes; read = read; is = is }) broken
 
 unwritten : (job : Job) (first second : SourceRun) (output : SinkRun) (made : Made) (refusal : Refusal) → ¬ WritesPlacedText job
-    → Makes job first second made → OfFile (BreaksOff output (made_text made)) refusal → JobRefuses job first second output refusal
+    → JobMakes job first second made → OfFile (BreaksOff output (made_text made)) refusal → JobRefuses job first second output refusal
 unwritten (Canon Placed) first second output made refusal other makes broken = absurd (other tt)
 unwritten (Canon Moved) first second output made refusal other makes broken =
     (broken.0, broken_text (IsTextIn Moved MAX_LEVEL) (RefusesInForm Moved) first output _ _ refusal.fault makes.first_read makes.writes.1 broken.1)

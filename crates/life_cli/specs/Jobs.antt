@@ -74,8 +74,8 @@ made_status (Text text) = 0
 made_status (Comparison is_same) = if is_same then 0 else 1
 
 -- the files were read to their ends, and this is what the job makes of them
-abbrev pub Makes : Job → (first second : SourceRun) → Made → Type 0
-Makes job first second made = HasAnswer job first second (made_status made) (made_text made)
+abbrev pub JobMakes : Job → (first second : SourceRun) → Made → Type 0
+JobMakes job first second made = HasAnswer job first second (made_status made) (made_text made)
 
 -- why an input isn't read to its end: too much came, or the source failed
 pub data InputRefuses (source : SourceRun) (fault : Fault) : Type 0 where
@@ -238,7 +238,7 @@ JobRefuses StepTable first second output refusal = HasNoTextByTable first second
 -- what comes of a job before anything is written: what it makes of its files, or why it is refused, whatever the output; and where a source
 -- failed, that is told
 pub record MadeOf (job : Job) (first second : SourceRun) (result : Result Made Refusal) : Type 0 where
-  pub ok : IfOk result (Makes job first second)
+  pub ok : IfOk result (JobMakes job first second)
   pub err : IfErr result (λ refusal. (output : SinkRun) → JobRefuses job first second output refusal)
   pub told : (first.failures ≡ 1) ⊎ (second.failures ≡ 1) → IsErrAnd result (λ refusal. refusal.fault.kind ≡ ReadFault)
 

@@ -14,7 +14,7 @@ pub use Rattle.life_cli.specs.CommandLine.{program, ReadsAs, required_file, requ
 pub use Rattle.life_cli.specs.Faults.{fault_line, is_of_table, line_word, refusal_of, status_of, Tells}
 pub use Rattle.life_cli.specs.Forms.{AreSameIn, HasTooMany, IsMovedText, IsTextIn}
 pub use Rattle.life_cli.specs.Jobs.{AreUncompared, BreaksOff, CanonRefuses, ComesOf, HasNoTable, HasNoTextByTable, HasTable, HasTextByTable, InputRefuses}
-pub use Rattle.life_cli.specs.Jobs.{IsPatternIn, IsWantFor, JobRan, JobRefuses, made_status, made_text, MadeOf, Makes, OfFile, OfTable, RefusesInForm}
+pub use Rattle.life_cli.specs.Jobs.{IsPatternIn, IsWantFor, JobRan, JobRefuses, made_status, made_text, MadeOf, JobMakes, OfFile, OfTable, RefusesInForm}
 pub use Rattle.life_cli.specs.Jobs.{RefusesMany, RefusesSame, RefusesStep, RefusesStepBy, Worked}
 pub use Rattle.life_cli.specs.KeyRuns.{CanTake, Comes, error_line, IsToldAs, LacksList, Listed, names_among, names_in, outcome_status, output_line, Ran, ReadsList}
 pub use Rattle.life_cli.specs.KeyRuns.{Takes, TakesNames, TellsOn, Word, Writes}

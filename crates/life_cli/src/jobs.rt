@@ -1,7 +1,7 @@
 //! The work of a job.
 
 ghost use Rattle.std.specs.Prelude.{◌≡◌, ◌≢◌, ◌⊎◌, ◌<◌, ◌↔◌, ◌^◌, IsSome, IfSome, IfOk, IfErr, OnOk, IsErrAnd, IsTrue, Ok, Err, true, false};
-ghost use Rattle.life_cli.specs.Words.{Appends, SourceRun, source_run, optional_source_run, sink_run, Refusal, Refuses, Keeps, IsRleOf, IsShown, fault_line, refusal_of, status_of, Tells, made_status, made_text, MadeOf, Makes, Worked, OfFile, InputRefuses, BreaksOff, ComesOf, AreUncompared, CanonRefuses, IsPatternIn, IsWantFor, JobRan, JobRefuses, RefusesMany, HasSecond, WritesPlacedText};
+ghost use Rattle.life_cli.specs.Words.{Appends, SourceRun, source_run, optional_source_run, sink_run, Refusal, Refuses, Keeps, IsRleOf, IsShown, fault_line, refusal_of, status_of, Tells, made_status, made_text, MadeOf, JobMakes, Worked, OfFile, InputRefuses, BreaksOff, ComesOf, AreUncompared, CanonRefuses, IsPatternIn, IsWantFor, JobRan, JobRefuses, RefusesMany, HasSecond, WritesPlacedText};
 
 use crate::forms::{are_same_in, text_of_source};
 use crate::plans::{Form, Job, Target};
@@ -137,7 +137,7 @@ fn compared<A: Source, B: Source>(
 ) -> Result<bool, Fault>
     requires one { A.failures one.old ≡ 0 }
     requires other { B.failures other.old ≡ 0 }
-    ensures ok { IfOk result (λ is_same. Makes (Job.Same form)
+    ensures ok { IfOk result (λ is_same. JobMakes (Job.Same form)
         (source_run A.remaining A.failures one.old one.new)
         (source_run B.remaining B.failures other.old other.new) (Made.Comparison is_same)) }
     ensures err { IfErr result (AreUncompared form

@@ -22,7 +22,7 @@ use Rattle.life_base.specs.declared.rule.Rule.{Rule}
 use Rattle.life_base.specs.declared.rule.Rule.TheVariants.{Life, Named}
 use Rattle.life_mc.specs.Reading.{broken_after}
 use Rattle.life_mc.specs.Standing.{IsParsed}
-use Rattle.life_mc.specs.declared.line.Meaning.TheVariants.{RuleLine, GenerationLine}
+use Rattle.life_mc.specs.declared.line.ParsedLine.TheVariants.{RuleLine, GenerationLine}
 use Rattle.life_mc.proofs.ReadBack.{has_no_feed}
 use Rattle.life_mc.proofs.LineTexts.{decimal_digits, decimal_value, decimal_short, digits_trimmed, digits_have_no_feed}
 

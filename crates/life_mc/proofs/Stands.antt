@@ -20,7 +20,7 @@ use Rattle.life_mc.specs.Reading.{broken, broken_behind, is_command, rule_in_for
 use Rattle.life_mc.specs.Grammar.{form_rule, form_generation, form_square}
 use Rattle.std.specs.Option.{unwrap_or}
 use Rattle.life_mc.specs.Standing.{Standing, StandsAfter, IsParsed, form_of, level_in}
-use Rattle.life_mc.specs.declared.line.Meaning.{Meaning}
+use Rattle.life_mc.specs.declared.line.ParsedLine.{ParsedLine}
 use Rattle.life_mc.specs.declared.line.Line.{Line}
 use Rattle.life_mc.specs.declared.line.Line.TheVariants.{Leaf, Quad}
 use Rattle.life_mc.proofs.Around.{commands, hash_no_square}
@@ -177,12 +177,12 @@ module _ (top : ℕ) (lines : List (List ℕ)) (line : List ℕ) (old new : Stan
       )
 
   -- a line behind it
-  pub stands_next : (meaning : Meaning) → let form = form_of meaning in
-      old.started ≡ true → broken_after top old.rule old.levels line ≡ None → IsParsed line meaning
+  pub stands_next : (parsed : ParsedLine) → let form = form_of parsed in
+      old.started ≡ true → broken_after top old.rule old.levels line ≡ None → IsParsed line parsed
       → new.started ≡ old.started → new.rule ≡ unwrap_or (form_rule form) old.rule → new.generation ≡ unwrap_or (form_generation form) old.generation
       → new.levels ≡ old.levels ++ level_in (form_square form) → (form_square form ≡ square_behind lines line) × StandsAfter top (lines ++ line ∷ []) new
-  stands_next meaning t b tells st r g l =
-      let form = form_of meaning in
+  stands_next parsed t b tells st r g l =
+      let form = form_of parsed in
       let some : is_empty lines ≡ false = not-true old.started (is_empty lines) s.started t in
       let here : square_behind lines line ≡ form_square form = square_here lines line some ∙ tells.2 in (
         sym here,

@@ -19,7 +19,7 @@ use Rattle.life_mc.specs.Standing.{Standing, StandsAfter, IsParsed}
 use Rattle.life_mc.specs.Writing.{mc_text, line_text, TextsReadBack}
 use Rattle.life_mc.specs.declared.line.Line.{Line}
 use Rattle.life_mc.specs.declared.line.Line.TheVariants.{Leaf, Quad}
-use Rattle.life_mc.specs.declared.line.Meaning.TheVariants.{RuleLine, GenerationLine, NodeLine}
+use Rattle.life_mc.specs.declared.line.ParsedLine.TheVariants.{RuleLine, GenerationLine, NodeLine}
 use Rattle.life_mc.proofs.HeaderLines.{rule_short, rule_line, rule_stands, rule_parsed, generation_line, generation_stands, generation_parsed, generation_short}
 use Rattle.life_mc.proofs.LineTexts.{IsTextOf, leaf_text, quad_text}
 use Rattle.life_mc.proofs.ReadBack.{has_no_feed, line_ended}

@@ -20,7 +20,7 @@ pub enum Line {
 
 /// What a line behind the header is. One that is blank or a comment is nothing.
 #[derive(Drop)]
-pub(crate) enum Meaning {
+pub(crate) enum ParsedLine {
     Nothing,
     RuleLine(Rule),
     GenerationLine(u64),
@@ -57,19 +57,34 @@ fn begins_as_node(line: &[u8]) -> bool
     }
 }
 
-/// What a line behind the header is, if it is no node line, where this is the rule and these the levels so far. It is never inlined: most lines
-/// are node lines, and begin as these.
-#[inline(never)]
+/// What a line behind the header is, if it is no node line, where this is the rule and these the levels so far.
+#[inline(always)]
 fn parse_command(
     alloc: Global,
     rule: &Rule,
     levels: &[u8],
     line: &[u8],
-) -> Result<Option<Meaning>, Kind>
+) -> Result<Option<ParsedLine>, Kind>
+    ensures { IsCommandRead MAX_LEVEL rule.now levels.now line.now result }
+{
+    if begins_as_node(line) {
+        return Ok(None);
+    }
+    parse_by_tests(alloc, rule, levels, line)
+}
+
+/// The same of any line, by one test after another. It is never inlined: most lines are node lines, and begin as these.
+#[inline(never)]
+fn parse_by_tests(
+    alloc: Global,
+    rule: &Rule,
+    levels: &[u8],
+    line: &[u8],
+) -> Result<Option<ParsedLine>, Kind>
     ensures { IsCommandRead MAX_LEVEL rule.now levels.now line.now result }
 {
     if is_blank(line) {
-        return Ok(Some(Meaning::Nothing));
+        return Ok(Some(ParsedLine::Nothing));
     }
     if begins_with(line, b"#FRAME") {
         return Err(Kind::Timeline);
@@ -78,16 +93,16 @@ fn parse_command(
         if !levels.is_empty() {
             return Err(Kind::LateHeader);
         }
-        return Ok(Some(Meaning::RuleLine(Rule::parse(alloc, &line[2..])?)));
+        return Ok(Some(ParsedLine::RuleLine(Rule::parse(alloc, &line[2..])?)));
     }
     if is_command(b'G', line) {
         if !levels.is_empty() {
             return Err(Kind::LateHeader);
         }
-        return Ok(Some(Meaning::GenerationLine(read_generation(&line[2..])?)));
+        return Ok(Some(ParsedLine::GenerationLine(read_generation(&line[2..])?)));
     }
     if begins_with(line, b"#") {
-        return Ok(Some(Meaning::Nothing));
+        return Ok(Some(ParsedLine::Nothing));
     }
     Ok(None)
 }
@@ -98,17 +113,15 @@ pub(crate) fn parse_line(
     rule: &Rule,
     levels: &[u8],
     line: &[u8],
-) -> Result<Meaning, Kind>
+) -> Result<ParsedLine, Kind>
     requires { length levels.now < 2 ^ 64 - 1 }
-    ensures { MatchResult result (λ meaning. IsParsed line.now meaning
+    ensures { MatchResult result (λ parsed. IsParsed line.now parsed
         × (broken_after MAX_LEVEL rule.now levels.now line.now ≡ None))
         (λ kind. (kind ≡ Memory)
         ⊎ (broken_after MAX_LEVEL rule.now levels.now line.now ≡ Some kind)) }
 {
-    if !begins_as_node(line) {
-        if let Some(meaning) = parse_command(alloc, rule, levels, line)? {
-            return Ok(meaning);
-        }
+    match parse_command(alloc, rule, levels, line)? {
+        Some(parsed) => Ok(parsed),
+        None => Ok(ParsedLine::NodeLine(read_node(rule, levels, line)?)),
     }
-    Ok(Meaning::NodeLine(read_node(rule, levels, line)?))
 }

@@ -3,7 +3,7 @@
 ghost use Rattle.std.specs.Prelude.{◌≡◌};
 ghost use Rattle.life_mc.specs.Words.{level_of, IsMemory};
 
-use crate::line::{Line, Meaning, parse_line};
+use crate::line::{Line, ParsedLine, parse_line};
 use life_base::{Kind, LineLog, MAX_LEVEL, Rule, begins_with, is_too_long};
 use std::alloc::Global;
 use std::marker::Model;
@@ -76,33 +76,33 @@ impl Kept {
             self.started = true;
             return Ok(None);
         }
-        let meaning = parse_line(self.alloc, &self.rule, &self.levels, line)?;
-        self.keep(meaning)
+        let parsed = parse_line(self.alloc, &self.rule, &self.levels, line)?;
+        self.keep(parsed)
     }
 
     /// Keeps what a line is, and answers its square.
-    fn keep(&mut self, meaning: Meaning) -> Result<Option<Line>, Kind>
-        ensures square { IfOk result (λ square. square ≡ form_square (form_of meaning)) }
+    fn keep(&mut self, parsed: ParsedLine) -> Result<Option<Line>, Kind>
+        ensures square { IfOk result (λ square. square ≡ form_square (form_of parsed)) }
         ensures rule { OnOk result
-            (self.new.rule ≡ unwrap_or (form_rule (form_of meaning)) self.old.rule) }
+            (self.new.rule ≡ unwrap_or (form_rule (form_of parsed)) self.old.rule) }
         ensures generation { OnOk result (self.new.generation
-            ≡ unwrap_or (form_generation (form_of meaning)) self.old.generation) }
+            ≡ unwrap_or (form_generation (form_of parsed)) self.old.generation) }
         ensures levels { OnOk result
-            (self.new.levels ≡ self.old.levels ++ level_in (form_square (form_of meaning))) }
+            (self.new.levels ≡ self.old.levels ++ level_in (form_square (form_of parsed))) }
         ensures started { self.new.started ≡ self.old.started }
         ensures err { IfErr result IsMemory }
     {
-        match meaning {
-            Meaning::Nothing => Ok(None),
-            Meaning::RuleLine(rule) => {
+        match parsed {
+            ParsedLine::Nothing => Ok(None),
+            ParsedLine::RuleLine(rule) => {
                 self.rule = rule;
                 Ok(None)
             }
-            Meaning::GenerationLine(generation) => {
+            ParsedLine::GenerationLine(generation) => {
                 self.generation = generation;
                 Ok(None)
             }
-            Meaning::NodeLine(square) => {
+            ParsedLine::NodeLine(square) => {
                 self.levels.push(level_of_square(&square))?;
                 Ok(Some(square))
             }

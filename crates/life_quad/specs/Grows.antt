@@ -36,10 +36,10 @@ abbrev pub Makes : {X T : Type 0} → Ghosts X → X → X → (T → Type 0) �
 Makes S old new Known Square Needed r = MakesSquares S.knows S.content S.stored S.most old new Known Square Needed r
 
 -- the same of a call that makes one square, of which something is said: a refused call had to store some part of such a square
-abbrev pub MakesSome : {X : Type 0} → Ghosts X → X → X → (Tree → Type 0) → Result Id Kind → Type 0
-MakesSome S old new Is r =
+abbrev pub MakesSuch : {X : Type 0} → Ghosts X → X → X → (Tree → Type 0) → Result Id Kind → Type 0
+MakesSuch S old new Is r =
     Makes S old new (S.knows new) (λ id. Is (S.content new id)) ((t : Tree) × Is t × SomePart (S.needs_node new) t) r
 
 -- of a call that makes this square, and stores no square but such as it needs
-abbrev pub MakesOne : {X : Type 0} → Ghosts X → X → X → Tree → ((Tree → Type 0) → Type 0) → Result Id Kind → Type 0
-MakesOne S old new t Needs r = MakesOneSquare S.knows S.content S.stored S.most S.needs_node old new t Needs r
+abbrev pub MakesThis : {X : Type 0} → Ghosts X → X → X → Tree → ((Tree → Type 0) → Type 0) → Result Id Kind → Type 0
+MakesThis S old new t Needs r = MakesOneSquare S.knows S.content S.stored S.most S.needs_node old new t Needs r

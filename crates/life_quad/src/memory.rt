@@ -7,10 +7,10 @@ use std::alloc::Global;
 use std::marker::Model;
 
 /// How many slots a memory begins with.
-const FIRST_PLACES: usize = 1 << 10;
+const FIRST_SLOTS: usize = 1 << 10;
 
 /// How many it has at most, a power of four times as many.
-const MOST_PLACES: usize = 1 << 18;
+const MOST_SLOTS: usize = 1 << 18;
 
 /// From `n` slots more than `n^2` divided by this are recalled before there are more: a large memory has to be of more use than a small one.
 const USE: usize = 1 << 15;
@@ -88,7 +88,7 @@ fn make_slots(slots: &mut Vec<Slot>)
     ensures { (p : SlotValue) → Holds slots.new.items p → Holds slots.old.items p }
 {
     let count = if slots.is_empty() {
-        FIRST_PLACES
+        FIRST_SLOTS
     } else {
         slots.len().saturating_mul(4)
     };
@@ -127,7 +127,7 @@ impl NeighbourhoodMemory {
     {
         let count = self.slots.len();
         let enough = count.saturating_mul(count) / USE;
-        if count == 0 || (count < MOST_PLACES && self.hits > enough) {
+        if count == 0 || (count < MOST_SLOTS && self.hits > enough) {
             make_slots(&mut self.slots);
             self.hits = 0;
         }

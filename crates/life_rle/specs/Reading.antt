@@ -20,7 +20,8 @@ pub data IsCount (level : ℕ) (line : List ℕ) (at count place : ℕ) : Type 0
   none : is_ascii_digit (slice_index line at) ≡ false → count ≡ 1 → place ≡ at → IsCount level line at count place
   digits : at < place → next_of level (drop at line) ≡ item_behind count (drop place line) → IsCount level line at count place
 
--- the count that digits write from a place on and the place behind them, which is in the line, or why they spell no item
+-- What is read at a place where a digit stands: the count that the digits write, and the place behind them, which is in the line; or why they
+-- spell no item.
 abbrev pub IsCountRead : ℕ → List ℕ → ℕ → Result (ℕ × ℕ) Kind → Type 0
 IsCountRead level line at result = MatchResult result
     (λ found. IsCount level line at found.0 found.1 × (found.1 < length line)) (λ kind. next_of level (drop at line) ≡ Broken kind)
@@ -46,7 +47,7 @@ IsNumberRead level None None = Unit {0}
 IsNumberRead level (Some z) (Some w) = (is_coordinate level w ≡ is_coordinate level z) × (is_coordinate level w ≡ true → w ≡ z)
 IsNumberRead level _ _ = ⊥
 
--- an item was taken: it breaks no rule, its run stands behind the runs, and the cursor behind it
+-- an item was taken: it breaks no rule where it stands, `next` is the place behind it, and its run, if it has one, was put behind the runs
 pub record IsTaken (level : ℕ) (rule : Rule) (here : Cursor) (item : Item) (before after : List Run) (next : Cursor) : Type 0 where
   pub sound : item_fault level rule here.y here.x item ≡ None
   pub cursor : next ≡ moved here item

@@ -12,7 +12,7 @@ pub use Rattle.life_rle.specs.FrontLaws.{BeginsAsRle, FrontsAreFiles, FrontsOfFr
 pub use Rattle.life_rle.specs.FrontLaws.{MacrocellLineBreaks}
 pub use Rattle.life_rle.specs.Grammar.{Breaks, is_rle_kind, later_of, opening_of}
 pub use Rattle.life_rle.specs.Header.{after_number, after_word, header_form, header_of, rule_part}
-pub use Rattle.life_rle.specs.Items.{Broken, counted, item_behind, next_of}
+pub use Rattle.life_rle.specs.Items.{Broken, counted, item_behind}
 pub use Rattle.life_rle.specs.ItemsLaw.{ItemsAreCells}
 pub use Rattle.life_rle.specs.Laws.{BreaksForGood, FaultsAreUnique, FrontsAreUnbroken, IsOneRle, KindsNameLines, LinesBreakByKinds, RleTextReadsBack}
 pub use Rattle.life_rle.specs.Laws.{StatesReadBack, WiderPlanesKeepFiles, WrappedGreedily}

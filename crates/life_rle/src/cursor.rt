@@ -1,6 +1,6 @@
 //! The place where the next item stands.
 
-ghost use Rattle.std.specs.Prelude.{◌≡◌, ◌≤◌, List};
+ghost use Rattle.std.specs.Prelude.{◌≡◌, ◌≤◌, List, IfErr};
 ghost use Rattle.life_rle.specs.Words.{most_count, item_fault, IsNear, start_of, moved, item_count, row_limit, Cells, RowEnds, Rule, Run, TakesItem};
 
 use crate::item::Item;
@@ -82,8 +82,9 @@ pub(crate) fn moved(cursor: Cursor, item: Item) -> Cursor
 pub(crate) fn end_rows(cursor: Cursor, count: u64) -> Result<Cursor, Kind>
     requires near { IsNear MAX_LEVEL cursor }
     requires count { count ≤ most_count MAX_LEVEL }
-    ensures { (rule : Rule) (runs : List Run)
+    ensures takes { (rule : Rule) (runs : List Run)
         → TakesItem MAX_LEVEL rule cursor (RowEnds count) runs runs result }
+    ensures outside { IfErr result (λ kind. kind ≡ Kind.OutOfPlane) }
 {
     if cursor.y + count as i64 <= EDGE {
         Ok(moved(cursor, Item::RowEnds { count }))

@@ -1,6 +1,6 @@
 //! The items of a line.
 
-ghost use Rattle.std.specs.Prelude.{◌≡◌, ◌≢◌, ◌<◌, None, true, false, ℕ, List, length, slice_index, OnOk, IfOk, IfErr};
+ghost use Rattle.std.specs.Prelude.{◌≡◌, ◌≢◌, ◌<◌, None, true, false, ℕ, List, length, slice_index, OnOk, IfErr};
 ghost use Rattle.life_rle.specs.Words.{is_ascii_digit, byte, capped, is_digit_text, value_of, single_state, prefixed_state, Broken, item_behind, counted, IsCount, IsCountRead, IsItemAt, IsTokenAt};
 
 use crate::plane::MOST_COUNT;

@@ -1,5 +1,5 @@
 //! The plane as far as it is filled, row by row.
-ghost use Rattle.std.specs.Prelude.{◌≡◌, ℕ, ℤ, pos, neg_ℤ, nat_abs, ◌+ℤ◌, ◌<ℤ◌, ◌≤ℤ◌, ◌+◌, ◌^◌, ◌<◌, ◌≤◌, IfOk, OnOk};
+ghost use Rattle.std.specs.Prelude.{◌≡◌, ℤ, pos, neg_ℤ, nat_abs, ◌+ℤ◌, ◌<ℤ◌, ◌≤ℤ◌, ◌+◌, ◌^◌, ◌<◌, ◌≤◌, IfOk, OnOk};
 ghost use Rattle.life_strip.specs.Words.{depth, tree_cell, Grows, IsOnPlane, half_plane, SomeSquare, IsFilled, IsUnfilled, IsFree, AddsRun, BeginsRow, state_so_far, cell_so_far};
 
 use crate::pile::Pile;

@@ -3,6 +3,7 @@
 use Rattle.std.specs.Prelude.{◌≡◌, ◌↔◌, ℕ, ◌==◌, ◌&&◌, ◌||◌, if◌then◌else◌, ℤ, pos, negsuc, ◌+ℤ◌, List, [], ◌∷◌, drop, slice_index}
 use Rattle.life_base.specs.Sets.{DigitSets, OuterTotalistic}
 use Rattle.life_base.specs.Rules.{has_digit}
+use Rattle.life_base.specs.Tree.{Tree, tree_cell}
 use Rattle.life_base.specs.declared.rule.Near.{Near}
 use Rattle.life_base.specs.declared.rule.Near.TheVariants as near
 use Rattle.life_table.specs.Meaning.{Answer, Becomes, Decides, count_of}
@@ -45,6 +46,10 @@ next_by_count sets state count =
 -- the next state of the cell (x, y) under a B/S rule, by the neighbours that it counts
 abbrev pub next_life : OuterTotalistic → (ℤ → ℤ → ℕ) → ℤ → ℤ → ℕ
 next_life rule cells x y = next_by_count rule.sets (cells x y) (count_of 1 (neighbours_at (neighborhood_of rule.near) cells x y))
+
+-- the second square has the cells of the first one's next generation under a B/S rule
+abbrev pub IsNextLife : OuterTotalistic → Tree → Tree → Type 0
+IsNextLife rule t next = (x y : ℤ) → tree_cell next x y ≡ next_life rule (tree_cell t) x y
 
 -- what a table answers for the cell (x, y)
 abbrev pub AnswersAt : Table → (ℤ → ℤ → ℕ) → ℤ → ℤ → Answer → Type 0

@@ -1,10 +1,9 @@
 -- An index of the lines of a table: sets of lines, among which is each line that gives something at a cell.
-use Rattle.std.specs.Prelude.{◌≡◌, ◌≢◌, ℕ, ◌+◌, ◌-◌, ◌*◌, ◌<◌, ◌≤◌, ◌∷◌, [], List, All, Contains, take, drop, length, slice_index, slice_index_or, count_by, Bool, true, nat_eq, Option, Result, MatchOption, MatchResult}
+use Rattle.std.specs.Prelude.{◌≡◌, ◌≢◌, ℕ, ◌+◌, ◌-◌, ◌*◌, ◌<◌, ◌≤◌, ◌∷◌, [], List, All, Contains, take, drop, length, slice_index, slice_index_or, count_by, Bool, true, nat_eq, Option, Result, MatchOption}
 use Rattle.std.specs.Int.{bit_at}
 use Rattle.std.specs.List.{list_any}
 use Rattle.life_base.specs.declared.fault.Fault.{Fault}
-use Rattle.life_base.specs.declared.kind.Kind.TheVariants as kinds
-use Rattle.life_table.specs.Meaning.{Gives, GivesNothing, Decides, Becomes, Ambiguous}
+use Rattle.life_table.specs.Meaning.{Gives, GivesNothing, DecidesAs}
 use Rattle.life_table.specs.Orders.{turn, reflected_turn, orders}
 use Rattle.life_table.specs.Site.{centre_of, others_of}
 use Rattle.life_table.specs.Taking.{can_be_state}
@@ -16,7 +15,6 @@ use Rattle.life_table.specs.declared.some_order.Counts.{Counts}
 use Rattle.life_table.specs.declared.table.Entry.{Entry}
 use Rattle.life_table.specs.declared.table.Entry.TheVariants as entries
 use Rattle.life_table.specs.declared.table.Symmetry.{Symmetry}
-use Rattle.life_table.specs.declared.table.Table.{Table}
 use Rattle.life_table.specs.declared.table.Transition.{Transition}
 use Rattle.life_table.specs.declared.table.Var.{Var}
 use Rattle.life_table.specs.declared.turn.Turns.{Turns}
@@ -102,16 +100,7 @@ module _ (symmetry : Symmetry) (vars : List Var) (centre : ℕ) (others : List �
   MayGive from set = (k : ℕ) (d : Transition) → k < 64 → from + k < length lines
       → (s : ℕ) → Gives symmetry vars (slice_index_or lines (from + k) d) centre others s → bit_at set k ≡ 1
 
-  -- the lines decide so: a state, or that a line with the number of the fault's gives two
-  abbrev pub IsDecided : Result ℕ Fault → Type 0
-  IsDecided answer = MatchResult answer (λ s. Decides symmetry vars centre others lines (Becomes s))
-      (λ fault. (fault.kind ≡ kinds.Ambiguous) × Decides symmetry vars centre others lines (Ambiguous fault.place.line))
-
-  -- the lines decide so, or those before a number give nothing
+  -- the lines decide as the answer says; without one, those before a number give nothing
   abbrev pub AnswersAmong : ℕ → Option (Result ℕ Fault) → Type 0
   AnswersAmong end result = MatchOption result (All (GivesNothing symmetry vars centre others) (take end lines))
-      IsDecided
-
--- a table tells this of a cell with these states, the centre's first
-abbrev pub TellsNext : Table → List ℕ → Result ℕ Fault → Type 0
-TellsNext table cells = IsDecided table.symmetry table.vars (slice_index cells 0) (drop 1 cells) table.lines
+      (DecidesAs symmetry vars centre others lines)

@@ -1,11 +1,14 @@
 -- What a rule table makes of a cell and its neighbours.
-use Rattle.std.specs.Prelude.{◌≡◌, ◌≢◌, ℕ, ◌/◌, ◌%◌, ◌<◌, List, [], ◌∷◌, ◌++◌, map, take, drop, slice_get, slice_index, length, IfSome, All, Contains, count_by, nat_eq, ◌⊎◌, Bool, ◌==◌, IsTrue}
+use Rattle.std.specs.Prelude.{◌≡◌, ◌≢◌, ℕ, ◌/◌, ◌%◌, ◌<◌, List, [], ◌∷◌, ◌++◌, map, take, drop, slice_get, slice_index, length, IfSome, All, Contains, count_by, nat_eq, ◌⊎◌, Bool, ◌==◌, IsTrue, Result, MatchResult}
 use Rattle.std.specs.Int.{bit_at}
+use Rattle.life_base.specs.declared.fault.Fault.{Fault}
+use Rattle.life_base.specs.declared.kind.Kind.TheVariants as kinds
 use Rattle.life_table.specs.Orders.{images}
 use Rattle.life_table.specs.declared.table.Symmetry.{Symmetry}
 use Rattle.life_table.specs.declared.table.Var.{Var}
 use Rattle.life_table.specs.declared.table.Entry.{Entry}
 use Rattle.life_table.specs.declared.table.Entry.TheVariants as entries
+use Rattle.life_table.specs.declared.table.Table.{Table}
 use Rattle.life_table.specs.declared.table.Transition.{Transition}
 
 -- a variable may be this state: its bit is set
@@ -78,3 +81,13 @@ module _ (symmetry : Symmetry) (vars : List Var) (centre : ℕ) (others : List �
   -- where no line gives anything, the cell keeps its state
   abbrev pub Decides : List Transition → Answer → Type 0
   Decides lines answer = FirstToGive lines answer ⊎ (All GivesNothing lines × (answer ≡ Becomes centre))
+
+  -- The lines decide as a call answers: the state, or, where the fault says so, that the first line that gives anything gives two, which is the
+  -- line that the fault names.
+  abbrev pub DecidesAs : List Transition → Result ℕ Fault → Type 0
+  DecidesAs lines result = MatchResult result (λ s. Decides lines (Becomes s))
+      (λ fault. (fault.kind ≡ kinds.Ambiguous) × Decides lines (Ambiguous fault.place.line))
+
+-- what a table tells of a cell and its neighbours, by their states: the cell's own state is the first of them
+abbrev pub TellsNext : Table → List ℕ → Result ℕ Fault → Type 0
+TellsNext table cells = DecidesAs table.symmetry table.vars (slice_index cells 0) (drop 1 cells) table.lines

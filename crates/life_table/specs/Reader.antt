@@ -1,13 +1,16 @@
 -- What the reader of a rule table keeps from line to line, in words that its own functions use.
-use Rattle.std.specs.Prelude.{◌≡◌, ℕ, ◌<◌, ◌≤◌, Bool, true, List, [], ◌∷◌, ◌++◌, Option, Some, None, IfSome, ◌==◌, ◌||◌, ◌≢◌, All, IsTrue, slice_get}
+use Rattle.std.specs.Prelude.{◌≡◌, ℕ, ◌<◌, ◌≤◌, Bool, true, List, [], ◌∷◌, ◌++◌, Option, Some, None, IfSome, ◌==◌, ◌||◌, ◌≢◌, All, IsTrue, slice_get, map, option_map}
 use Rattle.std.proofs.Common.{Bor}
+use Rattle.std.specs.Global.{Vec}
 use Rattle.std.specs.List.{list_any, slice_split}
 use Rattle.std.specs.Str.{byte}
+use Rattle.life_table.specs.Reading.{all_some, entry_of}
 use Rattle.life_table.specs.Valid.{fits_zero, is_quiet, is_listed, neighbour_count, IsVariable, IsTransition}
 use Rattle.life_table.specs.declared.directive.Parsed.{Parsed}
 use Rattle.life_table.specs.declared.directive.Section.TheVariants.{Ahead, Open, Behind}
 use Rattle.life_table.specs.declared.directive.Directive.{Directive}
 use Rattle.life_table.specs.declared.directive.Directive.TheVariants.{Nothing, RuleName, TableOpens, TableEnds, States, Neighbors, Orders, Variable, Line}
+use Rattle.life_table.specs.declared.table.Entry.{Entry}
 use Rattle.life_table.specs.declared.table.Neighborhood.{Neighborhood}
 use Rattle.life_table.specs.declared.table.Symmetry.{Symmetry}
 use Rattle.life_table.specs.declared.table.Var.{Var}
@@ -16,6 +19,10 @@ use Rattle.life_table.specs.declared.table.Var.{Var}
 abbrev pub parts_left : Option (Bor (List ℕ)) → List (List ℕ)
 parts_left None = []
 parts_left (Some text) = slice_split (λ b. b == byte ",") text.now
+
+-- the parts that were found are the entries of these words; they are found if each word is one
+abbrev pub AreEntriesOf : ℕ → List Var → List (List ℕ) → Option (Vec Entry) → Type 0
+AreEntriesOf n_states vars words found = option_map (λ entries. entries.items) found ≡ all_some (map (entry_of n_states vars) words)
 
 -- what lines say together with one more
 abbrev pub after : Parsed → Directive → Parsed

@@ -1,6 +1,5 @@
 -- The `.rule` format: which lines a file may have, and which table they write.
 use Rattle.std.specs.Prelude.{◌≡◌, ℕ, ◌+◌, ◌-◌, ◌/◌, ◌%◌, ◌^◌, ◌<◌, Bool, true, false, not, min, ◌&&◌, ◌||◌, List, [], ◌∷◌, ◌++◌, length, take, drop, map, filter, filter_map, fold, position, nat_le, nat_lt, ◌==◌, if◌then◌else◌, slice_index, slice_index_or, slice_get, bit_or, bytes_eq, codes, Option, Some, None, Result, Ok, Err, is_some, is_none, option_map, option_and_then, option_to_list}
-use Rattle.std.specs.Global.{Vec}
 use Rattle.std.specs.Char.{is_ascii_digit, is_ascii_graphic}
 use Rattle.std.specs.List.{list_all, list_any, slice_split, before_first, after_first}
 use Rattle.std.specs.Str.{byte}
@@ -288,10 +287,6 @@ transition_words text =
 -- the entries of a transition, if each of its words is one
 unfoldable pub entries_of : ℕ → List Var → List ℕ → Option (List Entry)
 entries_of n_states vars text = all_some (map (entry_of n_states vars) (transition_words text))
-
--- they are the entries of these words, if each word is one
-abbrev pub AreEntriesOf : ℕ → List Var → List (List ℕ) → Option (Vec Entry) → Type 0
-AreEntriesOf n_states vars words found = option_map (λ entries. entries.items) found ≡ all_some (map (entry_of n_states vars) words)
 
 -- a centre, as many neighbours as there are, and an output
 abbrev pub transition_from : ℕ → ℕ → List Entry → Option Transition

@@ -6,14 +6,14 @@ pub use Rattle.life_table.specs.Around.{cells_of}
 pub use Rattle.life_table.specs.Found.{Adds, Consistent, SomeGives, Tells}
 pub use Rattle.life_table.specs.Grammar.{GrammarsAgree, IsFile}
 pub use Rattle.life_table.specs.Index.{AnswersAmong, AreBlocks, AreCounts, Asks, entry_at, HasLine, HasLines, InSets, is_among, IsApart, IsImage, IsQuery}
-pub use Rattle.life_table.specs.Index.{KeepsOrders, MayBeBehind, MayFit, MayFitInSomeOrder, MayGive, Stay, TellsNext}
+pub use Rattle.life_table.specs.Index.{KeepsOrders, MayBeBehind, MayFit, MayFitInSomeOrder, MayGive, Stay}
 pub use Rattle.life_table.specs.Laws.{AcceptedWritesTable, LinesBreakByKinds, NothingDropped, OneAnswer, OrdersByCounts, PermuteByCounts, RefusalsHaveKinds}
 pub use Rattle.life_table.specs.Laws.{ZeroStaysZero}
 pub use Rattle.life_table.specs.Meaning.{Ambiguous, Becomes, count_of, Decides, Gives, GivesAs, GivesByCounts, GivesNothing, has_state, HasState, IsChoice}
-pub use Rattle.life_table.specs.Meaning.{state_of}
+pub use Rattle.life_table.specs.Meaning.{state_of, TellsNext}
 pub use Rattle.life_table.specs.Orders.{family, images, orders, reflected_turn, reflected_turns, turn, turns}
-pub use Rattle.life_table.specs.Reader.{after, fits_after, IsGood, IsKept, nothing_parsed, parts_left}
-pub use Rattle.life_table.specs.Reading.{agree, all_some, AreEntriesOf, begins_rule_line, between_commas, bytes_alone, content, Describes, entries_of, entry_of, if_named}
+pub use Rattle.life_table.specs.Reader.{after, AreEntriesOf, fits_after, IsGood, IsKept, nothing_parsed, parts_left}
+pub use Rattle.life_table.specs.Reading.{agree, begins_rule_line, between_commas, bytes_alone, content, Describes, entries_of, entry_of, if_named}
 pub use Rattle.life_table.specs.Reading.{if_neighborhood, if_states, if_symmetry, if_transition, is_bound, is_described, is_list, is_name_byte}
 pub use Rattle.life_table.specs.Reading.{is_neighborhood_key, is_passed_over, is_section_line, is_table_kind, is_table_line, is_variable_line}
 pub use Rattle.life_table.specs.Reading.{is_variable_name, lacking, name_in, name_on, neighborhood_named, number_below, parse_ahead, parse_descriptor}

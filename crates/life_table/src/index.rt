@@ -1,6 +1,6 @@
 //! A table with an index of its lines.
-ghost use Rattle.std.specs.Prelude.{◌≡◌, ℕ, ◌+◌, ◌*◌, ◌<◌, ◌≤◌, ◌∷◌, [], List, Contains, length, take, drop, All, Option, MatchResult, slice_index};
-ghost use Rattle.life_table.specs.Words.{bit_at, GivesNothing, Decides, Becomes, Ambiguous, neighbour_count, cells_of, images, AnswersAmong, TellsNext, MayGive, MayFit, AreBlocks, IsQuery, Asks, IsSite, IsLineAt, GoesRound, TurnsAreImages, centre_of, others_of};
+ghost use Rattle.std.specs.Prelude.{◌≡◌, ℕ, ◌+◌, ◌*◌, ◌<◌, ◌≤◌, ◌∷◌, List, Contains, length, take, All, Option};
+ghost use Rattle.life_table.specs.Words.{bit_at, GivesNothing, neighbour_count, cells_of, images, AnswersAmong, TellsNext, MayGive, MayFit, AreBlocks, IsQuery, Asks, IsSite, IsLineAt, GoesRound, TurnsAreImages, centre_of, others_of};
 
 use crate::block::{Block, LINES};
 use crate::found::Found;

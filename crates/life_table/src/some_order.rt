@@ -207,8 +207,8 @@ impl Block {
         rest
     }
 
-    /// Of these lines those that have inputs enough for the neighbours of every choice of states. Those of all states but one leave the fewest lines,
-    /// so they come first.
+    /// Of these lines those that have inputs enough, whichever of the states are chosen: as many that may be one of those as neighbours that are. The
+    /// choices of all states but one leave the fewest lines, so they come first.
     fn with_every_choice(&self, others: &[State], states: &[State], lines: u64) -> u64
         requires room { length others.now ≤ 8 }
         requires few { length states.now ≤ 8 }

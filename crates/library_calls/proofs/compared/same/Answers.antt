@@ -2,4 +2,4 @@ use Rattle.library_calls.proofs.Answering.{placed-compares}
 use Rattle.library_calls.proofs.compared.same.Goals as goal
 
 pub returns : goal.returns
-returns c = placed-compares c.args.room.limit c.args.first.now c.args.second.now c.compare.result c.compare.ensures
+returns c = placed-compares c.args.options.limit c.args.first.now c.args.second.now c.compare.result c.compare.ensures

@@ -5,10 +5,10 @@ use Rattle.library_calls.proofs.comparison.compare.Goals as goal
 
 pub returns-in-Ok : goal.returns-in-Ok
 returns-in-Ok c =
-    subst (ComparesInForm c.args.form c.args.room.limit c.args.first.now c.args.second.now) (sym c.of.ensures)
+    subst (ComparesInForm c.args.form c.args.options.limit c.args.first.now c.args.second.now) (sym c.of.ensures)
     (by_answer refl refl c.in-Ok.ensures.accepted.0 c.in-Ok.ensures.accepted.1 c.in-Ok.ensures.few (is-answer c.in-Ok.answer c.in-Ok.ensures.answer))
 
 pub returns : goal.returns
 returns c =
-    subst (ComparesInForm c.args.form c.args.room.limit c.args.first.now c.args.second.now) (sym c.refused.ensures)
-    (by_fault c.in-Err.fault refl refl refl (c.in-Err.ensures.fault c.args.room.limit c.store_of-store.ensures))
+    subst (ComparesInForm c.args.form c.args.options.limit c.args.first.now c.args.second.now) (sym c.refused.ensures)
+    (by_fault c.in-Err.fault refl refl refl (c.in-Err.ensures.fault c.args.options.limit c.store_of-store.ensures))

@@ -9,6 +9,6 @@ use Rattle.library_calls.proofs.in_form.canon_form.Goals as goal
 pub returns : goal.returns
 returns c =
     at-form _ _ _ c.in-Some.form (sym c.form_of.ensures ∙ c.in-Some.is)
-    (answers-in-form c.in-Some.form c.args.room.limit c.args.bytes.now _ _ _
-    (subst (λ (f : Form). Answers (IsTextOf f c.args.bytes.now) (RefusesTextOf f c.args.room.limit c.args.bytes.now) c.args.out.now c.answer.new.out
+    (answers-in-form c.in-Some.form c.args.options.limit c.args.bytes.now _ _ _
+    (subst (λ (f : Form). Answers (IsTextOf f c.args.bytes.now) (RefusesTextOf f c.args.options.limit c.args.bytes.now) c.args.out.now c.answer.new.out
     c.answer.result) c.text_in.ensures c.answer.ensures))

@@ -19,6 +19,6 @@ returns-in-Ok c =
 pub returns-in-Err : goal.returns-in-Err
 returns-in-Err c =
     at-form _ _ _ c.in-Some.form (sym c.form_of.ensures ∙ c.in-Some.is) (by_fault c.in-Err.fault
-    (refused-in-form c.in-Some.form c.args.room.limit c.args.bytes.now c.in-Err.fault
-    (subst (λ (f : Form). RefusesTextOf f c.args.room.limit c.args.bytes.now c.in-Err.fault) c.text_in.ensures c.in-Err.ensures.fault))
+    (refused-in-form c.in-Some.form c.args.options.limit c.args.bytes.now c.in-Err.fault
+    (subst (λ (f : Form). RefusesTextOf f c.args.options.limit c.args.bytes.now c.in-Err.fault) c.text_in.ensures c.in-Err.ensures.fault))
     (record { status = c.refuse.ensures.status; line = c.refuse.ensures.line; needed = c.refuse.ensures.needed; kept = refl }))

@@ -13,5 +13,5 @@ returns-clause-by_rule c = λ status here.
 pub returns-clause-by_table : goal.returns-clause-by_table
 returns-clause-by_table c = λ status here.
     map_ok c.canon.result
-    (λ again is. fixed_by_so c.files_are_unique.ensures c.args.room.limit c.args.file.now c.args.rules.now c.args.text.now again.items _ _ _ _
+    (λ again is. fixed_by_so c.files_are_unique.ensures c.args.options.limit c.args.file.now c.args.rules.now c.args.text.now again.items _ _ _ _
     c.step_by_table.ensures status here is) c.canon.ensures.text

@@ -6,4 +6,4 @@ returns c =
     reworded c.show.ensures
     (lines_so c.canonical_is_least.ensures c.files_are_on_plane.ensures c.files_are_unique.ensures c.texts_are_files.ensures c.texts_keep_patterns.ensures
     c.args.file.now)
-    (unread c.args.room.limit c.args.file.now)
+    (unread c.args.options.limit c.args.file.now)

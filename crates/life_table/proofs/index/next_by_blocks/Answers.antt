@@ -1,7 +1,7 @@
 use Rattle.std.proofs.Common.{◌≡◌, ◌+◌, List, length, drop, refl, ap, sym, ◌∙◌, subst, slice_index, arith}
 use Rattle.life_table.specs.Around.{cells_of}
-use Rattle.life_table.specs.Index.{AreBlocks, IsDecided}
-use Rattle.life_table.specs.Meaning.{Becomes, Decides}
+use Rattle.life_table.specs.Index.{AreBlocks}
+use Rattle.life_table.specs.Meaning.{Becomes, Decides, DecidesAs}
 use Rattle.life_table.specs.Seen.{IsSeen}
 use Rattle.life_table.specs.Valid.{neighbour_count}
 use Rattle.life_table.proofs.Answering.{silent_all}
@@ -34,7 +34,7 @@ pub returns-in-Some : goal.returns-in-Some
 returns-in-Some c =
     let table = c.args.table.now in
     through
-    (λ vars cells lines. IsDecided table.symmetry vars (slice_index cells 0) (drop 1 cells) lines c.in-Some.answer)
+    (λ vars cells lines. DecidesAs table.symmetry vars (slice_index cells 0) (drop 1 cells) lines c.in-Some.answer)
     table.vars c.as_slice-vars.result.now (cells_of c.args.around.now) c.as_slice-cells.result.now table.lines c.as_slice-lines.result.now
     c.as_slice-vars.ensures c.as_slice-cells.ensures c.as_slice-lines.ensures c.in-Some.ensures
 

@@ -35,18 +35,18 @@ returns-then-not-self-clause-ok c = λ lines s.
     started (sym c.begins_with.ensures ∙ c.if-not-begins_with.false) refl
     (ap (λ (v : Standing). v.rule) c.self.view_is) (ap (λ (v : Standing). v.generation) c.self.view_is) (ap (λ (v : Standing). v.levels) c.self.view_is)
 
-pub returns-in_err-meaning-clause-err : goal.returns-in_err-meaning-clause-err
-returns-in_err-meaning-clause-err c = λ lines s.
+pub returns-in_err-parsed-clause-err : goal.returns-in_err-parsed-clause-err
+returns-in_err-parsed-clause-err c = λ lines s.
     let now = c.args.self.now in
     let line = c.args.line.now in
-    let kind : Kind = c.in_err-meaning.field-0.0 in
+    let kind : Kind = c.in_err-parsed.field-0.0 in
     let started : now.started ≡ true = ap (λ (v : Standing). v.started) (sym c.self.view_is) ∙ c.if-not-self.false in
     let same : broken_after MAX_LEVEL now.rule now.levels line ≡ broken_after MAX_LEVEL c.self.inside.rule c.deref.result.now line =
     ap (λ (v : Standing). broken_after MAX_LEVEL v.rule v.levels line) (sym c.self.view_is)
     ∙ ap (λ (ls : List ℕ). broken_after MAX_LEVEL c.self.inside.rule ls line) (sym c.deref.ensures.value) in
-    let meaning : (kind ≡ Memory) ⊎ (broken_after MAX_LEVEL c.self.inside.rule c.deref.result.now line ≡ Some kind) = c.in_err-meaning.ensures in
+    let parsed : (kind ≡ Memory) ⊎ (broken_after MAX_LEVEL c.self.inside.rule c.deref.result.now line ≡ Some kind) = c.in_err-parsed.ensures in
     let p = err_from_is_err_and c.from_residual.result c.from_residual.ensures.1 in
-    let answer : (kind ≡ Memory) ⊎ (broken MAX_LEVEL lines line ≡ Some kind) = elim meaning [
+    let answer : (kind ≡ Memory) ⊎ (broken MAX_LEVEL lines line ≡ Some kind) = elim parsed [
       | inl m ↦ inl m
       | inr b ↦ inr (broken_is MAX_LEVEL lines line now s (short c.args.line.now c.is_too_long.result c.is_too_long.ensures c.if-is_too_long.false) started
           ∙ same ∙ b)
@@ -57,7 +57,7 @@ pub returns-clause-ok : goal.returns-clause-ok
 returns-clause-ok c = λ lines s.
     let now = c.args.self.now in
     let line = c.args.line.now in
-    let meaning = c.in_ok-meaning.meaning in
+    let parsed = c.in_ok-parsed.parsed in
     let started : now.started ≡ true = ap (λ (v : Standing). v.started) (sym c.self.view_is) ∙ c.if-not-self.false in
     let same : broken_after MAX_LEVEL now.rule now.levels line ≡ broken_after MAX_LEVEL c.self.inside.rule c.deref.result.now line =
     ap (λ (v : Standing). broken_after MAX_LEVEL v.rule v.levels line) (sym c.self.view_is)
@@ -65,6 +65,6 @@ returns-clause-ok c = λ lines s.
     combine c.keep.result c.keep.ensures.square c.keep.ensures.rule c.keep.ensures.generation c.keep.ensures.levels
     (λ square p r g l.
     let n = stands_next MAX_LEVEL lines line now c.keep.new.self s (short c.args.line.now c.is_too_long.result c.is_too_long.ensures c.if-is_too_long.false)
-    meaning started (same ∙ c.in_ok-meaning.ensures.1) c.in_ok-meaning.ensures.0
+    parsed started (same ∙ c.in_ok-parsed.ensures.1) c.in_ok-parsed.ensures.0
     c.keep.ensures.started r g l in
     (p ∙ n.0, n.1))
