@@ -24,11 +24,8 @@ pub extern "C" fn golly_canon_canon(
     ensures { Answers (IsCanonicalText bytes.now) (RefusesWithin limit bytes.now) out.old out.new
         (told result needed.new line.new) }
 {
-    tell(
-        canon(alloc, bytes, Options { limit, seed }, out),
-        needed,
-        line,
-    )
+    let answer = canon(alloc, bytes, Options { limit, seed }, out);
+    tell(answer, needed, line)
 }
 
 /// The text in extended RLE of the pattern of a file of either format.
@@ -63,11 +60,8 @@ pub extern "C" fn golly_canon_show(
     ensures { Answers (IsShown MAX_LEVEL bytes.now) (RefusesWithin limit bytes.now) out.old
         out.new (told result needed.new line.new) }
 {
-    tell(
-        show(alloc, bytes, Options { limit, seed }, out),
-        needed,
-        line,
-    )
+    let answer = show(alloc, bytes, Options { limit, seed }, out);
+    tell(answer, needed, line)
 }
 
 /// The canonical text of the next generation of the pattern of a file, under its B/S rule.
@@ -84,11 +78,8 @@ pub extern "C" fn golly_canon_step(
     ensures { Answers (IsStepped bytes.now) (RefusesStepWithin limit bytes.now) out.old out.new
         (told result needed.new line.new) }
 {
-    tell(
-        step(alloc, bytes, Options { limit, seed }, out),
-        needed,
-        line,
-    )
+    let answer = step(alloc, bytes, Options { limit, seed }, out);
+    tell(answer, needed, line)
 }
 
 /// The canonical text of the next generation of the pattern of a file, by a rule table, whose file is `table`. A refusal of the table itself

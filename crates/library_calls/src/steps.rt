@@ -13,8 +13,8 @@ use std::alloc::Global;
 
 /// The canonical text of the next generation of the pattern of a file, under its B/S rule.
 pub fn step(alloc: Global, bytes: &[u8], options: Options, out: &mut [u8]) -> Told
-    ensures { Answers (IsStepped bytes.now) (RefusesStepWithin options.limit bytes.now) out.old out.new
-        result }
+    ensures { Answers (IsStepped bytes.now) (RefusesStepWithin options.limit bytes.now)
+        out.old out.new result }
 {
     answer(alloc, bytes, Form::Next, options, out)
 }

@@ -84,8 +84,8 @@ pub fn canon(alloc: Global, bytes: &[u8], options: Options, out: &mut [u8]) -> T
 
 /// The text in extended RLE of the pattern of a file of either format.
 pub fn to_rle(alloc: Global, bytes: &[u8], options: Options, out: &mut [u8]) -> Told
-    ensures { Answers (IsRleText bytes.now) (RefusesRleWithin options.limit bytes.now) out.old out.new
-        result }
+    ensures { Answers (IsRleText bytes.now) (RefusesRleWithin options.limit bytes.now)
+        out.old out.new result }
 {
     answer(alloc, bytes, Form::Rle, options, out)
 }

@@ -34,8 +34,8 @@ pub fn rle_is_told(alloc: Global, file: &[u8], options: Options, out: &mut [u8])
 
 /// The same of the five lines that tell a file's pattern.
 pub fn lines_are_told(alloc: Global, file: &[u8], options: Options, out: &mut [u8]) -> Told
-    ensures { Answers (AreFiveLines file.now) (IsUnreadWithin options.limit file.now) out.old out.new
-        result }
+    ensures { Answers (AreFiveLines file.now) (IsUnreadWithin options.limit file.now)
+        out.old out.new result }
 {
     canonical_is_least();
     files_are_on_plane();

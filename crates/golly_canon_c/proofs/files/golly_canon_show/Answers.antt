@@ -1,4 +1,4 @@
 use Rattle.golly_canon_c.proofs.files.golly_canon_show.Goals as goal
 
 pub returns : goal.returns
-returns c = rw c.tell.ensures at c.show.ensures
+returns c = rw c.tell.ensures at c.show-answer.ensures
