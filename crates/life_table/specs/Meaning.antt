@@ -8,7 +8,6 @@ use Rattle.life_table.specs.declared.table.Symmetry.{Symmetry}
 use Rattle.life_table.specs.declared.table.Var.{Var}
 use Rattle.life_table.specs.declared.table.Entry.{Entry}
 use Rattle.life_table.specs.declared.table.Entry.TheVariants as entries
-use Rattle.life_table.specs.declared.table.Table.{Table}
 use Rattle.life_table.specs.declared.table.Transition.{Transition}
 
 -- a variable may be this state: its bit is set
@@ -87,7 +86,3 @@ module _ (symmetry : Symmetry) (vars : List Var) (centre : ℕ) (others : List �
   abbrev pub DecidesAs : List Transition → Result ℕ Fault → Type 0
   DecidesAs lines result = MatchResult result (λ s. Decides lines (Becomes s))
       (λ fault. (fault.kind ≡ kinds.Ambiguous) × Decides lines (Ambiguous fault.place.line))
-
--- what a table tells of a cell and its neighbours, by their states: the cell's own state is the first of them
-abbrev pub TellsNext : Table → List ℕ → Result ℕ Fault → Type 0
-TellsNext table cells = DecidesAs table.symmetry table.vars (slice_index cells 0) (drop 1 cells) table.lines

@@ -2,7 +2,7 @@
 pub use Rattle.life_base.specs.Refusal.{Answers, IsMemory, OrMemory}
 pub use Rattle.life_base.specs.Rules.{rule_of}
 pub use Rattle.life_base.specs.Text.{lines_of}
-pub use Rattle.life_table.specs.Around.{cells_of}
+pub use Rattle.life_table.specs.Around.{cells_of, TellsNext}
 pub use Rattle.life_table.specs.Found.{Adds, Consistent, SomeGives, Tells}
 pub use Rattle.life_table.specs.Grammar.{GrammarsAgree, IsFile}
 pub use Rattle.life_table.specs.Index.{AnswersAmong, AreBlocks, AreCounts, Asks, entry_at, HasLine, HasLines, InSets, is_among, IsApart, IsImage, IsQuery}
@@ -10,7 +10,7 @@ pub use Rattle.life_table.specs.Index.{KeepsOrders, MayBeBehind, MayFit, MayFitI
 pub use Rattle.life_table.specs.Laws.{AcceptedWritesTable, LinesBreakByKinds, NothingDropped, OneAnswer, OrdersByCounts, PermuteByCounts, RefusalsHaveKinds}
 pub use Rattle.life_table.specs.Laws.{ZeroStaysZero}
 pub use Rattle.life_table.specs.Meaning.{Ambiguous, Becomes, count_of, Decides, Gives, GivesAs, GivesByCounts, GivesNothing, has_state, HasState, IsChoice}
-pub use Rattle.life_table.specs.Meaning.{state_of, TellsNext}
+pub use Rattle.life_table.specs.Meaning.{state_of}
 pub use Rattle.life_table.specs.Orders.{family, images, orders, reflected_turn, reflected_turns, turn, turns}
 pub use Rattle.life_table.specs.Reader.{after, AreEntriesOf, fits_after, IsGood, IsKept, nothing_parsed, parts_left}
 pub use Rattle.life_table.specs.Reading.{agree, begins_rule_line, between_commas, bytes_alone, content, Describes, entries_of, entry_of, if_named}

@@ -1,6 +1,5 @@
 use Rattle.std.proofs.Common.{subst}
-use Rattle.life_table.specs.Around.{cells_of}
-use Rattle.life_table.specs.Meaning.{TellsNext}
+use Rattle.life_table.specs.Around.{cells_of, TellsNext}
 use Rattle.life_table.specs.declared.table.Table.{Table}
 use Rattle.life_table.proofs.index.Index.next.Goals as goal
 
