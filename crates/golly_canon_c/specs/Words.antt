@@ -1,14 +1,14 @@
 -- The words of the contracts of this crate.
 pub use Rattle.golly_canon_c.specs.Naming.{status_name}
-pub use Rattle.library_calls.specs.Answers.{IsCanonicalText, IsRleText, RefusesRleWithin, RefusesWithin}
+pub use Rattle.library_calls.specs.Texts.{IsCanonicalText, IsRleText, RefusesRleWithin, RefusesWithin}
 pub use Rattle.library_calls.specs.Comparing.{compared, ComparesWithin}
 pub use Rattle.library_calls.specs.ComparingInForm.{ComparesInForm, ComparesInNone}
-pub use Rattle.library_calls.specs.Forms.{text_in}
+pub use Rattle.library_calls.specs.Outputs.{text_in}
 pub use Rattle.library_calls.specs.InForm.{form_numbered, IsKeyInForm, IsTextInForm, AnswersInForm}
 pub use Rattle.library_calls.specs.Stepping.{RefusesStepWithin, StepsByTable}
 pub use Rattle.library_calls.specs.Streams.{Feeds, Finishes, IsSpent, Opens, session_of, TellsEnd, TellsNothing, TellsPiece}
 pub use Rattle.library_calls.specs.Told.{Answers, Gives, told}
-pub use Rattle.library_calls.specs.declared.session.Form.{Form as FormValue}
+pub use Rattle.library_calls.specs.declared.texts.Output.{Output as OutputValue}
 pub use Rattle.life_base.specs.Kinds.{kind_name, kind_number}
 pub use Rattle.life_base.specs.declared.kind.Kind.{Kind as KindValue}
 pub use Rattle.life_canon.specs.Texts.{IsShown}

@@ -1,10 +1,10 @@
 //! The calls on streams: a file in pieces, and one answer at its end.
 
 ghost use Rattle.std.specs.Prelude.{◌≡◌, None, IfSome, MatchOption};
-ghost use Rattle.golly_canon_c.specs.Words.{text_in, form_numbered, session_of, Opens, Feeds, Finishes, IsSpent, TellsPiece, TellsNothing, TellsEnd, told, FormValue};
+ghost use Rattle.golly_canon_c.specs.Words.{text_in, form_numbered, session_of, Opens, Feeds, Finishes, IsSpent, TellsPiece, TellsNothing, TellsEnd, told, OutputValue};
 
 use crate::told::tell;
-use library_calls::{Form, Options, Stream, close, feed, finish, open, open_canon_form};
+use library_calls::{Options, Output, Stream, close, feed, finish, open, open_canon_form};
 use std::alloc::Global;
 
 /// Opens a stream whose end gives the canonical text, and closes it first where it is open.
@@ -15,9 +15,9 @@ pub extern "C" fn golly_canon_open_canon(
     limit: u64,
     seed: u64,
 ) -> u32
-    ensures { Opens FormValue.Canonical limit result (session_of stream.new) }
+    ensures { Opens OutputValue.Canonical limit result (session_of stream.new) }
 {
-    open(alloc, stream, Form::Canonical, Options { limit, seed })
+    open(alloc, stream, Output::Canonical, Options { limit, seed })
 }
 
 /// Opens a stream whose end gives the canonical text in the form with this number, and closes it first where it is open.
@@ -43,9 +43,9 @@ pub extern "C" fn golly_canon_open_to_rle(
     limit: u64,
     seed: u64,
 ) -> u32
-    ensures { Opens FormValue.Rle limit result (session_of stream.new) }
+    ensures { Opens OutputValue.Rle limit result (session_of stream.new) }
 {
-    open(alloc, stream, Form::Rle, Options { limit, seed })
+    open(alloc, stream, Output::Rle, Options { limit, seed })
 }
 
 /// Opens a stream whose end gives five lines on the pattern, and closes it first where it is open.
@@ -56,9 +56,9 @@ pub extern "C" fn golly_canon_open_show(
     limit: u64,
     seed: u64,
 ) -> u32
-    ensures { Opens FormValue.Lines limit result (session_of stream.new) }
+    ensures { Opens OutputValue.Lines limit result (session_of stream.new) }
 {
-    open(alloc, stream, Form::Lines, Options { limit, seed })
+    open(alloc, stream, Output::Lines, Options { limit, seed })
 }
 
 /// Opens a stream whose end gives the canonical text of the next generation under the file's B/S rule, and closes it first where it is open.
@@ -69,9 +69,9 @@ pub extern "C" fn golly_canon_open_step(
     limit: u64,
     seed: u64,
 ) -> u32
-    ensures { Opens FormValue.Next limit result (session_of stream.new) }
+    ensures { Opens OutputValue.Next limit result (session_of stream.new) }
 {
-    open(alloc, stream, Form::Next, Options { limit, seed })
+    open(alloc, stream, Output::Next, Options { limit, seed })
 }
 
 /// Takes the next piece of the file. The fault of a line that it tells is that of the whole file, whatever bytes follow (`faults_stay` of

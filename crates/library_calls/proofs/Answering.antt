@@ -15,7 +15,7 @@ use Rattle.life_canon.specs.Universe.{Universe}
 use Rattle.life_step.specs.Refusals.{LacksForStepBy, TableRefusal}
 use Rattle.life_table.specs.declared.table.Table.{Table}
 use Rattle.library_calls.specs.Told.{Told, Gives, Tells, Answers, by_text, by_fault}
-use Rattle.library_calls.specs.Answers.{room_of, IsTooSmallFor}
+use Rattle.library_calls.specs.Texts.{room_of, IsTooSmallFor}
 use Rattle.library_calls.specs.Comparing.{Compared, ComparesWithin}
 use Rattle.library_calls.specs.Comparing as compared
 use Rattle.library_calls.specs.ComparingInForm.{ComparesInForm}

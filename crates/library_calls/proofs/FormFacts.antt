@@ -25,7 +25,7 @@ use Rattle.life_forms.specs.Images.{IsTurnedText}
 use Rattle.life_forms.specs.Needed.{HasFewCells, LacksForMoved}
 use Rattle.life_forms.proofs.PatternFacts.{root-high}
 use Rattle.life_forms.proofs.PlaneFacts.{are-cells}
-use Rattle.library_calls.specs.Answers.{room_of}
+use Rattle.library_calls.specs.Texts.{room_of}
 use Rattle.library_calls.specs.Comparing.{IsTightForBoth, IsTooSmallForBoth}
 use Rattle.library_calls.specs.ComparingInForm.{AreOfOneGeneration, EitherHasMany, HasTooMany, SayRelated, RefusesEitherInForm, LacksForEitherMoved}
 use Rattle.library_calls.specs.InForm.{IsTextMoved, IsTextTurned, RefusesInForm}

@@ -8,11 +8,11 @@ use Rattle.life_base.specs.declared.kind.Kind.TheVariants.{Full}
 use Rattle.life_quad.specs.Store.{Nodes}
 use Rattle.life_canon.specs.Feeding.{RefusesFront}
 use Rattle.life_canon.specs.Store.{IsWant}
-use Rattle.library_calls.specs.Answers.{room_of}
-use Rattle.library_calls.specs.Forms.{Piecewise, IsTextOf, IsTooSmallForFront, RefusesTextOf, RefusesPiece}
+use Rattle.library_calls.specs.Texts.{room_of}
+use Rattle.library_calls.specs.Outputs.{Piecewise, IsTextOf, IsTooSmallForFront, RefusesTextOf, RefusesPiece}
 use Rattle.library_calls.specs.Streams.{IsFed, HasText, HasFault, by_piece, by_text, StaysEnded, Feeds, Finishes}
 use Rattle.library_calls.specs.Streams as streams
-use Rattle.library_calls.specs.declared.session.Form.{Form}
+use Rattle.library_calls.specs.declared.texts.Output.{Output}
 use Rattle.library_calls.specs.declared.session.Session.{Session}
 use Rattle.library_calls.specs.declared.session.Session.TheVariants.{Reading, Written, Refused}
 
@@ -32,11 +32,11 @@ none-yet session feeding new is =
 
 -- a piece that is taken
 pub feeds-piece : (piece : List ℕ) (session : Session) (feeding next : Piecewise) → session ≡ Reading feeding
-    → next ≡ record { form = feeding.form; room = feeding.room; bytes = feeding.bytes ++ piece }
+    → next ≡ record { output = feeding.output; room = feeding.room; bytes = feeding.bytes ++ piece }
     → ((fault : Fault) → ¬ RefusesFront MAX_LEVEL (feeding.bytes ++ piece) fault) → Feeds piece (Some session) (Some (Reading next))
 feeds-piece piece session feeding next is after front = record {
-  takes = λ form limit bytes fed. let f = subst (IsFed form limit bytes) is fed in by_piece
-      (ap (λ (v : Piecewise). v.form) after ∙ f.0, ap (λ (v : Piecewise). v.room) after ∙ f.1, ap (λ (v : Piecewise). v.bytes) after ∙ ap (λ b. b ++ piece) f.2)
+  takes = λ output limit bytes fed. let f = subst (IsFed output limit bytes) is fed in by_piece
+      (ap (λ (v : Piecewise). v.output) after ∙ f.0, ap (λ (v : Piecewise). v.room) after ∙ f.1, ap (λ (v : Piecewise). v.bytes) after ∙ ap (λ b. b ++ piece) f.2)
       (subst (λ b. (fault : Fault) → ¬ RefusesFront MAX_LEVEL (b ++ piece) fault) f.2 front);
   stays = none-yet session feeding _ is;
 }
@@ -45,47 +45,47 @@ feeds-piece piece session feeding next is after front = record {
 pub feeds-fault : (piece : List ℕ) (session : Session) (feeding : Piecewise) (fault : Fault) → session ≡ Reading feeding
     → ((limit : ℕ) → feeding.room ≡ room_of limit → RefusesPiece limit (feeding.bytes ++ piece) fault) → Feeds piece (Some session) (Some (Refused fault))
 feeds-fault piece session feeding fault is why = record {
-  takes = λ form limit bytes fed. let f = subst (IsFed form limit bytes) is fed in
+  takes = λ output limit bytes fed. let f = subst (IsFed output limit bytes) is fed in
       streams.by_fault fault refl (subst (λ b. RefusesPiece limit (b ++ piece) fault) f.2 (why limit f.1));
   stays = none-yet session feeding _ is;
 }
 
 -- the text of the end
-pub ends-text : (session : Session) (feeding : Piecewise) (text : Vec ℕ) → session ≡ Reading feeding → IsTextOf feeding.form feeding.bytes text.items
+pub ends-text : (session : Session) (feeding : Piecewise) (text : Vec ℕ) → session ≡ Reading feeding → IsTextOf feeding.output feeding.bytes text.items
     → Finishes (Some session) (Some (Written text))
 ends-text session feeding text is good = record {
-  ends = λ form limit bytes fed. let f = subst (IsFed form limit bytes) is fed in
-      by_text text.items refl (subst (λ b. IsTextOf form b text.items) f.2 (subst (λ k. IsTextOf k feeding.bytes text.items) f.0 good));
+  ends = λ output limit bytes fed. let f = subst (IsFed output limit bytes) is fed in
+      by_text text.items refl (subst (λ b. IsTextOf output b text.items) f.2 (subst (λ k. IsTextOf k feeding.bytes text.items) f.0 good));
   stays = none-yet session feeding _ is;
 }
 
 -- its fault
 pub ends-fault : (session : Session) (feeding : Piecewise) (fault : Fault) → session ≡ Reading feeding
-    → ((limit : ℕ) → feeding.room ≡ room_of limit → RefusesTextOf feeding.form limit feeding.bytes fault)
+    → ((limit : ℕ) → feeding.room ≡ room_of limit → RefusesTextOf feeding.output limit feeding.bytes fault)
     → Finishes (Some session) (Some (Refused fault))
 ends-fault session feeding fault is why = record {
-  ends = λ form limit bytes fed. let f = subst (IsFed form limit bytes) is fed in streams.by_fault fault refl
-      (subst (λ b. RefusesTextOf form limit b fault) f.2 (subst (λ k. RefusesTextOf k limit feeding.bytes fault) f.0 (why limit f.1)));
+  ends = λ output limit bytes fed. let f = subst (IsFed output limit bytes) is fed in streams.by_fault fault refl
+      (subst (λ b. RefusesTextOf output limit b fault) f.2 (subst (λ k. RefusesTextOf k limit feeding.bytes fault) f.0 (why limit f.1)));
   stays = none-yet session feeding _ is;
 }
 
 -- a session that is not read any more was not fed
-not-fed : (form : Form) (limit : ℕ) (bytes : List ℕ) (session : Session) → ((feeding : Piecewise) → session ≡ Reading feeding → ⊥)
-    → ¬ IsFed form limit bytes session
-not-fed form limit bytes (Reading feeding) ended fed = ended feeding refl
-not-fed form limit bytes (Written text) ended fed = fed
-not-fed form limit bytes (Refused fault) ended fed = fed
+not-fed : (output : Output) (limit : ℕ) (bytes : List ℕ) (session : Session) → ((feeding : Piecewise) → session ≡ Reading feeding → ⊥)
+    → ¬ IsFed output limit bytes session
+not-fed output limit bytes (Reading feeding) ended fed = ended feeding refl
+not-fed output limit bytes (Written text) ended fed = fed
+not-fed output limit bytes (Refused fault) ended fed = fed
 
 -- it stays as it is
 pub fed-ended : (piece : List ℕ) (session : Session) → ((feeding : Piecewise) → session ≡ Reading feeding → ⊥) → Feeds piece (Some session) (Some session)
 fed-ended piece session ended = record {
-  takes = λ form limit bytes fed. absurd (not-fed form limit bytes session ended fed);
+  takes = λ output limit bytes fed. absurd (not-fed output limit bytes session ended fed);
   stays = record { text = λ text has. has; fault = λ fault has. has };
 }
 
 pub ended-ended : (session : Session) → ((feeding : Piecewise) → session ≡ Reading feeding → ⊥) → Finishes (Some session) (Some session)
 ended-ended session ended = record {
-  ends = λ form limit bytes fed. absurd (not-fed form limit bytes session ended fed);
+  ends = λ output limit bytes fed. absurd (not-fed output limit bytes session ended fed);
   stays = record { text = λ text has. has; fault = λ fault has. has };
 }
 

@@ -1,4 +1,4 @@
--- The text of a pattern that was read into a store, in each form.
+-- The text of a pattern that was read into a store, for each output.
 use Rattle.std.proofs.Common.{◌≡◌, ℕ, ◌<◌, ◌≤◌, ◌^◌, ◌∙◌, subst, sym, List, ◌⊎◌, inl, inr, Some, Result, IfOk, IfErr}
 use Rattle.life_base.specs.Refusal.{fault_of}
 use Rattle.life_base.specs.Rules.{IsRule}
@@ -16,12 +16,12 @@ use Rattle.life_canon.specs.Texts.{HasMoreCells}
 use Rattle.life_canon.specs.Universe.{Universe, IsSame, IsOnPlane}
 use Rattle.life_canon.specs.declared.pattern.Pattern.{Pattern}
 use Rattle.life_step.specs.Refusals.{LacksForLife, LacksForNext, LifeRefusal}
-use Rattle.library_calls.specs.Answers.{IsCanonicalText, IsTooSmallFor, room_of}
-use Rattle.library_calls.specs.Forms.{IsTextOf, IsTextOfRead, RefusesTextOf, RefusesTextOfRead, text_in}
+use Rattle.library_calls.specs.Texts.{IsCanonicalText, IsTooSmallFor, room_of}
+use Rattle.library_calls.specs.Outputs.{IsTextOf, IsTextOfRead, RefusesTextOf, RefusesTextOfRead, text_in}
 use Rattle.library_calls.specs.InForm.{IsTextInForm, RefusesInForm}
 use Rattle.library_calls.specs.Told.{Told, Answers}
-use Rattle.library_calls.specs.declared.session.Form.{Form}
-use Rattle.library_calls.specs.declared.session.Form.TheVariants.{Canonical, Rle, Lines, Next, Moved, Turned}
+use Rattle.library_calls.specs.declared.texts.Output.{Output}
+use Rattle.library_calls.specs.declared.texts.Output.TheVariants.{Canonical, Rle, Lines, Next, Moved, Turned}
 use Rattle.library_calls.specs.declared.pattern_form.PatternForm.{PatternForm}
 use Rattle.library_calls.specs.declared.pattern_form.PatternForm.TheVariants as forms
 use Rattle.library_calls.proofs.Answering.{not-full}
@@ -59,8 +59,8 @@ canonical fit plane tell files least bytes store pattern text is read =
     )
 
 -- why a file is refused at its end, or room or memory wanted
-pub text-fault : (form : Form) (limit : ℕ) (bytes : List ℕ) (store : Nodes) (fault : Fault) → store.limit ≡ room_of limit
-    → RefusesIn MAX_LEVEL bytes store fault → (fault ≡ fault_of Full → IsTooSmallFor bytes store) → RefusesTextOf form limit bytes fault
+pub text-fault : (output : Output) (limit : ℕ) (bytes : List ℕ) (store : Nodes) (fault : Fault) → store.limit ≡ room_of limit
+    → RefusesIn MAX_LEVEL bytes store fault → (fault ≡ fault_of Full → IsTooSmallFor bytes store) → RefusesTextOf output limit bytes fault
 text-fault Canonical limit bytes store fault is (inl refuses) lacks = inl refuses
 text-fault Canonical limit bytes store fault is (inr want) lacks = inr (store, is, want, lacks)
 text-fault Rle limit bytes store fault is (inl refuses) lacks = inl (inl refuses)
@@ -74,38 +74,38 @@ text-fault Moved limit bytes store fault is (inr want) lacks = inl (inr (store, 
 text-fault Turned limit bytes store fault is (inl refuses) lacks = inl (inl refuses)
 text-fault Turned limit bytes store fault is (inr want) lacks = inl (inr (store, is, want, lacks))
 
--- memory is wanted for a text of any form
-pub wants : (form : Form) (store : Nodes) (pattern : Pattern) (fault : Fault) → fault ≡ fault_of Memory → RefusesTextOfRead form store pattern fault
-wants form store pattern fault memory = λ limit bytes is read.
-    text-fault form limit bytes store fault is (inr (inl memory)) (not-full fault memory)
+-- memory is wanted for any output
+pub wants : (output : Output) (store : Nodes) (pattern : Pattern) (fault : Fault) → fault ≡ fault_of Memory → RefusesTextOfRead output store pattern fault
+wants output store pattern fault memory = λ limit bytes is read.
+    text-fault output limit bytes store fault is (inr (inl memory)) (not-full fault memory)
 
--- the text of a form that is another one
-pub of-form : {X : Type 0} {form that : Form} (store : Nodes) (pattern : Pattern) (items : X → List ℕ) (r : Result X Fault) → form ≡ that
-    → IfOk r (λ x. IsTextOfRead that store pattern (items x)) → IfOk r (λ x. IsTextOfRead form store pattern (items x))
+-- the text of an output that is another one
+pub of-form : {X : Type 0} {output that : Output} (store : Nodes) (pattern : Pattern) (items : X → List ℕ) (r : Result X Fault) → output ≡ that
+    → IfOk r (λ x. IsTextOfRead that store pattern (items x)) → IfOk r (λ x. IsTextOfRead output store pattern (items x))
 of-form store pattern items r is text =
-    subst (λ (f : Form). IfOk r (λ x. IsTextOfRead f store pattern (items x))) (sym is) text
+    subst (λ (f : Output). IfOk r (λ x. IsTextOfRead f store pattern (items x))) (sym is) text
 
 -- and its refusal
-pub of-fault : {X : Type 0} {form that : Form} (store : Nodes) (pattern : Pattern) (r : Result X Fault) → form ≡ that
-    → IfErr r (RefusesTextOfRead that store pattern) → IfErr r (RefusesTextOfRead form store pattern)
-of-fault store pattern r is why = subst (λ (f : Form). IfErr r (RefusesTextOfRead f store pattern)) (sym is) why
+pub of-fault : {X : Type 0} {output that : Output} (store : Nodes) (pattern : Pattern) (r : Result X Fault) → output ≡ that
+    → IfErr r (RefusesTextOfRead that store pattern) → IfErr r (RefusesTextOfRead output store pattern)
+of-fault store pattern r is why = subst (λ (f : Output). IfErr r (RefusesTextOfRead f store pattern)) (sym is) why
 
--- the text of a pattern in a form is the text in this form
-pub in-form : (form : PatternForm) (bytes text : List ℕ) → IsTextOf (text_in form) bytes text → IsTextInForm form bytes text
+-- the text of a pattern in a form is that of its output
+pub in-form : (output : PatternForm) (bytes text : List ℕ) → IsTextOf (text_in output) bytes text → IsTextInForm output bytes text
 in-form forms.Placed bytes text is = is
 in-form forms.Moved bytes text is = is
 in-form forms.Turned bytes text is = is
 
 -- so is its refusal
-pub refused-in-form : (form : PatternForm) (limit : ℕ) (bytes : List ℕ) (fault : Fault) → RefusesTextOf (text_in form) limit bytes fault
-    → RefusesInForm form limit bytes fault
+pub refused-in-form : (output : PatternForm) (limit : ℕ) (bytes : List ℕ) (fault : Fault) → RefusesTextOf (text_in output) limit bytes fault
+    → RefusesInForm output limit bytes fault
 refused-in-form forms.Placed limit bytes fault why = why
 refused-in-form forms.Moved limit bytes fault why = why
 refused-in-form forms.Turned limit bytes fault why = why
 
-pub answers-in-form : (form : PatternForm) (limit : ℕ) (bytes before after : List ℕ) (it : Told)
-    → Answers (IsTextOf (text_in form) bytes) (RefusesTextOf (text_in form) limit bytes) before after it
-    → Answers (IsTextInForm form bytes) (RefusesInForm form limit bytes) before after it
+pub answers-in-form : (output : PatternForm) (limit : ℕ) (bytes before after : List ℕ) (it : Told)
+    → Answers (IsTextOf (text_in output) bytes) (RefusesTextOf (text_in output) limit bytes) before after it
+    → Answers (IsTextInForm output bytes) (RefusesInForm output limit bytes) before after it
 answers-in-form forms.Placed limit bytes before after it answers = answers
 answers-in-form forms.Moved limit bytes before after it answers = answers
 answers-in-form forms.Turned limit bytes before after it answers = answers

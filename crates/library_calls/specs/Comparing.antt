@@ -7,7 +7,7 @@ use Rattle.life_quad.specs.Store.{Nodes}
 use Rattle.life_canon.specs.Files.{Accepted, Same, Refuses}
 use Rattle.life_canon.specs.Needs.{LacksFor}
 use Rattle.life_canon.specs.Room.{room_for}
-use Rattle.library_calls.specs.Answers.{Wants}
+use Rattle.library_calls.specs.Texts.{Wants}
 pub use Rattle.library_calls.specs.declared.compared.Compared.{Compared}
 
 -- the status and the numbers that are told

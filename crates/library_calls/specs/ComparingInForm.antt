@@ -10,7 +10,7 @@ use Rattle.life_canon.specs.Files.{Accepted, Reads, Refuses, Same}
 use Rattle.life_canon.specs.Texts.{HasMoreCells}
 use Rattle.life_canon.specs.Universe.{Universe}
 use Rattle.life_forms.specs.Forms.{IsShift, IsTurnedShift}
-use Rattle.library_calls.specs.Answers.{Wants}
+use Rattle.library_calls.specs.Texts.{Wants}
 use Rattle.library_calls.specs.Comparing.{Compared, IsTooSmallForBoth, RefusesEither}
 use Rattle.library_calls.specs.InForm.{LacksForMoving}
 use Rattle.library_calls.specs.declared.pattern_form.PatternForm.{PatternForm}

@@ -14,7 +14,7 @@ use Rattle.life_forms.specs.Forms.{IsMoved}
 use Rattle.life_forms.specs.Images.{IsTurnedText}
 use Rattle.life_forms.specs.Needed.{HasFewCells, LacksForMoved}
 use Rattle.library_calls.specs.Told.{Told, Answers}
-use Rattle.library_calls.specs.Answers.{IsCanonicalText, IsTooSmallFor, RefusesWithin, RefusesRleWithin, Wants}
+use Rattle.library_calls.specs.Texts.{IsCanonicalText, IsTooSmallFor, RefusesWithin, RefusesRleWithin, Wants}
 use Rattle.library_calls.specs.declared.pattern_form.PatternForm.{PatternForm}
 use Rattle.library_calls.specs.declared.pattern_form.PatternForm.TheVariants.{Placed, Moved, Turned}
 

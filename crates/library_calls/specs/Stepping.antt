@@ -12,7 +12,7 @@ use Rattle.life_table.specs.declared.table.Table.{Table}
 use Rattle.life_step.specs.Refusals.{LacksForStep, LacksForStepBy, LifeRefusal, TableRefusal}
 use Rattle.life_step.specs.Stepped.{IsSteppedBy}
 use Rattle.library_calls.specs.Told.{Told, Tells, Answers}
-use Rattle.library_calls.specs.Answers.{Wants}
+use Rattle.library_calls.specs.Texts.{Wants}
 
 -- Why bytes aren't stepped under their own rule: they are no file, or room or memory is wanted, or their pattern has no next generation. The squares
 -- of that generation are bounded by no length of a file, and so the limit isn't either.

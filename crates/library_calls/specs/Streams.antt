@@ -6,9 +6,9 @@ use Rattle.life_base.specs.declared.fault.Fault.{Fault}
 use Rattle.life_base.specs.declared.kind.Kind.TheVariants.{Memory, Spent}
 use Rattle.life_canon.specs.Feeding.{RefusesFront}
 use Rattle.library_calls.specs.Told.{Told, Gives, Tells}
-use Rattle.library_calls.specs.Answers.{room_of}
-use Rattle.library_calls.specs.Forms.{IsTextOf, RefusesTextOf, RefusesPiece}
-use Rattle.library_calls.specs.declared.session.Form.{Form}
+use Rattle.library_calls.specs.Texts.{room_of}
+use Rattle.library_calls.specs.Outputs.{IsTextOf, RefusesTextOf, RefusesPiece}
+use Rattle.library_calls.specs.declared.texts.Output.{Output}
 use Rattle.library_calls.specs.declared.session.Session.{Session}
 use Rattle.library_calls.specs.declared.session.Session.TheVariants.{Reading, Written, Refused}
 use Rattle.library_calls.specs.declared.stream.Stream.{Stream}
@@ -22,11 +22,11 @@ abbrev pub IsOpen : (Session → Type 0) → Option Session → Type 0
 IsOpen Holds None = ⊥
 IsOpen Holds (Some session) = Holds session
 
--- the bytes were fed to the session, whose end gives a text of this form, and whose store has the room of this limit
-abbrev pub IsFed : Form → ℕ → List ℕ → Session → Type 0
-IsFed form limit bytes (Reading feeding) = (feeding.form ≡ form) × (feeding.room ≡ room_of limit) × (feeding.bytes ≡ bytes)
-IsFed form limit bytes (Written text) = ⊥
-IsFed form limit bytes (Refused fault) = ⊥
+-- the bytes were fed to the session, whose end gives this output, and whose store has the room of this limit
+abbrev pub IsFed : Output → ℕ → List ℕ → Session → Type 0
+IsFed output limit bytes (Reading feeding) = (feeding.output ≡ output) × (feeding.room ≡ room_of limit) × (feeding.bytes ≡ bytes)
+IsFed output limit bytes (Written text) = ⊥
+IsFed output limit bytes (Refused fault) = ⊥
 
 -- the session has this text
 abbrev pub HasText : List ℕ → Session → Type 0
@@ -41,18 +41,18 @@ HasFault fault (Written text) = ⊥
 HasFault fault (Refused refused) = refused ≡ fault
 
 -- the stream is open, and no byte was fed; or memory was refused, and it is closed
-abbrev pub Opens : Form → ℕ → ℕ → Option Session → Type 0
-Opens form limit status session = ((status ≡ 0) × IsOpen (IsFed form limit []) session) ⊎ ((status ≡ kind_number Memory) × (session ≡ None))
+abbrev pub Opens : Output → ℕ → ℕ → Option Session → Type 0
+Opens output limit status session = ((status ≡ 0) × IsOpen (IsFed output limit []) session) ⊎ ((status ≡ kind_number Memory) × (session ≡ None))
 
 -- What a piece makes of a session, with which the bytes are these: they were fed, and have no fault that can be told; or their fault.
-pub data Takes (form : Form) (limit : ℕ) (bytes : List ℕ) (session : Session) : Type 0 where
-  by_piece : IsFed form limit bytes session → ((fault : Fault) → ¬ RefusesFront MAX_LEVEL bytes fault) → Takes form limit bytes session
-  by_fault : (fault : Fault) → HasFault fault session → RefusesPiece limit bytes fault → Takes form limit bytes session
+pub data Takes (output : Output) (limit : ℕ) (bytes : List ℕ) (session : Session) : Type 0 where
+  by_piece : IsFed output limit bytes session → ((fault : Fault) → ¬ RefusesFront MAX_LEVEL bytes fault) → Takes output limit bytes session
+  by_fault : (fault : Fault) → HasFault fault session → RefusesPiece limit bytes fault → Takes output limit bytes session
 
 -- what the end makes of it: the text of the bytes, or their fault
-pub data Ends (form : Form) (limit : ℕ) (bytes : List ℕ) (session : Session) : Type 0 where
-  by_text : (text : List ℕ) → HasText text session → IsTextOf form bytes text → Ends form limit bytes session
-  by_fault : (fault : Fault) → HasFault fault session → RefusesTextOf form limit bytes fault → Ends form limit bytes session
+pub data Ends (output : Output) (limit : ℕ) (bytes : List ℕ) (session : Session) : Type 0 where
+  by_text : (text : List ℕ) → HasText text session → IsTextOf output bytes text → Ends output limit bytes session
+  by_fault : (fault : Fault) → HasFault fault session → RefusesTextOf output limit bytes fault → Ends output limit bytes session
 
 -- a session that has a text or a fault keeps it
 pub record StaysEnded (old new : Option Session) : Type 0 where
@@ -61,12 +61,12 @@ pub record StaysEnded (old new : Option Session) : Type 0 where
 
 -- what a piece makes of the session of a stream: one that was fed so far takes the piece too, and one that has ended stays as it is
 pub record Feeds (piece : List ℕ) (old new : Option Session) : Type 0 where
-  pub takes : (form : Form) (limit : ℕ) (bytes : List ℕ) → IsOpen (IsFed form limit bytes) old → IsOpen (Takes form limit (bytes ++ piece)) new
+  pub takes : (output : Output) (limit : ℕ) (bytes : List ℕ) → IsOpen (IsFed output limit bytes) old → IsOpen (Takes output limit (bytes ++ piece)) new
   pub stays : StaysEnded old new
 
 -- what the end of the file makes of it: one that was fed so far ends with the text or the fault of all its bytes
 pub record Finishes (old new : Option Session) : Type 0 where
-  pub ends : (form : Form) (limit : ℕ) (bytes : List ℕ) → IsOpen (IsFed form limit bytes) old → IsOpen (Ends form limit bytes) new
+  pub ends : (output : Output) (limit : ℕ) (bytes : List ℕ) → IsOpen (IsFed output limit bytes) old → IsOpen (Ends output limit bytes) new
   pub stays : StaysEnded old new
 
 -- the call doesn't fit the stream

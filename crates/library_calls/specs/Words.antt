@@ -1,8 +1,8 @@
 -- The words of the contracts of this crate.
-pub use Rattle.library_calls.specs.Answers.{IsCanonicalText, IsFresh, IsRleText, RefusesRleWithin, RefusesWithin, room_of}
+pub use Rattle.library_calls.specs.Texts.{IsCanonicalText, IsFresh, IsRleText, RefusesRleWithin, RefusesWithin, room_of}
 pub use Rattle.library_calls.specs.Comparing.{compared, ComparesWithin, IsTooSmallForBoth}
 pub use Rattle.library_calls.specs.ComparingInForm.{AreOneInForm, ComparesInForm, ComparesInNone, HasTooMany, RefusesEitherInForm}
-pub use Rattle.library_calls.specs.Forms.{IsTextOf, IsTextOfRead, RefusesPiece, RefusesTextOf, RefusesTextOfRead, text_in}
+pub use Rattle.library_calls.specs.Outputs.{IsTextOf, IsTextOfRead, RefusesPiece, RefusesTextOf, RefusesTextOfRead, text_in}
 pub use Rattle.library_calls.specs.InForm.{form_numbered, IsKeyInForm, IsTextInForm, AnswersInForm}
 pub use Rattle.library_calls.specs.Stepping.{RefusesStepByWithin, RefusesStepWithin, StepsByTable}
 pub use Rattle.library_calls.specs.Streams.{Feeds, Finishes, IsSpent, Opens, session_of, TellsEnd, TellsNothing, TellsPiece}

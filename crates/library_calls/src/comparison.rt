@@ -7,7 +7,6 @@ use crate::compared::Compared;
 use crate::in_form::{NO_FORM, form_of};
 use crate::options::Options;
 use crate::pattern_form::PatternForm;
-use crate::session::store_of;
 use life_base::Fault;
 use life_canon::laws::{
     few_squares, files_are_on_plane, files_are_unique, patterns_fit, patterns_stay,
@@ -86,7 +85,7 @@ pub(crate) fn compare(
 ) -> Compared
     ensures { ComparesInForm form options.limit first.now second.now result }
 {
-    let mut store = store_of(alloc, options);
+    let mut store = options.new_store(alloc);
     match are_one(alloc, &mut store, first, second, form) {
         Ok(answer) => Compared::of(answer),
         Err(fault) => Compared::refused(&fault),

@@ -4,8 +4,7 @@ ghost use Rattle.std.specs.Prelude.{◌≡◌, ◌++◌, ℕ, [], IfOk, IfErr, O
 ghost use Rattle.library_calls.specs.Words.{FaultValue, RefusesFront, room_of, IsTextOf, RefusesTextOf, RefusesPiece};
 
 use crate::options::Options;
-use crate::session::{Form, store_of};
-use crate::texts::text_of_read;
+use crate::texts::{Output, text_of_read};
 use life_base::{Fault, MAX_LEVEL};
 use life_canon::Reader;
 use life_canon::laws::fronts_hold;
@@ -13,23 +12,23 @@ use life_quad::Shared;
 use std::alloc::Global;
 use std::marker::Model;
 
-/// A reader, its store, in which its squares stand, and the text that is wanted.
+/// A reader, its store, in which its squares stand, and which text its end gives.
 #[derive(Drop)]
 pub struct Feeding {
     reader: Reader,
     store: Shared,
-    form: Form,
+    output: Output,
 }
 
 impl Model for Feeding {
     ghost use Rattle.std.specs.Prelude.{◌≡◌, [], false};
     ghost use Rattle.life_canon.specs.Feeding.{Stands};
     ghost use Rattle.life_canon.specs.Room.{HoldsFront};
-    ghost use Rattle.library_calls.specs.Forms.{Piecewise};
+    ghost use Rattle.library_calls.specs.Outputs.{Piecewise};
 
     ghost Value = { Piecewise };
 
-    ghost view = { λ f. record { form = f.form; room = f.store.limit; bytes = f.reader.bytes } };
+    ghost view = { λ f. record { output = f.output; room = f.store.limit; bytes = f.reader.bytes } };
 
     // The store holds no squares but those of the lines that have ended.
     ghost invariant = { λ f. (f.reader.spent ≡ false) × Stands f.store f.reader
@@ -38,20 +37,20 @@ impl Model for Feeding {
 
 impl Feeding {
     /// A file of which no byte came, and the text that its end gives. Its store has this limit.
-    pub(crate) fn new(alloc: Global, form: Form, options: Options) -> Feeding
-        ensures { result ≡ record { form = form; room = room_of options.limit; bytes = [] } }
+    pub(crate) fn new(alloc: Global, output: Output, options: Options) -> Feeding
+        ensures { result ≡ record { output = output; room = room_of options.limit; bytes = [] } }
     {
         Feeding {
             reader: Reader::new(alloc),
-            store: store_of(alloc, options),
-            form,
+            store: options.new_store(alloc),
+            output,
         }
     }
 
     /// The same after the next piece.
     pub(crate) fn fed(self, piece: &[u8]) -> Result<Feeding, Fault>
         ensures fed { IfOk result (λ r. r ≡ record
-            { form = self.form; room = self.room; bytes = self.bytes ++ piece.now }) }
+            { output = self.output; room = self.room; bytes = self.bytes ++ piece.now }) }
         ensures front { OnOk result
             ((fault : FaultValue) → ¬ RefusesFront MAX_LEVEL (self.bytes ++ piece.now) fault) }
         ensures fault { IfErr result (λ fault. (limit : ℕ) → self.room ≡ room_of limit
@@ -61,29 +60,29 @@ impl Feeding {
         let Feeding {
             mut reader,
             mut store,
-            form,
+            output,
         } = self;
         reader.feed(&mut store, piece)?;
         Ok(Feeding {
             reader,
             store,
-            form,
+            output,
         })
     }
 
     /// The text of the file whose pieces came.
     pub(crate) fn text(self, alloc: Global) -> Result<Vec<u8>, Fault>
-        ensures text { IfOk result (λ text. IsTextOf self.form self.bytes text.items) }
+        ensures text { IfOk result (λ text. IsTextOf self.output self.bytes text.items) }
         ensures fault { IfErr result (λ fault. (limit : ℕ) → self.room ≡ room_of limit
-            → RefusesTextOf self.form limit self.bytes fault) }
+            → RefusesTextOf self.output limit self.bytes fault) }
     {
         fronts_hold();
         let Feeding {
             reader,
             mut store,
-            form,
+            output,
         } = self;
         let pattern = reader.finish(&mut store)?;
-        text_of_read(alloc, &mut store, pattern, form)
+        text_of_read(alloc, &mut store, pattern, output)
     }
 }

@@ -5,8 +5,7 @@ ghost use Rattle.library_calls.specs.Words.{AnswersInForm, told, text_in, form_n
 
 use crate::options::Options;
 use crate::pattern_form::PatternForm;
-use crate::session::Form;
-use crate::texts::{answer, text_of_file};
+use crate::texts::{Output, answer, text_of_file};
 use crate::told::{Told, give, refuse};
 use sha2::{Digest, Sha256};
 use std::alloc::Global;
@@ -26,14 +25,14 @@ pub(crate) fn form_of(number: u32) -> Option<PatternForm>
     }
 }
 
-/// The text that a pattern in this form gives.
-pub(crate) fn text_in(form: PatternForm) -> Form
+/// The output with the text of a pattern in this form.
+pub(crate) fn text_in(form: PatternForm) -> Output
     ensures { result ≡ text_in form }
 {
     match form {
-        PatternForm::Placed => Form::Canonical,
-        PatternForm::Moved => Form::Moved,
-        PatternForm::Turned => Form::Turned,
+        PatternForm::Placed => Output::Canonical,
+        PatternForm::Moved => Output::Moved,
+        PatternForm::Turned => Output::Turned,
     }
 }
 

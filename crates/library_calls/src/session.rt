@@ -1,46 +1,10 @@
-//! What stands behind the calls: the store of each, and the session of a stream.
+//! The session of a stream.
 
 ghost use Rattle.std.specs.Prelude.{Some};
-ghost use Rattle.library_calls.specs.Words.{IsFresh, Feeds, Finishes};
+ghost use Rattle.library_calls.specs.Words.{Feeds, Finishes};
 
 use crate::feeding::Feeding;
-use crate::options::Options;
-use crate::seeds::seed_of_squares;
 use life_base::Fault;
-use life_quad::Shared;
-use std::alloc::Global;
-
-/// How many different squares a store holds at most, whatever limit is asked for.
-const GREATEST_LIMIT: u64 = 1 << 62;
-
-/// An empty store with this limit, which counts as 2^62 where it is more.
-pub(crate) fn store_of(alloc: Global, options: Options) -> Shared
-    ensures { IsFresh options.limit result }
-{
-    let most = if options.limit < GREATEST_LIMIT {
-        options.limit
-    } else {
-        GREATEST_LIMIT
-    };
-    Shared::new(alloc, seed_of_squares(options.seed), most)
-}
-
-/// The text that a stream gives at its end.
-#[derive(Clone, Copy)]
-pub enum Form {
-    /// The canonical text.
-    Canonical,
-    /// The pattern in extended RLE.
-    Rle,
-    /// Five lines on the pattern.
-    Lines,
-    /// The canonical text of the next generation under the file's B/S rule.
-    Next,
-    /// The canonical text of the pattern, moved.
-    Moved,
-    /// That of the pattern, turned.
-    Turned,
-}
 
 /// A file that is read, its text, or its fault.
 #[derive(Drop)]

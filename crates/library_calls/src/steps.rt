@@ -4,8 +4,7 @@ ghost use Rattle.library_calls.specs.Words.{Answers, IsStepped, IsSteppedBy, Ref
 
 use crate::options::Options;
 use crate::seeds::seed_of_names;
-use crate::session::{Form, store_of};
-use crate::texts::answer;
+use crate::texts::{Output, answer};
 use crate::told::{Told, refuse, tell};
 use life_step::step_table;
 use life_table::{Table, read_table};
@@ -16,7 +15,7 @@ pub fn step(alloc: Global, bytes: &[u8], options: Options, out: &mut [u8]) -> To
     ensures { Answers (IsStepped bytes.now) (RefusesStepWithin options.limit bytes.now)
         out.old out.new result }
 {
-    answer(alloc, bytes, Form::Next, options, out)
+    answer(alloc, bytes, Output::Next, options, out)
 }
 
 /// The same by a table that is read.
@@ -24,7 +23,7 @@ fn step_by(alloc: Global, bytes: &[u8], table: &Table, options: Options, out: &m
     ensures { Answers (IsSteppedBy table.now bytes.now)
         (RefusesStepByWithin table.now options.limit bytes.now) out.old out.new result }
 {
-    let mut store = store_of(alloc, options);
+    let mut store = options.new_store(alloc);
     let found = step_table(alloc, &mut store, bytes, table);
     tell(found, out)
 }

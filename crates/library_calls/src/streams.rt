@@ -6,19 +6,20 @@ ghost use Rattle.library_calls.specs.Words.{text_in, form_numbered, session_of, 
 use crate::feeding::Feeding;
 use crate::in_form::{NO_FORM, form_of, text_in};
 use crate::options::Options;
-use crate::session::{Form, Session, ended, fed};
+use crate::session::{Session, ended, fed};
 use crate::stream::{Stream, put, take};
+use crate::texts::Output;
 use crate::told::{Told, give, refuse};
 use life_base::{Fault, Kind};
 use std::alloc::Global;
 use std::mem;
 
-/// Opens a stream whose end gives a text of this form, and closes it first where it is open. The answer is the status.
-pub fn open(alloc: Global, stream: &mut Stream, form: Form, options: Options) -> u32
-    ensures { Opens form options.limit result (session_of stream.new) }
+/// Opens a stream whose end gives this output, and closes it first where it is open. The answer is the status.
+pub fn open(alloc: Global, stream: &mut Stream, output: Output, options: Options) -> u32
+    ensures { Opens output options.limit result (session_of stream.new) }
 {
     close(alloc, stream);
-    let feeding = Feeding::new(alloc, form, options);
+    let feeding = Feeding::new(alloc, output, options);
     match Box::new(alloc, Session::Reading(feeding)) {
         Ok(session) => {
             put(stream, session);

@@ -1,10 +1,9 @@
-//! The text that a file gives in a form, and the calls that give one.
+//! The texts that a call or a stream gives of a file, and the calls that give one.
 
 ghost use Rattle.std.specs.Prelude.{IfOk, IfErr};
 ghost use Rattle.library_calls.specs.Words.{Answers, IsCanonicalText, IsRleText, RefusesWithin, RefusesRleWithin, IsTextOf, IsTextOfRead, RefusesTextOf, RefusesTextOfRead, IsOfFile, IsShown};
 
 use crate::options::Options;
-use crate::session::{Form, store_of};
 use crate::told::{Told, tell};
 use life_base::{Fault, MAX_LEVEL};
 use life_canon::laws::{
@@ -16,62 +15,79 @@ use life_quad::Shared;
 use life_step::next_by_rule;
 use std::alloc::Global;
 
-/// The text of a pattern that was read into the store, in this form.
+/// Which text a call or a stream gives of a file.
+#[derive(Clone, Copy)]
+pub enum Output {
+    /// The canonical text.
+    Canonical,
+    /// The pattern in extended RLE.
+    Rle,
+    /// Five lines on the pattern.
+    Lines,
+    /// The canonical text of the next generation under the file's B/S rule.
+    Next,
+    /// The canonical text of the pattern, moved.
+    Moved,
+    /// That of the pattern, turned.
+    Turned,
+}
+
+/// The text of a pattern that was read into the store.
 pub(crate) fn text_of_read(
     alloc: Global,
     store: &mut Shared,
     pattern: Pattern,
-    form: Form,
+    output: Output,
 ) -> Result<Vec<u8>, Fault>
     requires { IsOfFile MAX_LEVEL store.old pattern }
-    ensures text { IfOk result (λ text. IsTextOfRead form store.old pattern text.items) }
-    ensures fault { IfErr result (RefusesTextOfRead form store.old pattern) }
+    ensures text { IfOk result (λ text. IsTextOfRead output store.old pattern text.items) }
+    ensures fault { IfErr result (RefusesTextOfRead output store.old pattern) }
 {
     patterns_fit();
     files_are_on_plane();
     texts_tell_universes();
     texts_are_files();
     canonical_is_least();
-    match form {
-        Form::Canonical => text_of(alloc, store, &pattern),
-        Form::Rle => rle_of(alloc, store, &pattern),
-        Form::Lines => five_lines_of(alloc, store, &pattern),
-        Form::Next => next_by_rule(alloc, store, pattern),
-        Form::Moved => {
+    match output {
+        Output::Canonical => text_of(alloc, store, &pattern),
+        Output::Rle => rle_of(alloc, store, &pattern),
+        Output::Lines => five_lines_of(alloc, store, &pattern),
+        Output::Next => next_by_rule(alloc, store, pattern),
+        Output::Moved => {
             let moved = moved_of(alloc, store, &pattern)?;
             text_of(alloc, store, &moved)
         }
-        Form::Turned => turned_text(alloc, store, &pattern),
+        Output::Turned => turned_text(alloc, store, &pattern),
     }
 }
 
-/// The text of the pattern of a file of either format, in this form.
+/// The text of the pattern of a file of either format.
 pub(crate) fn text_of_file(
     alloc: Global,
     bytes: &[u8],
-    form: Form,
+    output: Output,
     options: Options,
 ) -> Result<Vec<u8>, Fault>
-    ensures text { IfOk result (λ text. IsTextOf form bytes.now text.items) }
-    ensures fault { IfErr result (RefusesTextOf form options.limit bytes.now) }
+    ensures text { IfOk result (λ text. IsTextOf output bytes.now text.items) }
+    ensures fault { IfErr result (RefusesTextOf output options.limit bytes.now) }
 {
-    let mut store = store_of(alloc, options);
+    let mut store = options.new_store(alloc);
     let pattern = read(alloc, &mut store, bytes)?;
-    text_of_read(alloc, &mut store, pattern, form)
+    text_of_read(alloc, &mut store, pattern, output)
 }
 
 /// Gives that text, or tells why there is none.
 pub(crate) fn answer(
     alloc: Global,
     bytes: &[u8],
-    form: Form,
+    output: Output,
     options: Options,
     out: &mut [u8],
 ) -> Told
-    ensures { Answers (IsTextOf form bytes.now) (RefusesTextOf form options.limit bytes.now) out.old
+    ensures { Answers (IsTextOf output bytes.now) (RefusesTextOf output options.limit bytes.now) out.old
         out.new result }
 {
-    tell(text_of_file(alloc, bytes, form, options), out)
+    tell(text_of_file(alloc, bytes, output, options), out)
 }
 
 /// The canonical text of the pattern of a file of either format.
@@ -79,7 +95,7 @@ pub fn canon(alloc: Global, bytes: &[u8], options: Options, out: &mut [u8]) -> T
     ensures { Answers (IsCanonicalText bytes.now) (RefusesWithin options.limit bytes.now) out.old
         out.new result }
 {
-    answer(alloc, bytes, Form::Canonical, options, out)
+    answer(alloc, bytes, Output::Canonical, options, out)
 }
 
 /// The text in extended RLE of the pattern of a file of either format.
@@ -87,7 +103,7 @@ pub fn to_rle(alloc: Global, bytes: &[u8], options: Options, out: &mut [u8]) -> 
     ensures { Answers (IsRleText bytes.now) (RefusesRleWithin options.limit bytes.now)
         out.old out.new result }
 {
-    answer(alloc, bytes, Form::Rle, options, out)
+    answer(alloc, bytes, Output::Rle, options, out)
 }
 
 /// Five lines on the pattern of a file of either format.
@@ -95,5 +111,5 @@ pub fn show(alloc: Global, bytes: &[u8], options: Options, out: &mut [u8]) -> To
     ensures { Answers (IsShown MAX_LEVEL bytes.now) (RefusesWithin options.limit bytes.now) out.old
         out.new result }
 {
-    answer(alloc, bytes, Form::Lines, options, out)
+    answer(alloc, bytes, Output::Lines, options, out)
 }

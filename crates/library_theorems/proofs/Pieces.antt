@@ -7,16 +7,16 @@ use Rattle.life_base.specs.declared.fault.Fault.{Fault}
 use Rattle.life_base.specs.declared.kind.Kind.TheVariants.{Memory}
 use Rattle.life_canon.specs.Laws.{FaultsStay}
 use Rattle.life_quad.specs.Store.{Nodes}
-use Rattle.library_calls.specs.Answers.{IsTightFor}
+use Rattle.library_calls.specs.Texts.{IsTightFor}
 use Rattle.theorems.specs.Joined.{joined}
 use Rattle.theorems.proofs.PieceLaw.{joined_all, joined_split}
 use Rattle.theorems.proofs.RefusalLaw.{refuses_agree}
-use Rattle.library_calls.specs.Forms.{IsTextOf, RefusesTextOf, RefusesPiece}
+use Rattle.library_calls.specs.Outputs.{IsTextOf, RefusesTextOf, RefusesPiece}
 use Rattle.library_calls.specs.Streams.{IsOpen, IsFed, HasFault, Opens, Takes, by_piece, Ends, TellsEnd}
 use Rattle.library_calls.specs.Streams as streams
 use Rattle.library_calls.specs.declared.told.Told.{Told}
 use Rattle.library_calls.specs.Told.{Answers, by_text, by_fault}
-use Rattle.library_calls.specs.declared.session.Form.{Form}
+use Rattle.library_calls.specs.declared.texts.Output.{Output}
 use Rattle.library_calls.specs.declared.session.Session.{Session}
 use Rattle.library_calls.specs.declared.session.Session.TheVariants.{Reading, Written, Refused}
 use Rattle.library_theorems.specs.Answered.{IsUnreadWithin, room_for}
@@ -24,24 +24,24 @@ use Rattle.library_theorems.specs.Ending.{IsEndFault}
 use Rattle.library_theorems.proofs.Reworded.{want_below}
 
 -- the pieces so far were fed, or one of them was refused
-pub data Took (form : Form) (limit : ℕ) (pieces : List (Vec ℕ)) (n : ℕ) (session : Option Session) : Type 0 where
-  fed : IsOpen (IsFed form limit (joined (take n pieces))) session → Took form limit pieces n session
-  refused : (k : ℕ) (fault : Fault) → IsOpen (HasFault fault) session → RefusesPiece limit (joined (take k pieces)) fault → Took form limit pieces n session
+pub data Took (output : Output) (limit : ℕ) (pieces : List (Vec ℕ)) (n : ℕ) (session : Option Session) : Type 0 where
+  fed : IsOpen (IsFed output limit (joined (take n pieces))) session → Took output limit pieces n session
+  refused : (k : ℕ) (fault : Fault) → IsOpen (HasFault fault) session → RefusesPiece limit (joined (take k pieces)) fault → Took output limit pieces n session
 
 -- one piece more
-pub took_more : (form : Form) (limit : ℕ) (pieces : List (Vec ℕ)) (n : ℕ) (piece : List ℕ) (old new : Option Session)
+pub took_more : (output : Output) (limit : ℕ) (pieces : List (Vec ℕ)) (n : ℕ) (piece : List ℕ) (old new : Option Session)
     → joined (take n pieces) ++ piece ≡ joined (take (n + 1) pieces)
-    → (IsOpen (IsFed form limit (joined (take n pieces))) old → IsOpen (Takes form limit (joined (take n pieces) ++ piece)) new)
+    → (IsOpen (IsFed output limit (joined (take n pieces))) old → IsOpen (Takes output limit (joined (take n pieces) ++ piece)) new)
     → ((fault : Fault) → IsOpen (HasFault fault) old → IsOpen (HasFault fault) new)
-    → Took form limit pieces n old → Took form limit pieces (n + 1) new
-took_more form limit pieces n piece old new more takes stays (fed whole) = by new (takes whole)
+    → Took output limit pieces n old → Took output limit pieces (n + 1) new
+took_more output limit pieces n piece old new more takes stays (fed whole) = by new (takes whole)
   where
-    by : (it : Option Session) → IsOpen (Takes form limit (joined (take n pieces) ++ piece)) it → Took form limit pieces (n + 1) it
+    by : (it : Option Session) → IsOpen (Takes output limit (joined (take n pieces) ++ piece)) it → Took output limit pieces (n + 1) it
     by None h = absurd h
-    by (Some session) (by_piece is front) = fed (subst (λ (bytes : List ℕ). IsFed form limit bytes session) more is)
+    by (Some session) (by_piece is front) = fed (subst (λ (bytes : List ℕ). IsFed output limit bytes session) more is)
     by (Some session) (streams.by_fault fault has why) =
         refused (n + 1) fault has (subst (λ (bytes : List ℕ). RefusesPiece limit bytes fault) more why)
-took_more form limit pieces n piece old new more takes stays (refused k fault has why) = refused k fault (stays fault has) why
+took_more output limit pieces n piece old new more takes stays (refused k fault has why) = refused k fault (stays fault has) why
 
 -- the fault of the pieces so far is that of all
 of_all : FaultsStay 62 → (limit : ℕ) (pieces : List (Vec ℕ)) (k : ℕ) (fault : Fault) → RefusesPiece limit (joined (take k pieces)) fault
@@ -58,51 +58,51 @@ of_all stay limit pieces k fault (inr w) = inr (want_below (room_for (joined pie
         let all = ap (λ (bytes : List ℕ). length bytes) (joined_split pieces k) in
         omega (arith, tight, both, all)
 
-module _ (form : Form) (limit : ℕ) (bytes : List ℕ) (before after : List ℕ) (told : Told) where
-  end_told : (session : Session) → Ends form limit bytes session → TellsEnd before after told session
-      → Answers (IsTextOf form bytes) (IsEndFault form limit bytes) before after told
+module _ (output : Output) (limit : ℕ) (bytes : List ℕ) (before after : List ℕ) (told : Told) where
+  end_told : (session : Session) → Ends output limit bytes session → TellsEnd before after told session
+      → Answers (IsTextOf output bytes) (IsEndFault output limit bytes) before after told
   end_told (Reading feeding) (streams.by_text text has good) tells = absurd has
   end_told (Reading feeding) (streams.by_fault fault has why) tells = absurd has
   end_told (Written written) (streams.by_text text has good) tells =
-      by_text written.items (subst (IsTextOf form bytes) (sym has) good) tells.0 tells.1
+      by_text written.items (subst (IsTextOf output bytes) (sym has) good) tells.0 tells.1
   end_told (Written written) (streams.by_fault fault has why) tells = absurd has
   end_told (Refused it) (streams.by_text text has good) tells = absurd has
-  end_told (Refused it) (streams.by_fault fault has why) tells = by_fault it (inr (subst (RefusesTextOf form limit bytes) (sym has) why)) tells
+  end_told (Refused it) (streams.by_fault fault has why) tells = by_fault it (inr (subst (RefusesTextOf output limit bytes) (sym has) why)) tells
 
   fault_told : (session : Session) (fault : Fault) → HasFault fault session → IsUnreadWithin limit bytes fault → TellsEnd before after told session
-      → Answers (IsTextOf form bytes) (IsEndFault form limit bytes) before after told
+      → Answers (IsTextOf output bytes) (IsEndFault output limit bytes) before after told
   fault_told (Reading feeding) fault has why tells = absurd has
   fault_told (Written written) fault has why tells = absurd has
   fault_told (Refused it) fault has why tells = by_fault it (inl (subst (IsUnreadWithin limit bytes) (sym has) why)) tells
 
 -- what the end tells
-pub told_at_end : FaultsStay 62 → (form : Form) (limit : ℕ) (pieces : List (Vec ℕ)) (n : ℕ) (old new : Option Session) (before after : List ℕ) (told : Told)
+pub told_at_end : FaultsStay 62 → (output : Output) (limit : ℕ) (pieces : List (Vec ℕ)) (n : ℕ) (old new : Option Session) (before after : List ℕ) (told : Told)
     → length pieces ≤ n
-    → (IsOpen (IsFed form limit (joined pieces)) old → IsOpen (Ends form limit (joined pieces)) new)
-    → ((fault : Fault) → IsOpen (HasFault fault) old → IsOpen (HasFault fault) new) → IfSome new (TellsEnd before after told) → Took form limit pieces n old
-    → Answers (IsTextOf form (joined pieces)) (IsEndFault form limit (joined pieces)) before after told
-told_at_end stay form limit pieces n old new before after told all ends stays tells (fed whole) =
-    by new (ends (subst (λ (bytes : List ℕ). IsOpen (IsFed form limit bytes) old) (joined_all pieces n all) whole)) tells
+    → (IsOpen (IsFed output limit (joined pieces)) old → IsOpen (Ends output limit (joined pieces)) new)
+    → ((fault : Fault) → IsOpen (HasFault fault) old → IsOpen (HasFault fault) new) → IfSome new (TellsEnd before after told) → Took output limit pieces n old
+    → Answers (IsTextOf output (joined pieces)) (IsEndFault output limit (joined pieces)) before after told
+told_at_end stay output limit pieces n old new before after told all ends stays tells (fed whole) =
+    by new (ends (subst (λ (bytes : List ℕ). IsOpen (IsFed output limit bytes) old) (joined_all pieces n all) whole)) tells
   where
-    by : (it : Option Session) → IsOpen (Ends form limit (joined pieces)) it → IfSome it (TellsEnd before after told)
-        → Answers (IsTextOf form (joined pieces)) (IsEndFault form limit (joined pieces)) before after told
+    by : (it : Option Session) → IsOpen (Ends output limit (joined pieces)) it → IfSome it (TellsEnd before after told)
+        → Answers (IsTextOf output (joined pieces)) (IsEndFault output limit (joined pieces)) before after told
     by None h t = absurd h
-    by (Some session) h t = end_told form limit (joined pieces) before after told session h t
-told_at_end stay form limit pieces n old new before after told all ends stays tells (refused k fault has why) = by new (stays fault has) tells
+    by (Some session) h t = end_told output limit (joined pieces) before after told session h t
+told_at_end stay output limit pieces n old new before after told all ends stays tells (refused k fault has why) = by new (stays fault has) tells
   where
     by : (it : Option Session) → IsOpen (HasFault fault) it → IfSome it (TellsEnd before after told)
-        → Answers (IsTextOf form (joined pieces)) (IsEndFault form limit (joined pieces)) before after told
+        → Answers (IsTextOf output (joined pieces)) (IsEndFault output limit (joined pieces)) before after told
     by None h t = absurd h
-    by (Some session) h t = fault_told form limit (joined pieces) before after told session fault h (of_all stay limit pieces k fault why) t
+    by (Some session) h t = fault_told output limit (joined pieces) before after told session fault h (of_all stay limit pieces k fault why) t
 
 -- ---- the call that opens
 
-pub is_open : (form : Form) (limit status : ℕ) (session : Option Session) → Opens form limit status session → status ≡ 0
-    → IsOpen (IsFed form limit []) session
-is_open form limit status session (inl h) ok = h.1
-is_open form limit status session (inr h) ok = let e : 0 ≡ 22 = sym ok ∙ h.0 in absurd (omega (arith, e))
+pub is_open : (output : Output) (limit status : ℕ) (session : Option Session) → Opens output limit status session → status ≡ 0
+    → IsOpen (IsFed output limit []) session
+is_open output limit status session (inl h) ok = h.1
+is_open output limit status session (inr h) ok = let e : 0 ≡ 22 = sym ok ∙ h.0 in absurd (omega (arith, e))
 
-pub status_is : (form : Form) (limit status : ℕ) (session : Option Session) → Opens form limit status session
+pub status_is : (output : Output) (limit status : ℕ) (session : Option Session) → Opens output limit status session
     → (status ≡ 0) ⊎ (status ≡ kind_number Memory)
-status_is form limit status session (inl h) = inl h.0
-status_is form limit status session (inr h) = inr h.0
+status_is output limit status session (inl h) = inl h.0
+status_is output limit status session (inr h) = inr h.0

@@ -32,13 +32,13 @@ use Rattle.theorems.proofs.ShownLaw.{shown_is}
 use Rattle.theorems.proofs.StreamLaw.{one_text}
 use Rattle.step_theorems.proofs.StepLaw.{unstepped_is}
 use Rattle.step_theorems.proofs.StepBy.{next_by_is_fixed, stepped_is, unstepped_is as unstepped_by_is}
-use Rattle.library_calls.specs.Answers.{Wants, RefusesWithin, RefusesRleWithin}
-use Rattle.library_calls.specs.Answers.{IsCanonicalText as LayerText, IsRleText as LayerRle}
+use Rattle.library_calls.specs.Texts.{Wants, RefusesWithin, RefusesRleWithin}
+use Rattle.library_calls.specs.Texts.{IsCanonicalText as LayerText, IsRleText as LayerRle}
 use Rattle.library_calls.specs.declared.compared.Compared.{Compared}
 use Rattle.library_calls.specs.Comparing.{ComparesWithin, by_answer, IsAnswerOf, RefusesEither}
 use Rattle.library_calls.specs.Comparing as comparing
-use Rattle.library_calls.specs.Forms.{IsTextOf, RefusesTextOf}
-use Rattle.library_calls.specs.declared.session.Form.{Form}
+use Rattle.library_calls.specs.Outputs.{IsTextOf, RefusesTextOf}
+use Rattle.library_calls.specs.declared.texts.Output.{Output}
 use Rattle.library_calls.specs.Stepping.{RefusesStepWithin, RefusesStepByWithin, StepsByTable, by_table, by_no_table}
 use Rattle.library_calls.specs.declared.told.Told.{Told}
 use Rattle.library_calls.specs.Told.{Copies, LacksRoom, Gives, Tells, Answers, by_text, by_fault}
@@ -53,19 +53,19 @@ pub reworded : {IsText IsOther : List ℕ → Type 0} {IsFault IsOtherFault : Fa
 reworded (by_text t is gives none) text fault = by_text t (text t is) gives none
 reworded (by_fault f why tells) text fault = by_fault f (fault f why) tells
 
--- what is told for this form is told for that one, which it is
-pub of_form : {form that : Form} {IsFault : Fault → Type 0} {before after : List ℕ} {told : Told} → form ≡ that → (file : List ℕ)
-    → Answers (IsTextOf form file) IsFault before after told → Answers (IsTextOf that file) IsFault before after told
+-- what is told for this output is told for that one, which it is
+pub of_form : {output that : Output} {IsFault : Fault → Type 0} {before after : List ℕ} {told : Told} → output ≡ that → (file : List ℕ)
+    → Answers (IsTextOf output file) IsFault before after told → Answers (IsTextOf that file) IsFault before after told
 of_form {IsFault = IsFault} {before = before} {after = after} {told = told} is file =
-    subst (λ (f : Form). Answers (IsTextOf f file) IsFault before after told) is
+    subst (λ (f : Output). Answers (IsTextOf f file) IsFault before after told) is
 
--- the end of a stream for that form tells what its texts and its faults imply
-pub ended_so : {form that : Form} {IsOther : List ℕ → Type 0} {IsOtherFault : Fault → Type 0} {before after : List ℕ} {told : Told} → form ≡ that
-    → (limit : ℕ) (file : List ℕ) → Answers (IsTextOf form file) (IsEndFault form limit file) before after told
+-- the end of a stream for that output tells what its texts and its faults imply
+pub ended_so : {output that : Output} {IsOther : List ℕ → Type 0} {IsOtherFault : Fault → Type 0} {before after : List ℕ} {told : Told} → output ≡ that
+    → (limit : ℕ) (file : List ℕ) → Answers (IsTextOf output file) (IsEndFault output limit file) before after told
     → ((text : List ℕ) → IsTextOf that file text → IsOther text) → ((fault : Fault) → IsUnreadWithin limit file fault → IsOtherFault fault)
     → ((fault : Fault) → RefusesTextOf that limit file fault → IsOtherFault fault) → Answers IsOther IsOtherFault before after told
 ended_so {before = before} {after = after} {told = told} is limit file answers text unread refused =
-    reworded (subst (λ (f : Form). Answers (IsTextOf f file) (IsEndFault f limit file) before after told) is answers) text
+    reworded (subst (λ (f : Output). Answers (IsTextOf f file) (IsEndFault f limit file) before after told) is answers) text
     (λ fault why. elim why [ inl u ↦ unread fault u | inr r ↦ refused fault r ])
 
 -- ---- texts

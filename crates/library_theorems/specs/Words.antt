@@ -6,10 +6,10 @@ pub use Rattle.claims.specs.Generation.{IsStepped, IsUnstepped}
 pub use Rattle.claims.specs.Pattern.{Pattern}
 pub use Rattle.claims.specs.Shown.{IsShown}
 pub use Rattle.claims.specs.Table.{Table, table_of}
-pub use Rattle.library_calls.specs.Forms.{IsTextOf}
+pub use Rattle.library_calls.specs.Outputs.{IsTextOf}
 pub use Rattle.library_calls.specs.Streams.{IsFed, IsOpen, session_of}
 pub use Rattle.library_calls.specs.Told.{Answers, Gives, Tells}
-pub use Rattle.library_calls.specs.declared.session.Form.{Form as FormValue}
+pub use Rattle.library_calls.specs.declared.texts.Output.{Output as OutputValue}
 pub use Rattle.library_theorems.specs.Answered.{AreFiveLines, IsRleText, IsUnread, IsUnreadWithin, IsUnwritten, IsWantBelow, room_for}
 pub use Rattle.library_theorems.specs.Ending.{IsEndFault}
 pub use Rattle.life_base.specs.Kinds.{kind_number}

@@ -1,9 +1,9 @@
 //! A file that comes in pieces, and one answer at its end.
 
 ghost use Rattle.std.specs.Prelude.{◌≡◌, ◌⊎◌, ℕ, List, [], Ok, IfOk};
-ghost use Rattle.library_theorems.specs.Words.{kind_number, node_lines, IsCanonicalText, pattern_of, IsStepped, IsUnstepped, Pattern, IsShown, IsTextOf, session_of, IsOpen, IsFed, Answers, Gives, FormValue, IsRleText, AreFiveLines, IsUnread, IsUnreadWithin, IsUnwritten, IsEndFault, joined};
+ghost use Rattle.library_theorems.specs.Words.{kind_number, node_lines, IsCanonicalText, pattern_of, IsStepped, IsUnstepped, Pattern, IsShown, IsTextOf, session_of, IsOpen, IsFed, Answers, Gives, OutputValue, IsRleText, AreFiveLines, IsUnread, IsUnreadWithin, IsUnwritten, IsEndFault, joined};
 
-use library_calls::{Form, Options, Stream, Told, close, feed, finish, open};
+use library_calls::{Options, Output, Stream, Told, close, feed, finish, open};
 use life_base::{Fault, Kind};
 use life_canon::laws::{
     canonical_is_least, faults_stay, files_are_on_plane, files_are_unique, texts_are_files,
@@ -14,9 +14,9 @@ use std::alloc::Global;
 
 /// What the end of the file tells whose pieces these are: each is fed to an open stream, which is finished and closed.
 fn told_of_pieces(alloc: Global, stream: &mut Stream, pieces: &[Vec<u8>], out: &mut [u8]) -> Told
-    ensures { (form : FormValue) (limit : ℕ)
-        → IsOpen (IsFed form limit []) (session_of stream.old)
-        → Answers (IsTextOf form (joined pieces.now)) (IsEndFault form limit (joined pieces.now))
+    ensures { (output : OutputValue) (limit : ℕ)
+        → IsOpen (IsFed output limit []) (session_of stream.old)
+        → Answers (IsTextOf output (joined pieces.now)) (IsEndFault output limit (joined pieces.now))
         out.old out.new result }
 {
     faults_stay();
@@ -28,27 +28,27 @@ fn told_of_pieces(alloc: Global, stream: &mut Stream, pieces: &[Vec<u8>], out: &
     told
 }
 
-/// A stream that was opened for a text of this form, which only want of memory refuses, and fed the pieces of a file, cut
+/// A stream that was opened for this output, which only want of memory refuses, and fed the pieces of a file, cut
 /// anywhere, tells at its end what is told of the whole file.
 pub fn text_of_stream(
     alloc: Global,
     stream: &mut Stream,
     pieces: &[Vec<u8>],
-    form: Form,
+    output: Output,
     options: Options,
     out: &mut [u8],
 ) -> (u32, Told)
     ensures opened { (result.0 ≡ 0) ⊎ (result.0 ≡ kind_number Kind.Memory) }
-    ensures canonical { form ≡ FormValue.Canonical → result.0 ≡ 0
+    ensures canonical { output ≡ OutputValue.Canonical → result.0 ≡ 0
         → Answers (IsCanonicalText (joined pieces.now))
         (IsUnreadWithin options.limit (joined pieces.now)) out.old out.new result.1 }
-    ensures rle { form ≡ FormValue.Rle → result.0 ≡ 0
+    ensures rle { output ≡ OutputValue.Rle → result.0 ≡ 0
         → Answers (IsRleText (joined pieces.now)) (IsUnwritten options.limit (joined pieces.now))
         out.old out.new result.1 }
-    ensures lines { form ≡ FormValue.Lines → result.0 ≡ 0
+    ensures lines { output ≡ OutputValue.Lines → result.0 ≡ 0
         → Answers (AreFiveLines (joined pieces.now))
         (IsUnreadWithin options.limit (joined pieces.now)) out.old out.new result.1 }
-    ensures next { form ≡ FormValue.Next → result.0 ≡ 0
+    ensures next { output ≡ OutputValue.Next → result.0 ≡ 0
         → Answers (IsStepped (joined pieces.now))
         (λ fault. IsUnread (joined pieces.now) fault ⊎ IsUnstepped (joined pieces.now) fault)
         out.old out.new result.1 }
@@ -58,7 +58,7 @@ pub fn text_of_stream(
     files_are_unique();
     texts_are_files();
     texts_keep_patterns();
-    let opened = open(alloc, stream, form, options);
+    let opened = open(alloc, stream, output, options);
     (opened, told_of_pieces(alloc, stream, pieces, out))
 }
 
@@ -71,26 +71,26 @@ pub fn text_of_stream_beside_canon(
     bytes: &[u8],
     stream: &mut Stream,
     pieces: &[Vec<u8>],
-    form: Form,
+    output: Output,
     options: Options,
     out: &mut [u8],
 ) -> (u32, Told, Result<Vec<u8>, Fault>)
-    ensures text { form ≡ FormValue.Canonical → bytes.now ≡ joined pieces.now → result.0 ≡ 0
+    ensures text { output ≡ OutputValue.Canonical → bytes.now ≡ joined pieces.now → result.0 ≡ 0
         → (result.1.status ≡ 0) ⊎ (result.1.status ≡ 64)
         → IfOk result.2 (λ text. Gives text.items out.old out.new result.1) }
-    ensures lines { form ≡ FormValue.Lines → bytes.now ≡ joined pieces.now → result.0 ≡ 0
+    ensures lines { output ≡ OutputValue.Lines → bytes.now ≡ joined pieces.now → result.0 ≡ 0
         → (result.1.status ≡ 0) ⊎ (result.1.status ≡ 64)
         → IfOk result.2 (λ text. (lines : List ℕ) × Gives lines out.old out.new result.1
         × ((pattern : Pattern) × (pattern_of (joined pieces.now) ≡ Ok pattern)
         × IsShown pattern (node_lines text.items) lines)) }
-    ensures next { form ≡ FormValue.Next → result.0 ≡ 0 → result.1.status ≡ 0
+    ensures next { output ≡ OutputValue.Next → result.0 ≡ 0 → result.1.status ≡ 0
         → Gives bytes.now out.old out.new result.1
         → IfOk result.2 (λ again. again.items ≡ bytes.now) }
 {
     files_are_on_plane();
     files_are_unique();
     texts_are_files();
-    let opened = open(alloc, stream, form, options);
+    let opened = open(alloc, stream, output, options);
     let text = life_canon::canon(alloc, store, bytes);
     (opened, told_of_pieces(alloc, stream, pieces, out), text)
 }

@@ -11,4 +11,4 @@ returns-in-Ok c =
 pub returns : goal.returns
 returns c =
     subst (ComparesInForm c.args.form c.args.options.limit c.args.first.now c.args.second.now) (sym c.refused.ensures)
-    (by_fault c.in-Err.fault refl refl refl (c.in-Err.ensures.fault c.args.options.limit c.store_of-store.ensures))
+    (by_fault c.in-Err.fault refl refl refl (c.in-Err.ensures.fault c.args.options.limit c.new_store-store.ensures))

@@ -1,7 +1,7 @@
 use Rattle.std.proofs.Common.{sym, ◌∙◌, subst}
-use Rattle.library_calls.specs.Forms.{IsTextOf, RefusesTextOf}
+use Rattle.library_calls.specs.Outputs.{IsTextOf, RefusesTextOf}
 use Rattle.library_calls.specs.Told.{Answers}
-use Rattle.library_calls.specs.declared.session.Form.{Form}
+use Rattle.library_calls.specs.declared.texts.Output.{Output}
 use Rattle.library_calls.proofs.Answering.{at-form}
 use Rattle.library_calls.proofs.TextFacts.{answers-in-form}
 use Rattle.library_calls.proofs.in_form.canon_form.Goals as goal
@@ -10,5 +10,5 @@ pub returns : goal.returns
 returns c =
     at-form _ _ _ c.in-Some.form (sym c.form_of.ensures ∙ c.in-Some.is)
     (answers-in-form c.in-Some.form c.args.options.limit c.args.bytes.now _ _ _
-    (subst (λ (f : Form). Answers (IsTextOf f c.args.bytes.now) (RefusesTextOf f c.args.options.limit c.args.bytes.now) c.args.out.now c.answer.new.out
+    (subst (λ (f : Output). Answers (IsTextOf f c.args.bytes.now) (RefusesTextOf f c.args.options.limit c.args.bytes.now) c.args.out.now c.answer.new.out
     c.answer.result) c.text_in.ensures c.answer.ensures))

@@ -1,8 +1,8 @@
 use Rattle.std.proofs.Common.{refl, sym, ap, ◌∙◌, subst}
 use Rattle.sha2.specs.Sha256.{sha256}
-use Rattle.library_calls.specs.Forms.{IsTextOf, RefusesTextOf}
+use Rattle.library_calls.specs.Outputs.{IsTextOf, RefusesTextOf}
 use Rattle.library_calls.specs.Told.{by_text, by_fault}
-use Rattle.library_calls.specs.declared.session.Form.{Form}
+use Rattle.library_calls.specs.declared.texts.Output.{Output}
 use Rattle.library_calls.proofs.Answering.{at-form}
 use Rattle.library_calls.proofs.TextFacts.{in-form, refused-in-form}
 use Rattle.library_calls.proofs.in_form.key.Goals as goal
@@ -12,7 +12,7 @@ returns-in-Ok c =
     at-form _ _ _ c.in-Some.form (sym c.form_of.ensures ∙ c.in-Some.is) (by_text c.digest.result (
       c.in-Ok.text.items,
       in-form c.in-Some.form c.args.bytes.now c.in-Ok.text.items
-          (subst (λ (f : Form). IsTextOf f c.args.bytes.now c.in-Ok.text.items) c.text_in.ensures c.in-Ok.ensures.text),
+          (subst (λ (f : Output). IsTextOf f c.args.bytes.now c.in-Ok.text.items) c.text_in.ensures c.in-Ok.ensures.text),
       c.digest.ensures ∙ ap sha256 c.as_slice.ensures.value,
     ) c.give.ensures.gives c.give.ensures.line)
 
@@ -20,5 +20,5 @@ pub returns-in-Err : goal.returns-in-Err
 returns-in-Err c =
     at-form _ _ _ c.in-Some.form (sym c.form_of.ensures ∙ c.in-Some.is) (by_fault c.in-Err.fault
     (refused-in-form c.in-Some.form c.args.options.limit c.args.bytes.now c.in-Err.fault
-    (subst (λ (f : Form). RefusesTextOf f c.args.options.limit c.args.bytes.now c.in-Err.fault) c.text_in.ensures c.in-Err.ensures.fault))
+    (subst (λ (f : Output). RefusesTextOf f c.args.options.limit c.args.bytes.now c.in-Err.fault) c.text_in.ensures c.in-Err.ensures.fault))
     (record { status = c.refuse.ensures.status; line = c.refuse.ensures.line; needed = c.refuse.ensures.needed; kept = refl }))

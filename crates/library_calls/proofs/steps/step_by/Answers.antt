@@ -10,6 +10,6 @@ returns c =
     (RefusesStepByWithin c.args.table.now c.args.options.limit c.args.bytes.now) _ _ _
     c.step_table-found.result c.step_table-found.ensures.stepped
     (refused_step_by c.args.table.now c.args.options.limit c.args.bytes.now c.step_table-found.new.store c.step_table-found.result
-    (c.step_table-found.ensures.keeps.limit ∙ c.store_of-store.ensures.most) c.step_table-found.ensures.refused
+    (c.step_table-found.ensures.keeps.limit ∙ c.new_store-store.ensures.most) c.step_table-found.ensures.refused
     c.step_table-found.ensures.needed)
     c.tell.ensures.gives c.tell.ensures.no_line c.tell.ensures.tells

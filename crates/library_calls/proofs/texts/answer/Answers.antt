@@ -1,8 +1,8 @@
-use Rattle.library_calls.specs.Forms.{IsTextOf, RefusesTextOf}
+use Rattle.library_calls.specs.Outputs.{IsTextOf, RefusesTextOf}
 use Rattle.library_calls.proofs.Answering.{answered}
 use Rattle.library_calls.proofs.texts.answer.Goals as goal
 
 pub returns : goal.returns
 returns c =
-    answered (λ text. text.items) (IsTextOf c.args.form c.args.bytes.now) (RefusesTextOf c.args.form c.args.options.limit c.args.bytes.now) _ _ _
+    answered (λ text. text.items) (IsTextOf c.args.output c.args.bytes.now) (RefusesTextOf c.args.output c.args.options.limit c.args.bytes.now) _ _ _
     c.text_of_file.result c.text_of_file.ensures.text c.text_of_file.ensures.fault c.tell.ensures.gives c.tell.ensures.no_line c.tell.ensures.tells

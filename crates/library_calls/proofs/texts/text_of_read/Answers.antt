@@ -1,7 +1,7 @@
 use Rattle.std.proofs.Common.{◌∙◌, sym, subst}
 use Rattle.std.proofs.lemmas.Result.{IfOk-weaker, IfErr-weaker, err_from_is_err_and}
-use Rattle.library_calls.specs.Forms.{RefusesTextOf}
-use Rattle.library_calls.specs.declared.session.Form.{Form}
+use Rattle.library_calls.specs.Outputs.{RefusesTextOf}
+use Rattle.library_calls.specs.declared.texts.Output.{Output}
 use Rattle.library_calls.proofs.Answering.{and-lacks, both}
 use Rattle.library_calls.proofs.FormFacts.{moved-text, turned-text, unmoved, unturned}
 use Rattle.library_calls.proofs.TextFacts.{canonical, next-fault, of-fault, of-form, rle-fault, wants}
@@ -23,7 +23,7 @@ returns-in-Canonical-clause-text c =
     c.texts_are_files.ensures c.canonical_is_least.ensures bytes c.args.store.now c.args.pattern text.items is read) c.text_of.ensures.text)
 
 pub returns-in-Canonical-clause-fault : goal.returns-in-Canonical-clause-fault
-returns-in-Canonical-clause-fault c = IfErr-weaker c.text_of.result _ _ (wants c.args.form c.args.store.now c.args.pattern) c.text_of.ensures.memory
+returns-in-Canonical-clause-fault c = IfErr-weaker c.text_of.result _ _ (wants c.args.output c.args.store.now c.args.pattern) c.text_of.ensures.memory
 
 pub returns-in-Rle-clause-text : goal.returns-in-Rle-clause-text
 returns-in-Rle-clause-text c =
@@ -42,7 +42,7 @@ returns-in-Lines-clause-text c = of-form c.args.store.now c.args.pattern (λ tex
 
 pub returns-in-Lines-clause-fault : goal.returns-in-Lines-clause-fault
 returns-in-Lines-clause-fault c =
-    IfErr-weaker c.five_lines_of.result _ _ (wants c.args.form c.args.store.now c.args.pattern) c.five_lines_of.ensures.memory
+    IfErr-weaker c.five_lines_of.result _ _ (wants c.args.output c.args.store.now c.args.pattern) c.five_lines_of.ensures.memory
 
 pub returns-in-Next-clause-text : goal.returns-in-Next-clause-text
 returns-in-Next-clause-text c = of-form c.args.store.now c.args.pattern (λ text. text.items) c.next_by_rule.result c.in-Next.is c.next_by_rule.ensures.stepped
@@ -63,7 +63,7 @@ returns-in_ok-moved-in-Moved-clause-text c =
 
 pub returns-in_ok-moved-in-Moved-clause-fault : goal.returns-in_ok-moved-in-Moved-clause-fault
 returns-in_ok-moved-in-Moved-clause-fault c =
-    IfErr-weaker c.text_of-in-Moved.result _ _ (wants c.args.form c.args.store.now c.args.pattern) c.text_of-in-Moved.ensures.memory
+    IfErr-weaker c.text_of-in-Moved.result _ _ (wants c.args.output c.args.store.now c.args.pattern) c.text_of-in-Moved.ensures.memory
 
 pub returns-in-Turned-clause-text : goal.returns-in-Turned-clause-text
 returns-in-Turned-clause-text c =
@@ -80,6 +80,6 @@ returns-in-Turned-clause-fault c =
 pub returns-in_err-moved-in-Moved-clause-fault : goal.returns-in_err-moved-in-Moved-clause-fault
 returns-in_err-moved-in-Moved-clause-fault c =
     let p = err_from_is_err_and c.from_residual.result c.from_residual.ensures.1 in
-    rw (p.1, p.2) (λ limit bytes is read. subst (λ (f : Form). RefusesTextOf f limit bytes c.in_err-moved-in-Moved.field-0.0) (sym c.in-Moved.is)
+    rw (p.1, p.2) (λ limit bytes is read. subst (λ (f : Output). RefusesTextOf f limit bytes c.in_err-moved-in-Moved.field-0.0) (sym c.in-Moved.is)
     (unmoved c.patterns_fit.ensures limit bytes c.args.store.now c.moved_of.new.store c.args.pattern c.in_err-moved-in-Moved.field-0.0
     (c.moved_of.ensures.keeps.limit ∙ is) read c.in_err-moved-in-Moved.ensures.fault (λ e. c.in_err-moved-in-Moved.ensures.needed (cc))))

@@ -4,7 +4,7 @@ use Rattle.life_base.specs.declared.cell.TheConstants.{MAX_LEVEL}
 use Rattle.life_base.specs.declared.fault.Fault.{Fault}
 use Rattle.life_canon.specs.Feeding.{RefusesFront}
 use Rattle.life_canon.specs.Room.{HoldsFront, room_for}
-use Rattle.library_calls.specs.Forms.{Piecewise, RefusesPiece}
+use Rattle.library_calls.specs.Outputs.{Piecewise, RefusesPiece}
 use Rattle.library_calls.proofs.Answering.{tight-alone}
 use Rattle.library_calls.proofs.StreamFacts.{piece-fault}
 use Rattle.library_calls.proofs.feeding.Feeding.fed.Goals as goal

@@ -1,4 +1,4 @@
--- Which texts the calls give, and why they refuse.
+-- The texts that the calls on whole files give, and why they refuse.
 use Rattle.std.specs.Prelude.{◌≡◌, ◌⊎◌, ◌<◌, ◌^◌, ℕ, List, [], length, min}
 use Rattle.life_base.specs.Refusal.{fault_of}
 use Rattle.life_base.specs.declared.cell.TheConstants.{MAX_LEVEL}
