@@ -152,6 +152,7 @@ abbrev pub leaves_zero : Entry → Bool
 leaves_zero (fixed state) = not (state == 0)
 leaves_zero (variable number) = false
 
+-- a transition more, whose output is bound and which leaves the plane quiet, with the number of its line
 abbrev pub with_entries : Table → ℕ → List Entry → Entry → Result Table Kind
 with_entries table number inputs output =
     let line : Transition = record { line = min number (2 ^ 64 - 1); inputs = inputs; output = output } in
@@ -159,6 +160,7 @@ with_entries table number inputs output =
     else if fits_zero table.variables line && leaves_zero output && not (list_any (fits_zero table.variables) table.transitions) then Err NotQuiet
     else Ok (record table { transitions = table.transitions ++ line ∷ [] })
 
+-- the same of the text of a transition
 abbrev pub with_transition : Table → ℕ → List ℕ → Result Table Kind
 with_transition table number text =
     let texts = transition_texts text in

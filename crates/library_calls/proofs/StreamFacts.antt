@@ -35,8 +35,11 @@ pub feeds-piece : (piece : List ℕ) (session : Session) (feeding next : Piecewi
     → next ≡ record { output = feeding.output; room = feeding.room; bytes = feeding.bytes ++ piece }
     → ((fault : Fault) → ¬ RefusesFront MAX_LEVEL (feeding.bytes ++ piece) fault) → Feeds piece (Some session) (Some (Reading next))
 feeds-piece piece session feeding next is after front = record {
-  takes = λ output limit bytes fed. let f = subst (IsFed output limit bytes) is fed in by_piece
-      (ap (λ (v : Piecewise). v.output) after ∙ f.0, ap (λ (v : Piecewise). v.room) after ∙ f.1, ap (λ (v : Piecewise). v.bytes) after ∙ ap (λ b. b ++ piece) f.2)
+  takes = λ output limit bytes fed. let f = subst (IsFed output limit bytes) is fed in by_piece (
+    ap (λ (v : Piecewise). v.output) after ∙ f.0,
+    ap (λ (v : Piecewise). v.room) after ∙ f.1,
+    ap (λ (v : Piecewise). v.bytes) after ∙ ap (λ b. b ++ piece) f.2,
+  )
       (subst (λ b. (fault : Fault) → ¬ RefusesFront MAX_LEVEL (b ++ piece) fault) f.2 front);
   stays = none-yet session feeding _ is;
 }

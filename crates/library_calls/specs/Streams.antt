@@ -59,7 +59,7 @@ pub record StaysEnded (old new : Option Session) : Type 0 where
   pub text : (text : List ℕ) → IsOpen (HasText text) old → IsOpen (HasText text) new
   pub fault : (fault : Fault) → IsOpen (HasFault fault) old → IsOpen (HasFault fault) new
 
--- what a piece makes of the session of a stream: one that was fed so far takes the piece too, and one that has ended stays as it is
+-- what a piece makes of the session of a stream: one that was fed so far was fed the piece too, or is refused; one that has ended stays as it is
 pub record Feeds (piece : List ℕ) (old new : Option Session) : Type 0 where
   pub takes : (output : Output) (limit : ℕ) (bytes : List ℕ) → IsOpen (IsFed output limit bytes) old → IsOpen (Takes output limit (bytes ++ piece)) new
   pub stays : StaysEnded old new

@@ -84,8 +84,8 @@ pub(crate) fn answer(
     options: Options,
     out: &mut [u8],
 ) -> Told
-    ensures { Answers (IsTextOf output bytes.now) (RefusesTextOf output options.limit bytes.now) out.old
-        out.new result }
+    ensures { Answers (IsTextOf output bytes.now) (RefusesTextOf output options.limit bytes.now)
+        out.old out.new result }
 {
     tell(text_of_file(alloc, bytes, output, options), out)
 }

@@ -218,11 +218,11 @@ pub record MooreRuleStays (text : List ℕ) : Type 0 where
 abbrev pub MooreRulesStay : Type 0
 MooreRulesStay = (text : List ℕ) → MooreRuleStays text
 
--- the sets of two numbers, if there are two
+-- the sets that two numbers stand for, if there are two
 abbrev pub sets_in : Option (ℕ × ℕ) → Option DigitSets
 sets_in found = option_map (λ p. record { births = p.0; survivals = p.1 }) found
 
--- the numbers found, each below a bound, are these sets
+-- what was found are the numbers of these sets, each below a bound; nothing was found exactly where there are no sets
 pub record AreSets (bound : ℕ) (wanted : Option DigitSets) (found : Option (ℕ × ℕ)) : Type 0 where
   pub same : sets_in found ≡ wanted
   pub below : IfSome found (λ p. (p.0 < bound) × (p.1 < bound))

@@ -181,7 +181,7 @@ fn life_rule(near: Near, births: u16, survivals: u16) -> Result<Rule, Kind>
 /// The rule of a text that is no B/S text: a name, unless it names other neighbours or has a slash.
 fn other_rule(alloc: Global, text: &[u8]) -> Result<Rule, Kind>
     requires shape { is_bad_text text.now ≡ false }
-    requires unbounded { list_any (λ b. b == 58) text.now ≡ false }
+    requires unbounded { list_any (λ b. b == byte ":") text.now ≡ false }
     requires counted { life_sets text.now ≡ None }
     requires named { four_sets text.now ≡ None }
     ensures { Answers result (other_rule text.now) }
@@ -199,7 +199,7 @@ fn other_rule(alloc: Global, text: &[u8]) -> Result<Rule, Kind>
 /// The rule of a text of none of the five forms: by the four neighbours, or another.
 fn four_or_other(alloc: Global, text: &[u8]) -> Result<Rule, Kind>
     requires shape { is_bad_text text.now ≡ false }
-    requires unbounded { list_any (λ b. b == 58) text.now ≡ false }
+    requires unbounded { list_any (λ b. b == byte ":") text.now ≡ false }
     requires counted { life_sets text.now ≡ None }
     ensures { Answers result (four_or_other text.now (four_sets text.now)) }
 {

@@ -14,7 +14,7 @@ use Rattle.life_mc.specs.declared.line.Line.TheVariants.{Leaf, Quad}
 use Rattle.life_canon.specs.Universe.{is_life, least_level}
 use Rattle.life_canon.specs.Listing.{is_small, is_in, with_new, with_all, walk, place, number_of, line_of, lines_for, quad_line, rows_of, listed}
 use Rattle.life_canon.specs.Closed.{IsClosed}
-use Rattle.life_canon.specs.Walking.{TakesLine, BreaksOff, TakesOn, TakesWalk, MayWalk, Walked, BreaksIn}
+use Rattle.life_canon.specs.Walking.{TakesNodeLine, BreaksOff, TakesOn, TakesWalk, MayWalk, Walked, BreaksIn}
 use Rattle.life_canon.proofs.Trees.{bool_cases, true_false}
 use Rattle.life_canon.proofs.ListFacts.{with_all-from, with_all-append, with_new-known, with_new-fresh, place-append, place-last}
 use Rattle.life_canon.proofs.Walk.{walk-level, walk-big, walked, none-closed, IsKnown, IsWalked}
@@ -100,7 +100,7 @@ module _ {A : Type 0} (took broke : A → A → List Line → Type 0) (rule : Ru
 
   -- a line behind a call
   takes-line : {c : A} (new : List Tree) (t : Tree) (line : Line) → new ≡ mid ++ t ∷ [] → TakesOn took rule a b old mid
-      → TakesLine took b c line
+      → TakesNodeLine took b c line
       → ((all rest : List Tree) → all ≡ (mid ++ t ∷ []) ++ rest → line ≡ line_of rule all t) → TakesOn took rule a c old new
   takes-line {c = c} new t line n u v is = subst (TakesOn took rule a c old) (sym n) (λ start all rest e w.
       subst (took start c) (ap (λ r. map (line_of rule all) mid ++ r ∷ []) (is all rest e) ∙ sym (map-append (line_of rule all) mid (t ∷ [])))
@@ -314,7 +314,7 @@ module _ {A : Type 0} {knows : Id → Type 0} {took broke : A → A → List Lin
   -- a leaf
   pub walked-leaf : {level n : ℕ} → MayWalk knows content rule level id old → (1 ≤ depth (content id)) × (is_blank (content id) ≡ false)
       → IsFull (content id) → is_in (map content old) (content id) ≡ false → (is_life rule && level == 3) ≡ true → new ≡ old ++ id ∷ [] → n ≡ length new
-      → TakesLine took a c (Leaf (rows_of (content id))) → Walked knows content took broke rule id a c old new (Ok n)
+      → TakesNodeLine took a c (Leaf (rows_of (content id))) → Walked knows content took broke rule id a c old new (Ok n)
   walked-leaf {level = level} may shown full absent is added count z =
       let t = content id in
       let all = map content old in
@@ -385,7 +385,7 @@ module _ {A : Type 0} {knows : Id → Type 0} {took broke : A → A → List Lin
         (subst (λ l. Behind l whole) (sym x.wrote.walked) (begun _ _ _ may shown square u.wrote.walked v.wrote.walked w.wrote.walked).four))
 
     pub walked-own : {f : A} {n : ℕ} {new : List Id} → IsFull (content id) → is_in (map content old) (content id) ≡ false
-        → (is_life rule && level == 3) ≡ false → new ≡ four ++ id ∷ [] → n ≡ length new → TakesLine took e f (Quad level na nb nc nd)
+        → (is_life rule && level == 3) ≡ false → new ≡ four ++ id ∷ [] → n ≡ length new → TakesNodeLine took e f (Quad level na nb nc nd)
         → Walked knows content took broke rule id a f old new (Ok n)
     walked-own {new = new} full absent other added count z =
         let own = absent-own full absent in

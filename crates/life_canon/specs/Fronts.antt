@@ -32,6 +32,7 @@ pub record TakesLineOf {A : Type 0} (line : List ℕ) (old new : Nodes) (before 
   pub fault : IfErr result (λ fault. IsWant new fault ⊎ IsLineFault MAX_LEVEL (taken before) line ended fault)
   pub stores : StoresLines (taken before ++ line ∷ []) old new result
 
+-- the same by the fronts before and after
 abbrev pub TakesLine : {A : Type 0} → List ℕ → Nodes → Nodes → Front → Front → Result A Fault → Type 0
 TakesLine line old new before after result = TakesLineOf line old new before.progress before.ended after.progress after.ended result
 

@@ -16,8 +16,8 @@ use Rattle.life_canon.specs.Universe.{is_life, least_level}
 use Rattle.life_canon.specs.declared.pattern.Pattern.{Pattern}
 
 -- it took this line too, whatever it took before
-abbrev pub TakesLine : {A : Type 0} → (A → A → List Line → Type 0) → A → A → Line → Type 0
-TakesLine {A} took before after line = (start : A) (lines : List Line) → took start before lines → took start after (lines ++ line ∷ [])
+abbrev pub TakesNodeLine : {A : Type 0} → (A → A → List Line → Type 0) → A → A → Line → Type 0
+TakesNodeLine {A} took before after line = (start : A) (lines : List Line) → took start before lines → took start after (lines ++ line ∷ [])
 
 -- it took what it took before, and some of the lines behind, whatever these are
 abbrev pub BreaksOff : {A : Type 0} → (A → A → List Line → Type 0) → (A → A → List Line → Type 0) → A → A → Type 0

@@ -2,7 +2,7 @@
 
 ghost use Rattle.std.specs.Prelude.{◌≡◌, [], List, OnOk, OnErr, IfErr};
 ghost use Rattle.life_canon.specs.Words.{KindValue, LineValue, Leaf, HasStatesUpTo, depth, rows_of, BreaksOff};
-ghost use Rattle.life_canon.specs.Walking.{TakesLine};
+ghost use Rattle.life_canon.specs.Walking.{TakesNodeLine};
 
 use crate::leaf_rows::eight_rows;
 use life_base::Kind;
@@ -28,7 +28,7 @@ pub(crate) trait LineSink<D> {
         requires { ready (self.old, device.old) }
         ensures ready { OnOk result (ready (self.new, device.new)) }
         ensures took { OnOk result
-            (TakesLine took (self.old, device.old) (self.new, device.new) line.now) }
+            (TakesNodeLine took (self.old, device.old) (self.new, device.new) line.now) }
         ensures broke { OnErr result
             (BreaksOff took broke (self.old, device.old) (self.new, device.new)) }
         ensures kind { IfErr result (refuses (self.new, device.new)) };
@@ -41,7 +41,7 @@ pub(crate) trait LineSink<D> {
         requires level { depth (S.content squares.now id) ≡ 3 }
         requires states { HasStatesUpTo 1 (S.content squares.now id) }
         ensures ready { OnOk result (ready (self.new, device.new)) }
-        ensures took { OnOk result (TakesLine took (self.old, device.old) (self.new, device.new)
+        ensures took { OnOk result (TakesNodeLine took (self.old, device.old) (self.new, device.new)
             (Leaf (rows_of (S.content squares.now id)))) }
         ensures broke { OnErr result
             (BreaksOff took broke (self.old, device.old) (self.new, device.new)) }

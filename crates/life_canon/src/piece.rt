@@ -11,7 +11,7 @@ use life_mc::{LONGEST_NODE_LINE, Line, append_line};
 pub(crate) const PIECE: usize = 65536;
 
 /// Whether a line fits behind what the piece holds.
-fn has_way(piece: &Vec<u8>) -> bool
+fn has_room_for_line(piece: &Vec<u8>) -> bool
     ensures { result ≡ true → vec_len piece.now + 105 ≤ 65536 }
 {
     piece.len() <= PIECE - LONGEST_NODE_LINE
@@ -46,7 +46,7 @@ fn write_line<W: Sink>(line: &Line, piece: &mut Vec<u8>, writer: &mut W) -> Resu
     ensures room { 65536 ≤ vec_capacity piece.new }
     ensures sink { LeavesSink W.failures W.stalled writer.old writer.new result }
 {
-    if has_way(piece) {
+    if has_room_for_line(piece) {
         return append_line(piece, line);
     }
     write_piece(piece, writer)?;

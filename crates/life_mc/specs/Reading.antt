@@ -71,10 +71,10 @@ abbrev pub square_on : List ℕ → Option Line
 square_on line = if is_node_line line then square_of (trim line) else None
 
 abbrev pub rule_on : List ℕ → Option Rule
-rule_on line = if is_command 82 line then result_ok (rule_of (drop 2 line)) else None
+rule_on line = if is_command (byte "R") line then result_ok (rule_of (drop 2 line)) else None
 
 abbrev pub generation_on : List ℕ → Option ℕ
-generation_on line = if is_command 71 line then Some (value_of (trim (drop 2 line))) else None
+generation_on line = if is_command (byte "G") line then Some (value_of (trim (drop 2 line))) else None
 
 -- the last of these, or what stands for none
 abbrev pub last_or : {X : Type 0} → X → List X → X
@@ -120,9 +120,9 @@ abbrev pub broken_after : ℕ → Rule → List ℕ → List ℕ → Option Kind
 broken_after top rule levels line =
     if is_blank line then None
     else (if begins_with line (codes "#FRAME") then Some Timeline
-    else (if (is_command 82 line || is_command 71 line) && nat_lt 0 (length levels) then Some LateHeader
-    else (if is_command 82 line then result_err (rule_of (drop 2 line))
-    else (if is_command 71 line then result_err (u64_of (trim (drop 2 line)))
+    else (if (is_command (byte "R") line || is_command (byte "G") line) && nat_lt 0 (length levels) then Some LateHeader
+    else (if is_command (byte "R") line then result_err (rule_of (drop 2 line))
+    else (if is_command (byte "G") line then result_err (u64_of (trim (drop 2 line)))
     else (if begins_with line (codes "#") then None
     else broken_by_node top rule levels (trim line))))))
 

@@ -47,7 +47,7 @@ fn read_generation(text: &[u8]) -> Result<u64, Kind>
     read_u64(trimmed(text))
 }
 
-/// Whether a line begins neither with whitespace nor with `#`.
+/// Whether a line has a first byte, which is neither whitespace nor `#`.
 fn begins_as_node(line: &[u8]) -> bool
     ensures { result ≡ true → is_node_line line.now ≡ true }
 {
@@ -57,7 +57,7 @@ fn begins_as_node(line: &[u8]) -> bool
     }
 }
 
-/// What a line behind the header is, if it is no node line, where this is the rule and these the levels so far.
+/// What a line behind the header is, where this is the rule and these the levels so far; None of a node line.
 #[inline(always)]
 fn parse_command(
     alloc: Global,
@@ -73,7 +73,7 @@ fn parse_command(
     parse_by_tests(alloc, rule, levels, line)
 }
 
-/// The same of any line, by one test after another. It is never inlined: most lines are node lines, and begin as these.
+/// The same by one test after another. It is never inlined: of most lines the first byte tells that they are node lines.
 #[inline(never)]
 fn parse_by_tests(
     alloc: Global,

@@ -1,4 +1,4 @@
--- What a call does to a store that is lent to it, in one record.
+-- The same words as in Keeping.antt over the ghost members of a store's type, which are one argument here, and records of what a call does.
 use Rattle.std.specs.Prelude.{◌≡◌, Result, Err, IfErr, OnErr}
 use Rattle.life_base.specs.declared.kind.Kind.{Kind}
 use Rattle.life_base.specs.declared.kind.Kind.TheVariants.{Full}
@@ -16,7 +16,7 @@ Keeps S old new = KeepsSquares S.knows S.content S.stored S.most old new
 abbrev pub IsWantOf : {X : Type 0} → Ghosts X → X → Kind → Type 0
 IsWantOf S store kind = IsWantKind (S.stored store) (S.most store) kind
 
--- The store is kept so, and gets no square but such as the call needs. `Needs` says of a property that a square which the call needs has it. The
+-- The store is kept (`Keeps`), and gets no square but such as the call needs. `Needs` says of a property that a square which the call needs has it. The
 -- call is refused only where a growth of memory was refused, or where the store holds its limit and lacks such a square.
 pub record Grows {X A : Type 0} (S : Ghosts X) (old new : X) (r : Result A Kind) (Needs : (Tree → Type 0) → Type 0) : Type 0 where
   pub keeps : Keeps S old new
@@ -31,15 +31,15 @@ pub record GrowsOnly {X A : Type 0} (S : Ghosts X) (old new : X) (r : Result A K
   pub needed : OnErr r (Needs (S.needs_node new))
   pub adds : AddsOnly S.stored Needs old new
 
--- what a call that makes squares does: `Known` and `Square` say what its answer is, and `Needed` what a refused call had to store
+-- a call makes squares (`MakesSquares`)
 abbrev pub Makes : {X T : Type 0} → Ghosts X → X → X → (T → Type 0) → (T → Type 0) → Type 0 → Result T Kind → Type 0
 Makes S old new Known Square Needed r = MakesSquares S.knows S.content S.stored S.most old new Known Square Needed r
 
--- the same of a call that makes one square, of which something is said: a refused call had to store some part of such a square
-abbrev pub MakesSuch : {X : Type 0} → Ghosts X → X → X → (Tree → Type 0) → Result Id Kind → Type 0
-MakesSuch S old new Is r =
+-- a call makes one square, of which something is said; a refused one had to store some part of such a square
+abbrev pub MakesSomeSquare : {X : Type 0} → Ghosts X → X → X → (Tree → Type 0) → Result Id Kind → Type 0
+MakesSomeSquare S old new Is r =
     Makes S old new (S.knows new) (λ id. Is (S.content new id)) ((t : Tree) × Is t × SomePart (S.needs_node new) t) r
 
--- of a call that makes this square, and stores no square but such as it needs
-abbrev pub MakesThis : {X : Type 0} → Ghosts X → X → X → Tree → ((Tree → Type 0) → Type 0) → Result Id Kind → Type 0
-MakesThis S old new t Needs r = MakesOneSquare S.knows S.content S.stored S.most S.needs_node old new t Needs r
+-- a call makes the square t, and stores no square but such as it needs (`MakesOneSquare`)
+abbrev pub MakesSquare : {X : Type 0} → Ghosts X → X → X → Tree → ((Tree → Type 0) → Type 0) → Result Id Kind → Type 0
+MakesSquare S old new t Needs r = MakesOneSquare S.knows S.content S.stored S.most S.needs_node old new t Needs r

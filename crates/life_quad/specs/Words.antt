@@ -6,7 +6,7 @@ pub use Rattle.life_quad.specs.Bands.{band_cells, InBand, IsPlaced, kept, live_c
 pub use Rattle.life_quad.specs.Bands.{southern, upper}
 pub use Rattle.life_quad.specs.Cells.{IsCellList, IsLeastBox, IsRunInside, population, SetsRun}
 pub use Rattle.life_quad.specs.Distances.{AreLeast, Faces, HasCellAt, HasCellInTwo, IsLeastOf, lesser_of}
-pub use Rattle.life_quad.specs.Grows.{Makes, MakesThis, MakesSuch}
+pub use Rattle.life_quad.specs.Grows.{Makes, MakesSquare, MakesSomeSquare}
 pub use Rattle.life_quad.specs.IdMap.{HasRoom, SetsValue, value_of}
 pub use Rattle.life_quad.specs.IdNumbers.{first_of, HasNumberRoom, number_by}
 pub use Rattle.life_quad.specs.Laws.{BlankByCells, CellsAreListed, CellsLieInside, EqualByCells, EqualByPlane, EqualSquaresHaveOneId, GrowingKeepsCells}

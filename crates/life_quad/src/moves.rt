@@ -1,6 +1,6 @@
 //! Squares made of other squares.
 ghost use Rattle.std.specs.Prelude.{◌≡◌, ◌&&◌, ◌+◌, ◌<◌, ◌≤◌, is_some, IfSome};
-ghost use Rattle.life_quad.specs.Words.{quad, depth, is_blank_tree, AreQuarters, quad_of, grown, trimmed, inner, can_trim, SomePart, TrimmedTo, MakesThis};
+ghost use Rattle.life_quad.specs.Words.{quad, depth, is_blank_tree, AreQuarters, quad_of, grown, trimmed, inner, can_trim, SomePart, TrimmedTo, MakesSquare};
 
 use crate::{Id, Squares};
 use life_base::{Kind, MAX_LEVEL};
@@ -44,7 +44,7 @@ pub fn grow<S: Squares>(squares: &mut S, id: Id) -> Result<Id, Kind>
     requires known { S.knows squares.old id }
     requires low { 1 ≤ depth (S.content squares.old id) }
     requires high { depth (S.content squares.old id) < MAX_LEVEL }
-    ensures { MakesThis S.Squares squares.old squares.new (grown (S.content squares.old id))
+    ensures { MakesSquare S.Squares squares.old squares.new (grown (S.content squares.old id))
         (λ P. SomePart P (grown (S.content squares.old id))) result }
 {
     let Quarters { nw, ne, sw, se } = divide(squares, id);
@@ -152,7 +152,8 @@ fn innermost<S: Squares>(squares: &S, quarters: Quarters, least: u8) -> Quarters
 pub fn trim<S: Squares>(squares: &mut S, id: Id, least: u8) -> Result<Id, Kind>
     requires known { S.knows squares.old id }
     requires positive { 1 ≤ least }
-    ensures { MakesThis S.Squares squares.old squares.new (trimmed (S.content squares.old id) least)
+    ensures { MakesSquare S.Squares squares.old squares.new
+        (trimmed (S.content squares.old id) least)
         (λ P. TrimmedTo P (S.content squares.old id) least) result }
 {
     if squares.level(id) <= least {

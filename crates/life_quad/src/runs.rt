@@ -1,6 +1,6 @@
 //! Runs of cells.
 ghost use Rattle.std.specs.Prelude.{◌≡◌, ◌⊎◌, ℤ, pos, neg_ℤ, ◌≤ℤ◌, ◌<ℤ◌, ◌+ℤ◌, ◌-◌, ◌+◌, ◌^◌, ◌<◌, ◌≤◌};
-ghost use Rattle.life_quad.specs.Words.{Tree, depth, SetsSpan, SetsHalves, IsRunInside, SetsRun, SomePart, Makes, MakesSuch};
+ghost use Rattle.life_quad.specs.Words.{Tree, depth, SetsSpan, SetsHalves, IsRunInside, SetsRun, SomePart, Makes, MakesSomeSquare};
 
 use crate::moves::{Quarters, divide};
 use crate::{Id, Squares};
@@ -43,7 +43,7 @@ fn set_span<S: Squares>(squares: &mut S, id: Id, span: Span) -> Result<Id, Kind>
     requires positive { 1 ≤ span.len }
     requires columns { span.column + span.len ≤ 2 ^ depth (S.content squares.old id) }
     requires rows { span.row < 2 ^ depth (S.content squares.old id) }
-    ensures { MakesSuch S.Squares squares.old squares.new
+    ensures { MakesSomeSquare S.Squares squares.old squares.new
         (λ t. SetsSpan (S.content squares.old id) t span) result }
 {
     let level = squares.level(id);
@@ -122,7 +122,7 @@ pub fn put_run<S: Squares>(squares: &mut S, root: Id, run: Run) -> Result<Id, Ki
     requires high { 1 ≤ depth (S.content squares.old root) }
     requires positive { 1 ≤ run.len }
     requires inside { IsRunInside (S.content squares.old root) run }
-    ensures { MakesSuch S.Squares squares.old squares.new
+    ensures { MakesSomeSquare S.Squares squares.old squares.new
         (λ t. SetsRun (S.content squares.old root) t run) result }
 {
     let half = half_side(squares.level(root));

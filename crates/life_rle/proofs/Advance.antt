@@ -27,7 +27,7 @@ use Rattle.life_rle.specs.declared.line.Later.TheVariants.{Passed, Data}
 use Rattle.life_rle.specs.File.{HasRuns}
 use Rattle.life_rle.specs.Cursor.{IsBehind, start_of, moved, moved_behind, placed_at}
 use Rattle.life_rle.specs.Standing.{StandsAt, Advances}
-use Rattle.life_rle.specs.Reading.{IsRead, ItemsBreak, no_item, bad_item}
+use Rattle.life_rle.specs.Reader.{IsRead, ItemsBreak, no_item, bad_item}
 use Rattle.life_rle.proofs.Progress.{with_items, with_items-nil, placed_behind-append, IsPreamble-push, IsUnmarked-push, IsMarked-begun, IsMarked-push, header-IsUnmarked, passed-IsUnmarked}
 use Rattle.life_rle.proofs.Unique.{IsRle-unique, with_items-twice}
 use Rattle.life_rle.proofs.Refusal.{IsPreamble-refused}

@@ -14,7 +14,7 @@ use Rattle.life_rle.specs.Pattern.{cell_among}
 use Rattle.life_rle.specs.States.{is_state_of}
 use Rattle.life_rle.specs.Written.{with_gap, with_cells, items_from}
 use Rattle.life_rle.specs.Sorted.{state_in}
-use Rattle.life_rle.specs.Writing.{IsGoodCell, Follow}
+use Rattle.life_rle.specs.Writer.{IsGoodCell, Follow}
 use Rattle.life_rle.proofs.Places.{placed_from, cond_zero}
 use Rattle.life_base.specs.declared.cell.TheConstants.{MAX_LEVEL}
 

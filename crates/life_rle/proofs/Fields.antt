@@ -8,7 +8,7 @@ use Rattle.life_base.specs.Text.{begins_with, with_word}
 use Rattle.life_base.specs.Numbers.{u64_of}
 use Rattle.life_rle.specs.declared.position.Position.{Position}
 use Rattle.life_rle.specs.Plane.{is_coordinate}
-use Rattle.life_rle.specs.Reading.{IsNumberRead}
+use Rattle.life_rle.specs.Reader.{IsNumberRead}
 use Rattle.life_rle.specs.Position.{Field, Corner, Generation, Other, corner_of, corner_in, field_of, with_field, and_then, position_with}
 
 pub corner-no_second : (level : ℕ) (z : ℤ) (sx sy : Option ℤ) (f : Field → Result Position Kind) → IsNumberRead level (Some z) sx → IsNumberRead level None sy

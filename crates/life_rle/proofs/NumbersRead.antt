@@ -9,7 +9,7 @@ use Rattle.life_base.specs.Text.{begins_with, is_digit_text, value_of}
 use Rattle.life_base.specs.Numbers.{number_up_to, result_map, i64_of}
 use Rattle.life_rle.specs.Plane.{is_coordinate}
 use Rattle.life_rle.specs.Position.{signed_number}
-use Rattle.life_rle.specs.Reading.{IsNumberRead}
+use Rattle.life_rle.specs.Reader.{IsNumberRead}
 
 -- the greatest number of the type
 abbrev pub greatest : ℤ

@@ -10,7 +10,7 @@ use Rattle.life_rle.specs.declared.item.Item.TheVariants.{Cells, RowEnds}
 use Rattle.life_rle.specs.declared.wrapping.ItemLines.{ItemLines}
 use Rattle.life_rle.specs.Cursor.{item_count}
 use Rattle.life_rle.specs.Written.{count_text, item_text, item_lines, wrapped}
-use Rattle.life_rle.specs.Writing.{tag_text, feed, used_behind, text_from, items_text, text_with, Puts}
+use Rattle.life_rle.specs.Writer.{tag_text, feed, used_behind, text_from, items_text, text_with, Puts}
 use Rattle.life_rle.proofs.FileLines.{state_text-short}
 
 pub tag-short : (rule : Rule) (item : Item) → length (tag_text rule item) ≤ 2

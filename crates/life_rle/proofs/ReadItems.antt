@@ -11,7 +11,7 @@ use Rattle.std.specs.Option.{option_or}
 use Rattle.life_rle.specs.Pattern.{Placed, item_fault, first_fault}
 use Rattle.life_rle.specs.Runs.{with_run, runs_of}
 use Rattle.life_rle.specs.Cursor.{IsNear, item_count, moved, moved_behind, placed_at}
-use Rattle.life_rle.specs.Reading.{IsRead, ReadsItems}
+use Rattle.life_rle.specs.Reader.{IsRead, ReadsItems}
 use Rattle.life_rle.proofs.ShortKinds.{is_short_kind}
 use Rattle.life_rle.proofs.Shrinks.{IsTame, next_of-tame, Spells-push}
 use Rattle.life_rle.proofs.Progress.{first_fault-append}

@@ -20,7 +20,7 @@ use Rattle.life_rle.specs.Written.{box_of, joined, box_of_cell}
 use Rattle.life_rle.specs.Sorted.{is_live_cell, rises, are_sorted_cells}
 use Rattle.life_rle.proofs.Places.{placed_from}
 use Rattle.life_rle.proofs.FileLines.{AreWritten}
-use Rattle.life_rle.specs.Writing.{IsGoodCell, Follow, IsInPlane}
+use Rattle.life_rle.specs.Writer.{IsGoodCell, Follow, IsInPlane}
 use Rattle.life_rle.proofs.CellsLaw.{AreGood}
 use Rattle.life_base.specs.declared.cell.TheConstants.{MAX_LEVEL}
 

@@ -13,7 +13,7 @@ use Rattle.life_base.specs.declared.rule.Rule.{Rule}
 use Rattle.life_base.specs.declared.bounds.Bounds.{Bounds}
 use Rattle.life_rle.specs.declared.pen.Pen.{Pen}
 use Rattle.life_rle.specs.declared.wrapping.ItemLines.{ItemLines}
-use Rattle.life_rle.specs.Writing.{run_of, longer, column_behind, item_of, joins, items_text, text_with, pen_text, Puts, IsLiveRun, IsPen, IsGoodCell, IsAhead, Follow, WritesCell}
+use Rattle.life_rle.specs.Writer.{run_of, longer, column_behind, item_of, joins, items_text, text_with, pen_text, Puts, IsLiveRun, IsPen, IsGoodCell, IsAhead, Follow, WritesCell}
 use Rattle.life_rle.proofs.PutItems.{Puts-then}
 
 -- how far apart two coordinates are that were passed as words of the machine

@@ -48,5 +48,5 @@ lettered n =
 
 -- the text of a state that is written: `b` and `o` under a B/S rule
 abbrev pub state_text : Rule → ℕ → List ℕ
-state_text (Life sets) n = (if n == 0 then 98 else 111) ∷ []
+state_text (Life sets) n = (if n == 0 then byte "b" else byte "o") ∷ []
 state_text (Named name) n = lettered n

@@ -23,15 +23,15 @@ pub use Rattle.life_rle.specs.PlainFile.{FilesArePlain, IsPlainRle}
 pub use Rattle.life_rle.specs.PlainPosition.{PositionsArePlain}
 pub use Rattle.life_rle.specs.Plane.{edge, is_coordinate, most_count}
 pub use Rattle.life_rle.specs.Position.{and_then, corner_in, field_of, Generation, is_position_line, position_of, position_with, signed_number, with_field}
-pub use Rattle.life_rle.specs.Reading.{IsCount, IsCountRead, IsItemAt, IsNumberRead, IsTokenAt, ItemsBreak, last_of, ReadsItems, TakesItem}
+pub use Rattle.life_rle.specs.Reader.{IsCount, IsCountRead, IsItemAt, IsNumberRead, IsTokenAt, ItemsBreak, last_of, ReadsItems, TakesItem}
 pub use Rattle.life_rle.specs.Runs.{is_run_end, with_run}
 pub use Rattle.life_rle.specs.RunsLaw.{IsBlankOutside, RunsAreCells}
 pub use Rattle.life_rle.specs.Sorted.{are_sorted_cells, is_live_cell, rises}
 pub use Rattle.life_rle.specs.Standing.{Advances, is_over, is_refused, IsPlaced, StandsAt, TakesLine}
 pub use Rattle.life_rle.specs.States.{is_state_of, lettered, prefixed_state, single_state, state_text}
 pub use Rattle.life_rle.specs.Valid.{FilesAreValid}
-pub use Rattle.life_rle.specs.Writing.{column_behind, Follow, IsAhead, IsGoodCell, IsInPlane, IsLiveRun, IsPen, item_of, items_text, joins, longer}
-pub use Rattle.life_rle.specs.Writing.{pen_text, Puts, run_of, tag_text, text_with, WritesCell}
+pub use Rattle.life_rle.specs.Writer.{column_behind, Follow, IsAhead, IsGoodCell, IsInPlane, IsLiveRun, IsPen, item_of, items_text, joins, longer}
+pub use Rattle.life_rle.specs.Writer.{pen_text, Puts, run_of, tag_text, text_with, WritesCell}
 pub use Rattle.life_rle.specs.Written.{box_of, box_of_cell, count_text, generation_text, header_text, item_text, items_from, position_text, rle_text, span}
 pub use Rattle.life_rle.specs.Written.{way_to, with_gap}
 pub use Rattle.life_rle.specs.declared.item.Item.TheVariants.{Cells, RowEnds}

@@ -77,7 +77,7 @@ pub(crate) fn moved(cursor: Cursor, item: Item) -> Cursor
     }
 }
 
-/// The place behind ends of rows, unless it is below the plane.
+/// The place behind ends of rows, unless it is further down than the row below the plane's last one.
 #[inline(always)]
 pub(crate) fn end_rows(cursor: Cursor, count: u64) -> Result<Cursor, Kind>
     requires near { IsNear MAX_LEVEL cursor }

@@ -41,7 +41,7 @@ state_so_far content p = picture content (strips_of p.pile ++ p.row ∷ [])
 abbrev pub cell_so_far : (Id → Tree) → Plane → ℤ → ℤ → ℕ
 cell_so_far content p = on_plane (state_so_far content p)
 
--- a row was begun, or had been before; no cell changed, and of a row that had been begun no span ends further east than it did
+-- The row is the one that was begun: newly, and without a span, or before, and then no span ends further east than it did. No cell changed.
 pub record BeginsRow (knows : Id → Type 0) (before after : Id → Tree) (old new : Plane) (row : ℕ) : Type 0 where
   pub filled : IsFilled knows after new
   pub rows : new.rows ≡ row

@@ -81,8 +81,7 @@ module _ (symmetry : Symmetry) (vars : List Var) (centre : ℕ) (others : List �
   abbrev pub Decides : List Transition → Answer → Type 0
   Decides lines answer = FirstToGive lines answer ⊎ (All GivesNothing lines × (answer ≡ Becomes centre))
 
-  -- The lines decide as a call answers: the state, or, where the fault says so, that the first line that gives anything gives two, which is the
-  -- line that the fault names.
+  -- a call answers what the lines decide: Ok with the state, or Err with Ambiguous at the number of the line that gives two
   abbrev pub DecidesAs : List Transition → Result ℕ Fault → Type 0
   DecidesAs lines result = MatchResult result (λ s. Decides lines (Becomes s))
       (λ fault. (fault.kind ≡ kinds.Ambiguous) × Decides lines (Ambiguous fault.place.line))

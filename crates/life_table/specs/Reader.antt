@@ -1,4 +1,4 @@
--- What the reader of a rule table keeps from line to line, in words that its own functions use.
+-- What the reader of a rule table keeps from line to line, and what its functions find in a line.
 use Rattle.std.specs.Prelude.{◌≡◌, ℕ, ◌<◌, ◌≤◌, Bool, true, List, [], ◌∷◌, ◌++◌, Option, Some, None, IfSome, ◌==◌, ◌||◌, ◌≢◌, All, IsTrue, slice_get, map, option_map}
 use Rattle.std.proofs.Common.{Bor}
 use Rattle.std.specs.Global.{Vec}
@@ -20,7 +20,7 @@ abbrev pub parts_left : Option (Bor (List ℕ)) → List (List ℕ)
 parts_left None = []
 parts_left (Some text) = slice_split (λ b. b == byte ",") text.now
 
--- the parts that were found are the entries of these words; they are found if each word is one
+-- the entries of these words were found: all of them, or none where one of the words is no entry
 abbrev pub AreEntriesOf : ℕ → List Var → List (List ℕ) → Option (Vec Entry) → Type 0
 AreEntriesOf n_states vars words found = option_map (λ entries. entries.items) found ≡ all_some (map (entry_of n_states vars) words)
 

@@ -33,6 +33,7 @@ abbrev pub is_variable : ℕ → Entry → Bool
 is_variable i (entries.Fixed s) = false
 is_variable i (entries.Var j) = nat_eq i j
 
+-- a transition has a centre, as many neighbours as the neighbourhood has, and an output that is bound
 pub record IsTransition (n_states neighbours : ℕ) (vars : List Var) (line : Transition) : Type 0 where
   -- the centre, and each neighbour
   pub count : length line.inputs ≡ neighbours + 1

@@ -2,7 +2,7 @@
 pub use Rattle.life_base.specs.Refusal.{Answers, IsMemory, OrMemory}
 pub use Rattle.life_base.specs.Rules.{rule_of}
 pub use Rattle.life_base.specs.Text.{lines_of}
-pub use Rattle.life_table.specs.Around.{cells_of, TellsNext}
+pub use Rattle.life_table.specs.Around.{cells_of, AnswersNext}
 pub use Rattle.life_table.specs.Found.{Adds, Consistent, SomeGives, Tells}
 pub use Rattle.life_table.specs.Grammar.{GrammarsAgree, IsFile}
 pub use Rattle.life_table.specs.Index.{AnswersAmong, AreBlocks, AreCounts, Asks, entry_at, HasLine, HasLines, InSets, is_among, IsApart, IsImage, IsQuery}

@@ -1,6 +1,6 @@
 //! A table with an index of its lines.
 ghost use Rattle.std.specs.Prelude.{◌≡◌, ℕ, ◌+◌, ◌*◌, ◌<◌, ◌≤◌, ◌∷◌, List, Contains, length, take, All, Option};
-ghost use Rattle.life_table.specs.Words.{bit_at, GivesNothing, neighbour_count, cells_of, images, AnswersAmong, TellsNext, MayGive, MayFit, AreBlocks, IsQuery, Asks, IsSite, IsLineAt, GoesRound, TurnsAreImages, centre_of, others_of};
+ghost use Rattle.life_table.specs.Words.{bit_at, GivesNothing, neighbour_count, cells_of, images, AnswersAmong, AnswersNext, MayGive, MayFit, AreBlocks, IsQuery, Asks, IsSite, IsLineAt, GoesRound, TurnsAreImages, centre_of, others_of};
 
 use crate::block::{Block, LINES};
 use crate::found::Found;
@@ -150,7 +150,7 @@ fn next_by_blocks(table: &Table, blocks: &[Block], around: &Neighbours) -> Resul
     requires neighbours { length (cells_of around.now)
         ≡ neighbour_count table.now.neighborhood + 1 }
     requires blocks { AreBlocks table.now.vars table.now.lines blocks.now }
-    ensures { TellsNext table.now (cells_of around.now) result }
+    ensures { AnswersNext table.now (cells_of around.now) result }
 {
     let cells = around.as_slice();
     let vars = table.vars.as_slice();
@@ -216,7 +216,7 @@ impl<'a> Index<'a> {
         requires neighbours { length (cells_of around.now)
             ≡ neighbour_count self.now.neighborhood + 1 }
         requires states { All (λ s. s < self.now.n_states) (cells_of around.now) }
-        ensures { TellsNext self.now (cells_of around.now) result }
+        ensures { AnswersNext self.now (cells_of around.now) result }
     {
         if self.blocks.is_empty() {
             return self.table.next(around);

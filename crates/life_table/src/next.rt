@@ -1,6 +1,6 @@
 //! What a table makes of a cell and its neighbours.
 ghost use Rattle.std.specs.Prelude.{◌≡◌, ◌+◌, ◌<◌, length, All};
-ghost use Rattle.life_table.specs.Words.{Tells, TellsNext, Gives, neighbour_count, cells_of, IsSite, IsLineAt, GoesRound, TurnsAreImages, centre_of, others_of};
+ghost use Rattle.life_table.specs.Words.{Tells, AnswersNext, Gives, neighbour_count, cells_of, IsSite, IsLineAt, GoesRound, TurnsAreImages, centre_of, others_of};
 
 use crate::choose::{by_counts, can_be};
 use crate::fit::by_images;
@@ -60,7 +60,7 @@ impl Table {
         requires neighbours { length (cells_of around.now)
             ≡ neighbour_count self.now.neighborhood + 1 }
         requires states { All (λ s. s < self.now.n_states) (cells_of around.now) }
-        ensures { TellsNext self.now (cells_of around.now) result }
+        ensures { AnswersNext self.now (cells_of around.now) result }
     {
         let cells = around.as_slice();
         let vars = self.vars.as_slice();

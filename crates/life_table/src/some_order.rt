@@ -207,9 +207,9 @@ impl Block {
         rest
     }
 
-    /// Of these lines those that have inputs enough, whichever of the states are chosen: as many that may be one of those as neighbours that are. The
-    /// choices of all states but one leave the fewest lines, so they come first.
-    fn with_every_choice(&self, others: &[State], states: &[State], lines: u64) -> u64
+    /// Of these lines those that have, for each set of the states, as many inputs that may be one of the set as there are neighbours that are one.
+    /// The sets of all states but one leave the fewest lines, so they come first.
+    fn with_every_subset(&self, others: &[State], states: &[State], lines: u64) -> u64
         requires room { length others.now ≤ 8 }
         requires few { length states.now ≤ 8 }
         ensures { KeepsOrders self.now others.now lines result }
@@ -242,6 +242,6 @@ impl Block {
         if lines.count_ones() <= FEW {
             return lines;
         }
-        self.with_every_choice(others, states, lines)
+        self.with_every_subset(others, states, lines)
     }
 }

@@ -6,4 +6,5 @@ use Rattle.library_theorems.proofs.streams.told_of_pieces.Given as goal
 
 abbrev pub invariant-loop-piece : goal.invariant-loop-piece
 invariant-loop-piece l =
-    (output : Output) (limit : ℕ) → IsOpen (IsFed output limit []) (session_of l.initial.stream) → Took output limit l.pieces l.piece-index (session_of l.stream)
+    (output : Output) (limit : ℕ) → IsOpen (IsFed output limit []) (session_of l.initial.stream)
+    → Took output limit l.pieces l.piece-index (session_of l.stream)

@@ -1,7 +1,7 @@
 use Rattle.std.proofs.Common.{◌≡◌, ◌∙◌, ◌+◌, ◌∷◌, ◌<◌, ap, sym, arith, drop, get_or, length}
 use Rattle.life_base.specs.declared.cell.TheConstants.{MAX_LEVEL}
 use Rattle.life_rle.specs.Items.{item_behind, next_of}
-use Rattle.life_rle.specs.Reading.{digits}
+use Rattle.life_rle.specs.Reader.{digits}
 use Rattle.life_rle.proofs.DigitInFront.{text_at, digit_in_front}
 use Rattle.life_rle.proofs.item.count_at.Goals as goal
 

@@ -5,7 +5,7 @@ use Rattle.life_base.proofs.LineEnds.{all_behind}
 use Rattle.life_base.specs.declared.cell.TheConstants.{MAX_LEVEL}
 use Rattle.life_base.specs.declared.kind.Kind.{Kind}
 use Rattle.life_rle.specs.Items.{Broken, front_digits, item_behind, next_of}
-use Rattle.life_rle.specs.Reading.{digits}
+use Rattle.life_rle.specs.Reader.{digits}
 use Rattle.life_rle.proofs.DigitInFront.{NumberAt, number_at}
 use Rattle.life_rle.proofs.item.long_count.Goals as goal
 

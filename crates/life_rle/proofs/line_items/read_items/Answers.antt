@@ -5,7 +5,7 @@ use Rattle.life_base.specs.declared.kind.Kind.TheVariants.{Memory}
 use Rattle.life_base.specs.declared.cell.TheConstants.{MAX_LEVEL}
 use Rattle.life_rle.specs.declared.cursor.Cursor.{Cursor}
 use Rattle.life_rle.specs.Pattern.{item_fault}
-use Rattle.life_rle.specs.Reading.{ItemsBreak, no_item, bad_item}
+use Rattle.life_rle.specs.Reader.{ItemsBreak, no_item, bad_item}
 use Rattle.life_rle.proofs.ReadItems.{spelled-as, reads-as, found-small, reads_more}
 use Rattle.life_rle.proofs.line_items.read_items.Goals as goal
 

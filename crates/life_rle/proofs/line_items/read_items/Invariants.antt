@@ -2,7 +2,7 @@ use Rattle.std.proofs.Common.{◌≡◌, ◌≤◌, ◌-◌, drop, length}
 use Rattle.life_base.specs.declared.cell.TheConstants.{MAX_LEVEL}
 use Rattle.life_rle.specs.Items.{next_of}
 use Rattle.life_rle.specs.Cursor.{row_limit}
-use Rattle.life_rle.specs.Reading.{ReadsItems}
+use Rattle.life_rle.specs.Reader.{ReadsItems}
 use Rattle.life_rle.proofs.line_items.read_items.Given as goal
 
 -- the items in front of the place were read, and the limit is that of the row

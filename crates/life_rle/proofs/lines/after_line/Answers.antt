@@ -11,7 +11,7 @@ use Rattle.life_rle.specs.declared.lines.Phase.{Phase}
 use Rattle.life_rle.specs.declared.lines.Phase.TheVariants as phases
 use Rattle.life_rle.specs.declared.line.Later.TheVariants.{Data}
 use Rattle.life_rle.specs.Standing.{StandsAt, is_refused, TakesLine}
-use Rattle.life_rle.specs.Reading.{ItemsBreak}
+use Rattle.life_rle.specs.Reader.{ItemsBreak}
 use Rattle.life_rle.specs.Grammar.{Breaks, opening_of, later_of}
 use Rattle.life_rle.proofs.Advance.{adv-over, breaks-before, breaks-form, breaks-items}
 use Rattle.life_rle.proofs.lines.after_line.Goals as goal

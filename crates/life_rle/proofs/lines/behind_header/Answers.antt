@@ -8,7 +8,7 @@ use Rattle.life_base.specs.declared.cell.Run.{Run}
 use Rattle.life_rle.specs.declared.lines.Phase.{Phase}
 use Rattle.life_rle.specs.declared.lines.Phase.TheVariants as phases
 use Rattle.life_rle.specs.Items.{End, Mark}
-use Rattle.life_rle.specs.Reading.{ItemsBreak, IsRead, last_of}
+use Rattle.life_rle.specs.Reader.{ItemsBreak, IsRead, last_of}
 use Rattle.life_rle.specs.Standing.{TakesLine}
 use Rattle.life_base.specs.declared.cell.TheConstants.{MAX_LEVEL}
 use Rattle.life_rle.specs.declared.line.Later.TheVariants.{Passed, Data}

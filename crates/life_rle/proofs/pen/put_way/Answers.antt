@@ -1,6 +1,6 @@
 use Rattle.std.proofs.Common.{rules}
 use Rattle.std.proofs.lemmas.Result.{on_ok_weaker}
-use Rattle.life_rle.specs.Writing.{column_behind}
+use Rattle.life_rle.specs.Writer.{column_behind}
 use Rattle.life_rle.proofs.TakeCells.{distance_is, way-down}
 use Rattle.life_rle.proofs.pen.put_way.Goals as goal
 

@@ -2,7 +2,7 @@ use Rattle.std.proofs.Common.{◌∷◌, [], sym, ◌∙◌, subst, to_z-of_z}
 use Rattle.life_base.specs.declared.cell.Run.{Run}
 use Rattle.life_rle.specs.declared.item.Item.{Item}
 use Rattle.life_rle.specs.declared.pen.Pen.{Pen}
-use Rattle.life_rle.specs.Writing.{WritesCell, Puts}
+use Rattle.life_rle.specs.Writer.{WritesCell, Puts}
 use Rattle.life_rle.proofs.TakeCells.{take-longer, take-ended}
 use Rattle.life_rle.proofs.pen.take.Goals as goal
 

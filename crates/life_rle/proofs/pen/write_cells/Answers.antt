@@ -2,7 +2,7 @@ use Rattle.std.proofs.Common.{ap, ◌∙◌, rules}
 use Rattle.std.proofs.lemmas.Result.{IfOk-weaker}
 use Rattle.life_rle.specs.declared.pen.Pen.{Pen}
 use Rattle.life_rle.specs.declared.wrapping.ItemLines.{ItemLines}
-use Rattle.life_rle.specs.Writing.{pen_text}
+use Rattle.life_rle.specs.Writer.{pen_text}
 use Rattle.life_rle.proofs.TakeCells.{distance_is, from-first}
 use Rattle.life_rle.proofs.pen.write_cells.Goals as goal
 

@@ -2,7 +2,7 @@ use Rattle.std.proofs.Common.{◌++◌, ◌∷◌, [], pos, ap, ◌∙◌}
 use Rattle.std.proofs.lemmas.Result.{IfOk-weaker}
 use Rattle.life_rle.specs.declared.wrapping.ItemLines.{ItemLines}
 use Rattle.life_rle.specs.Written.{position_text, header_text}
-use Rattle.life_rle.specs.Writing.{text_with}
+use Rattle.life_rle.specs.Writer.{text_with}
 use Rattle.life_rle.proofs.PutItems.{lines-text}
 use Rattle.life_rle.proofs.writing.blank_text.Goals as goal
 

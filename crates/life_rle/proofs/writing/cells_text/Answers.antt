@@ -1,6 +1,6 @@
 use Rattle.std.proofs.Common.{◌∷◌, [], ◌++◌, ℕ, List, sym, ap, ◌∙◌, subst}
 use Rattle.life_base.specs.declared.bounds.Bounds.{Bounds}
-use Rattle.life_rle.specs.Writing.{IsInPlane, Follow}
+use Rattle.life_rle.specs.Writer.{IsInPlane, Follow}
 use Rattle.life_rle.proofs.Sorting.{sorted-IsInPlane, sorted-Follow, box-top}
 use Rattle.std.specs.Prelude.{flat_map}
 use Rattle.std.proofs.lemmas.Result.{IfOk-weaker}

@@ -4,7 +4,7 @@ use Rattle.std.proofs.lemmas.Result.{IfOk-weaker}
 use Rattle.life_base.specs.declared.cell.Cell.{Cell}
 use Rattle.life_rle.specs.declared.item.Item.{Item}
 use Rattle.life_rle.specs.declared.pen.Pen.{Pen}
-use Rattle.life_rle.specs.Writing.{pen_text, column_behind, Follow, Puts}
+use Rattle.life_rle.specs.Writer.{pen_text, column_behind, Follow, Puts}
 use Rattle.life_rle.proofs.TakeCells.{WritesUpTo}
 use Rattle.life_rle.proofs.pen.Pen.finish.Goals as goal
 

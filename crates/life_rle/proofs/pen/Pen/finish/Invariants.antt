@@ -1,5 +1,5 @@
 use Rattle.std.proofs.Common.{drop}
-use Rattle.life_rle.specs.Writing.{pen_text}
+use Rattle.life_rle.specs.Writer.{pen_text}
 use Rattle.life_rle.proofs.TakeCells.{WritesUpTo}
 use Rattle.life_rle.proofs.pen.Pen.finish.Given as goal
 

@@ -6,7 +6,7 @@ pub returns : goal.returns
 returns c = λ k room fit.
     let v = fit.order in
     let t = order_tells c.args.self.now c.args.cells.now k fit (omega (arith, c.type_inv.cells 0)) in
-    c.with_every_choice.ensures k v room t.0 t.1
+    c.with_every_subset.ensures k v room t.0 t.1
     (c.with_pairs-lines.ensures k (slice_index c.args.cells.now 0) v room t.0 fit.fits
     (c.with_each_state-lines.ensures k v room t.0 t.1 (c.with_each_input-lines.ensures k v room t.0 t.1 t.2)))
 

@@ -1,5 +1,5 @@
 use Rattle.life_table.proofs.Indexing.{and_both}
-use Rattle.life_table.proofs.block.Block.with_every_choice.Goals as goal
+use Rattle.life_table.proofs.block.Block.with_every_subset.Goals as goal
 
 pub loop-i-preserved : goal.loop-i-preserved
 loop-i-preserved c = λ k v room order may h.

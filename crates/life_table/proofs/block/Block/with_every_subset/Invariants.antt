@@ -1,5 +1,5 @@
 use Rattle.life_table.specs.Index.{KeepsOrders}
-use Rattle.life_table.proofs.block.Block.with_every_choice.Given as goal
+use Rattle.life_table.proofs.block.Block.with_every_subset.Given as goal
 
 -- the lines that may fit an order stay
 abbrev pub invariant-loop-i : goal.invariant-loop-i

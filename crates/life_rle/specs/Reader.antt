@@ -20,8 +20,8 @@ pub data IsCount (level : ℕ) (line : List ℕ) (at count place : ℕ) : Type 0
   none : is_ascii_digit (slice_index line at) ≡ false → count ≡ 1 → place ≡ at → IsCount level line at count place
   digits : at < place → next_of level (drop at line) ≡ item_behind count (drop place line) → IsCount level line at count place
 
--- What is read at a place where a digit stands: the count that the digits write, and the place behind them, which is in the line; or why they
--- spell no item.
+-- A count was read at a place, and the place behind its digits, which is in the line: the item there is the one that the whole spells. Or the
+-- whole spells none, and this is why.
 abbrev pub IsCountRead : ℕ → List ℕ → ℕ → Result (ℕ × ℕ) Kind → Type 0
 IsCountRead level line at result = MatchResult result
     (λ found. IsCount level line at found.0 found.1 × (found.1 < length line)) (λ kind. next_of level (drop at line) ≡ Broken kind)
@@ -47,16 +47,17 @@ IsNumberRead level None None = Unit {0}
 IsNumberRead level (Some z) (Some w) = (is_coordinate level w ≡ is_coordinate level z) × (is_coordinate level w ≡ true → w ≡ z)
 IsNumberRead level _ _ = ⊥
 
--- an item was taken: it breaks no rule where it stands, `next` is the place behind it, and its run, if it has one, was put behind the runs
-pub record IsTaken (level : ℕ) (rule : Rule) (here : Cursor) (item : Item) (before after : List Run) (next : Cursor) : Type 0 where
+-- an item was taken: it breaks no rule where it stands, `next` is the place behind it, on the plane or at its edge, and its run, if it has one,
+-- was put behind the runs
+pub record IsItemTaken (level : ℕ) (rule : Rule) (here : Cursor) (item : Item) (before after : List Run) (next : Cursor) : Type 0 where
   pub sound : item_fault level rule here.y here.x item ≡ None
   pub cursor : next ≡ moved here item
   pub near : IsNear level next
   pub runs : after ≡ before ++ with_run here.y here.x item []
 
--- whether an item was taken; where it breaks a rule, or memory is short, the runs stay
+-- what a call answers that takes an item: the place behind it; or the rule that it breaks, or Memory, and then the runs stay
 abbrev pub TakesItem : ℕ → Rule → Cursor → Item → List Run → List Run → Result Cursor Kind → Type 0
-TakesItem level rule cursor item before after result = MatchResult result (IsTaken level rule cursor item before after)
+TakesItem level rule cursor item before after result = MatchResult result (IsItemTaken level rule cursor item before after)
     (λ kind. (after ≡ before) × ((kind ≡ Memory) ⊎ (item_fault level rule cursor.y cursor.x item ≡ Some kind)))
 
 -- a line was read up to `next`: its items break no rule, the cursor is behind them, and these are their runs
