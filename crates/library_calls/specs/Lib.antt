@@ -1,8 +1,8 @@
 pub mod Told
-pub mod Answers
+pub mod Texts
 pub mod Comparing
 pub mod Stepping
-pub mod Forms
+pub mod Outputs
 pub mod Owning
 pub mod Streams
 pub mod InForm
