@@ -5,6 +5,7 @@ ghost use Rattle.library_calls.specs.Words.{Feeds, Finishes};
 
 use crate::feeding::Feeding;
 use life_base::Fault;
+use std::alloc::Global;
 
 /// A file that is read, its text, or its fault.
 #[derive(Drop)]
