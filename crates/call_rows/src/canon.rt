@@ -10,9 +10,13 @@ use std::alloc::Global;
 
 /// The canonical text of a file, and behind `|` that of this text where it is another.
 pub(crate) fn canonical(alloc: Global, out: &mut String, file: &[u8]) -> Result<(), Unanswered> {
-    let text = canon(alloc, &mut Shared::new(alloc, Seed::fixed(), ROOM), file)?;
+    let text = canon(alloc, &mut Shared::seeded(alloc, Seed::fixed(), ROOM), file)?;
     show_bytes(out, &text)?;
-    let again = canon(alloc, &mut Shared::new(alloc, Seed::fixed(), ROOM), &text)?;
+    let again = canon(
+        alloc,
+        &mut Shared::seeded(alloc, Seed::fixed(), ROOM),
+        &text,
+    )?;
     if again.as_slice() != text.as_slice() {
         out.push_str("|")?;
         show_bytes(out, &again)?;
@@ -33,7 +37,7 @@ fn show_refusal<T: Drop>(out: &mut String, answer: Result<T, Fault>) -> Result<(
 
 /// The line and the kind of the faults that the calls for the canonical text, the five lines, the runs and the pattern of a file tell.
 pub(crate) fn refused(alloc: Global, out: &mut String, file: &[u8]) -> Result<(), Unanswered> {
-    let mut store = Shared::new(alloc, Seed::fixed(), ROOM);
+    let mut store = Shared::seeded(alloc, Seed::fixed(), ROOM);
     show_refusal(out, canon(alloc, &mut store, file))?;
     out.push_str(", ")?;
     show_refusal(out, show(alloc, &mut store, file))?;
@@ -54,7 +58,7 @@ fn show_same(out: &mut String, answer: Result<bool, Fault>) -> Result<(), Unansw
 /// Whether two files are the same, and whether they are in the other order.
 pub(crate) fn compared(alloc: Global, out: &mut String, files: &[u8]) -> Result<(), Unanswered> {
     let (first, second) = halves(files)?;
-    let mut store = Shared::new(alloc, Seed::fixed(), ROOM);
+    let mut store = Shared::seeded(alloc, Seed::fixed(), ROOM);
     show_same(out, same(alloc, &mut store, first, second))?;
     out.push_str(", ")?;
     show_same(out, same(alloc, &mut store, second, first))
@@ -64,7 +68,7 @@ pub(crate) fn compared(alloc: Global, out: &mut String, files: &[u8]) -> Result<
 pub(crate) fn five_lines(alloc: Global, out: &mut String, file: &[u8]) -> Result<(), Unanswered> {
     show_text(
         out,
-        show(alloc, &mut Shared::new(alloc, Seed::fixed(), ROOM), file),
+        show(alloc, &mut Shared::seeded(alloc, Seed::fixed(), ROOM), file),
     )
 }
 
@@ -72,6 +76,6 @@ pub(crate) fn five_lines(alloc: Global, out: &mut String, file: &[u8]) -> Result
 pub(crate) fn runs(alloc: Global, out: &mut String, file: &[u8]) -> Result<(), Unanswered> {
     show_text(
         out,
-        to_rle(alloc, &mut Shared::new(alloc, Seed::fixed(), ROOM), file),
+        to_rle(alloc, &mut Shared::seeded(alloc, Seed::fixed(), ROOM), file),
     )
 }

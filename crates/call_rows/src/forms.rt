@@ -10,7 +10,7 @@ use std::alloc::Global;
 
 /// The canonical text of the moved form of a file.
 fn moved_text(alloc: Global, file: &[u8]) -> Result<Vec<u8>, Fault> {
-    let mut store = Shared::new(alloc, Seed::fixed(), ROOM);
+    let mut store = Shared::seeded(alloc, Seed::fixed(), ROOM);
     let pattern = read(alloc, &mut store, file)?;
     let moved = moved_of(alloc, &mut store, &pattern)?;
     text_of(alloc, &store, &moved)
@@ -18,7 +18,7 @@ fn moved_text(alloc: Global, file: &[u8]) -> Result<Vec<u8>, Fault> {
 
 /// The canonical text of the turned form of a file.
 fn turned_text_of(alloc: Global, file: &[u8]) -> Result<Vec<u8>, Fault> {
-    let mut store = Shared::new(alloc, Seed::fixed(), ROOM);
+    let mut store = Shared::seeded(alloc, Seed::fixed(), ROOM);
     let pattern = read(alloc, &mut store, file)?;
     turned_text(alloc, &store, &pattern)
 }

@@ -24,7 +24,13 @@ impl Show for Line {
             Line::Leaf([a, b, c, d, e, f, g, h]) => {
                 write!(out, "{a},{b},{c},{d},{e},{f},{g},{h}")?;
             }
-            Line::Quad(level, nw, ne, sw, se) => write!(out, "{level}:{nw},{ne},{sw},{se}")?,
+            Line::Quad {
+                level,
+                nw,
+                ne,
+                sw,
+                se,
+            } => write!(out, "{level}:{nw},{ne},{sw},{se}")?,
         }
         Ok(())
     }

@@ -7,7 +7,7 @@ use life_base::Fault;
 use life_canon::{canon, read};
 use life_quad::{Seed, Shared};
 use life_step::{next_by_rule, next_by_table, step_life, step_table};
-use life_table::{NameSeed, Table, read_table};
+use life_table::{NameSeed, Table, read_table_seeded};
 use std::alloc::Global;
 
 /// The canonical text of the next generation of a file, by a table or under the file's own rule.
@@ -30,7 +30,7 @@ fn stepped(
     table: Option<&Table>,
     steps: u64,
 ) -> Result<Vec<u8>, Fault> {
-    let mut store = Shared::new(alloc, Seed::fixed(), ROOM);
+    let mut store = Shared::seeded(alloc, Seed::fixed(), ROOM);
     let mut text = one_step(alloc, &mut store, file, table)?;
     for _ in 1..steps {
         text = one_step(alloc, &mut store, &text, table)?;
@@ -48,7 +48,7 @@ pub(crate) fn by_rule(alloc: Global, out: &mut String, input: &[u8]) -> Result<(
 pub(crate) fn by_table(alloc: Global, out: &mut String, input: &[u8]) -> Result<(), Unanswered> {
     let (steps, files) = halves(input)?;
     let (file, text) = halves(files)?;
-    let table = read_table(alloc, NameSeed::fixed(), text)?;
+    let table = read_table_seeded(alloc, NameSeed::fixed(), text)?;
     show_text(out, stepped(alloc, file, Some(&table), number_of(steps)?))
 }
 
@@ -57,7 +57,11 @@ pub(crate) fn becomes(alloc: Global, out: &mut String, input: &[u8]) -> Result<(
     let (steps, files) = halves(input)?;
     let (file, other) = halves(files)?;
     let text = stepped(alloc, file, None, number_of(steps)?)?;
-    let wanted = canon(alloc, &mut Shared::new(alloc, Seed::fixed(), ROOM), other)?;
+    let wanted = canon(
+        alloc,
+        &mut Shared::seeded(alloc, Seed::fixed(), ROOM),
+        other,
+    )?;
     show_bool(out, text.as_slice() == wanted.as_slice())
 }
 
@@ -67,7 +71,7 @@ pub(crate) fn next_of_pattern(
     out: &mut String,
     file: &[u8],
 ) -> Result<(), Unanswered> {
-    let mut store = Shared::new(alloc, Seed::fixed(), ROOM);
+    let mut store = Shared::seeded(alloc, Seed::fixed(), ROOM);
     let pattern = read(alloc, &mut store, file)?;
     show_text(out, next_by_rule(alloc, &mut store, pattern))
 }
@@ -79,8 +83,8 @@ pub(crate) fn next_of_pattern_by_table(
     input: &[u8],
 ) -> Result<(), Unanswered> {
     let (file, text) = halves(input)?;
-    let table = read_table(alloc, NameSeed::fixed(), text)?;
-    let mut store = Shared::new(alloc, Seed::fixed(), ROOM);
+    let table = read_table_seeded(alloc, NameSeed::fixed(), text)?;
+    let mut store = Shared::seeded(alloc, Seed::fixed(), ROOM);
     let pattern = read(alloc, &mut store, file)?;
     show_text(out, next_by_table(alloc, &mut store, pattern, &table))
 }

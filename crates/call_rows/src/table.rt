@@ -6,12 +6,14 @@ use crate::answer::Unanswered;
 use crate::row::{halves, number_of};
 use crate::shown::{Show, show_bytes, show_each, show_fault};
 use life_base::{Fault, State};
-use life_table::{Entry, NameSeed, Neighborhood, Neighbours, Table, Transition, Var, read_table};
+use life_table::{
+    Entry, NameSeed, Neighborhood, Neighbours, Table, Transition, Var, read_table_seeded,
+};
 use std::alloc::Global;
 
 /// `read` of a table, or the line and the kind of a fault.
 pub(crate) fn refusal(alloc: Global, out: &mut String, input: &[u8]) -> Result<(), Unanswered> {
-    match read_table(alloc, NameSeed::fixed(), input) {
+    match read_table_seeded(alloc, NameSeed::fixed(), input) {
         Ok(_) => out.push_str("read")?,
         Err(fault) => show_fault(out, &fault)?,
     }
@@ -31,7 +33,7 @@ fn show_settings(out: &mut String, table: &Table) -> Result<(), Unanswered> {
 
 /// The settings of a table and how many variables and transitions it has; or the line and the kind of a fault.
 pub(crate) fn counts(alloc: Global, out: &mut String, input: &[u8]) -> Result<(), Unanswered> {
-    match read_table(alloc, NameSeed::fixed(), input) {
+    match read_table_seeded(alloc, NameSeed::fixed(), input) {
         Ok(table) => {
             show_settings(out, &table)?;
             let variables = table.vars.as_slice().len();
@@ -83,7 +85,7 @@ fn show_table(out: &mut String, table: &Table) -> Result<(), Unanswered> {
 
 /// The settings, the variables and the transitions of a table; or the line and the kind of a fault.
 pub(crate) fn whole(alloc: Global, out: &mut String, input: &[u8]) -> Result<(), Unanswered> {
-    match read_table(alloc, NameSeed::fixed(), input) {
+    match read_table_seeded(alloc, NameSeed::fixed(), input) {
         Ok(table) => show_table(out, &table),
         Err(fault) => show_fault(out, &fault),
     }
@@ -131,7 +133,7 @@ fn decided_by_eight(table: &Table, cells: [State; 9]) -> Option<Result<State, Fa
 pub(crate) fn next(alloc: Global, out: &mut String, input: &[u8]) -> Result<(), Unanswered> {
     let (states, text) = halves(input)?;
     let around = around_of(alloc, states)?;
-    let table = match read_table(alloc, NameSeed::fixed(), text) {
+    let table = match read_table_seeded(alloc, NameSeed::fixed(), text) {
         Ok(table) => table,
         Err(fault) => return show_fault(out, &fault),
     };

@@ -15,7 +15,7 @@ pub(crate) trait New: Squares {
 
 impl New for Shared {
     fn new_store(alloc: Global, limit: u64) -> Shared {
-        Shared::new(alloc, Seed::fixed(), limit)
+        Shared::seeded(alloc, Seed::fixed(), limit)
     }
 }
 

@@ -95,7 +95,13 @@ const WIRES_TEXT: &[u8] = b"[M2] (canonical 1)\n#R WireWorld\n#G 7\n1 1 25 0 0\n
 /// The squares of a file.
 pub(crate) fn mc_read(alloc: Global) -> Result<bool, Fault> {
     let file = read_mc(alloc, WIRES_TEXT)?;
-    let squares = [Line::Quad(1, 1, 25, 0, 0)];
+    let squares = [Line::Quad {
+        level: 1,
+        nw: 1,
+        ne: 25,
+        sw: 0,
+        se: 0,
+    }];
     Ok(file.generation == 7 && file.lines.as_slice() == squares.as_slice())
 }
 

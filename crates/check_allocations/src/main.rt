@@ -102,12 +102,12 @@ struct Stores {
 impl Stores {
     fn new(alloc: Global) -> Stores {
         Stores {
-            numbered: Shared::new(alloc, Seed::fixed(), LIMIT),
-            canonical: Shared::new(alloc, Seed::fixed(), LIMIT),
-            compared: Shared::new(alloc, Seed::fixed(), LIMIT),
-            converted: Shared::new(alloc, Seed::fixed(), LIMIT),
-            described: Shared::new(alloc, Seed::fixed(), LIMIT),
-            pieced: Shared::new(alloc, Seed::fixed(), LIMIT),
+            numbered: Shared::seeded(alloc, Seed::fixed(), LIMIT),
+            canonical: Shared::seeded(alloc, Seed::fixed(), LIMIT),
+            compared: Shared::seeded(alloc, Seed::fixed(), LIMIT),
+            converted: Shared::seeded(alloc, Seed::fixed(), LIMIT),
+            described: Shared::seeded(alloc, Seed::fixed(), LIMIT),
+            pieced: Shared::seeded(alloc, Seed::fixed(), LIMIT),
         }
     }
 }
@@ -146,7 +146,7 @@ fn pattern_calls(rt: &HostRuntime) {
 fn form_calls(rt: &HostRuntime) {
     let alloc = rt.alloc();
     let calls = Calls::of(rt, "life_forms");
-    let mut store = Shared::new(alloc, Seed::fixed(), LIMIT);
+    let mut store = Shared::seeded(alloc, Seed::fixed(), LIMIT);
     calls.tell("moved_of", forms::is_moved(alloc, &mut store));
     calls.tell("turned_text", forms::is_turned(alloc, &mut store));
 }
@@ -154,7 +154,7 @@ fn form_calls(rt: &HostRuntime) {
 // Files in turn are stepped in one store.
 fn step_calls(rt: &HostRuntime) {
     let alloc = rt.alloc();
-    let mut store = Shared::new(alloc, Seed::fixed(), LIMIT);
+    let mut store = Shared::seeded(alloc, Seed::fixed(), LIMIT);
     for time in ["", ", again"] {
         let calls = Calls::at(rt, "life_step", time);
         for (name, file, table, next) in STEPS {

@@ -5,7 +5,7 @@ ghost use Rattle.life_base.specs.Tree.{depth};
 
 use life_base::{Bounds, Cell, Fault, Kind, MAX_LEVEL, Run, State};
 use life_quad::{
-    Id, Shared, SharedSquares, Squares, bounds, cells, grow, population, put_run, trim,
+    Id, Shared, SharedSquares, Squares, bounds, cells, grow, population, set_run, trim,
 };
 use std::alloc::Global;
 
@@ -57,8 +57,8 @@ fn ends<S: Squares>(squares: &mut S) -> Result<Id, Kind>
     ensures level { IfOk result (λ r. depth (S.content squares.new r) ≡ MAX_LEVEL) }
 {
     let blank = squares.empty(MAX_LEVEL);
-    let one = put_run(squares, blank, one_cell(-4, 0, 1))?;
-    put_run(squares, one, one_cell(4, 0, 1))
+    let one = set_run(squares, blank, one_cell(-4, 0, 1))?;
+    set_run(squares, one, one_cell(4, 0, 1))
 }
 
 // Whether the square has this level and the two cells.
@@ -104,8 +104,8 @@ fn grown_whole<S: Squares>(squares: &mut S, id: Id) -> Result<Id, Kind>
 /// The plane, grown from a small square.
 pub(crate) fn grown<S: Squares>(alloc: Global, squares: &mut S) -> Result<bool, Fault> {
     let blank = squares.empty(4);
-    let one = put_run(squares, blank, one_cell(-4, 0, 1))?;
-    let square = put_run(squares, one, one_cell(4, 0, 1))?;
+    let one = set_run(squares, blank, one_cell(-4, 0, 1))?;
+    let square = set_run(squares, one, one_cell(4, 0, 1))?;
     let plane = grown_whole(squares, square)?;
     Ok(are_ends(alloc, squares, plane, MAX_LEVEL)?)
 }
@@ -142,10 +142,10 @@ pub(crate) fn rows_measured<S: SharedSquares>(
     squares: &mut S,
 ) -> Result<bool, Fault> {
     let blank = squares.empty(MAX_LEVEL);
-    let one = put_run(squares, blank, WHOLE_ROW)?;
+    let one = set_run(squares, blank, WHOLE_ROW)?;
     let number = population(alloc, squares, one)?;
     let least = bounds(alloc, squares, one)?;
-    let two = put_run(squares, one, Run { y: 1, ..WHOLE_ROW })?;
+    let two = set_run(squares, one, Run { y: 1, ..WHOLE_ROW })?;
     let both = population(alloc, squares, two)?;
     let row = Bounds {
         left: -2305843009213693952,
@@ -168,29 +168,29 @@ fn is_refused<T: Drop>(answer: Result<T, Kind>, reason: Kind) -> Result<bool, Fa
 /// A row of the plane in a store for 61 nodes, which is one too few.
 pub(crate) fn row_refused(squares: &mut Shared) -> Result<bool, Fault> {
     let blank = squares.empty(MAX_LEVEL);
-    let row = put_run(squares, blank, WHOLE_ROW);
+    let row = set_run(squares, blank, WHOLE_ROW);
     Ok(is_refused(row, Kind::Full)? && squares.len() == 61)
 }
 
 /// Two cells, put in either order, and cleared again.
 pub(crate) fn set_and_cleared<S: SharedSquares>(squares: &mut S) -> Result<bool, Fault> {
     let blank = squares.empty(5);
-    let first = put_run(squares, blank, one_cell(0, 0, 1))?;
-    let both = put_run(squares, first, one_cell(5, 3, 1))?;
-    let second = put_run(squares, blank, one_cell(5, 3, 1))?;
-    let other = put_run(squares, second, one_cell(0, 0, 1))?;
-    let cleared = put_run(squares, both, one_cell(0, 0, 0))?;
-    let none = put_run(squares, cleared, one_cell(5, 3, 0))?;
+    let first = set_run(squares, blank, one_cell(0, 0, 1))?;
+    let both = set_run(squares, first, one_cell(5, 3, 1))?;
+    let second = set_run(squares, blank, one_cell(5, 3, 1))?;
+    let other = set_run(squares, second, one_cell(0, 0, 1))?;
+    let cleared = set_run(squares, both, one_cell(0, 0, 0))?;
+    let none = set_run(squares, cleared, one_cell(5, 3, 0))?;
     Ok(both == other && none == blank)
 }
 
 /// Squares of level 9 with one cell, at (4, 0) and at (0, 0), trimmed to the least levels 1 and 3.
 pub(crate) fn levels_trimmed<S: Squares>(squares: &mut S) -> Result<bool, Fault> {
     let blank = squares.empty(9);
-    let east = put_run(squares, blank, one_cell(4, 0, 1))?;
+    let east = set_run(squares, blank, one_cell(4, 0, 1))?;
     let east_1 = trim(squares, east, 1)?;
     let east_3 = trim(squares, east, 3)?;
-    let middle = put_run(squares, blank, one_cell(0, 0, 1))?;
+    let middle = set_run(squares, blank, one_cell(0, 0, 1))?;
     let middle_1 = trim(squares, middle, 1)?;
     let middle_3 = trim(squares, middle, 3)?;
     Ok(
@@ -207,7 +207,7 @@ pub(crate) fn grown_and_trimmed<S: SharedSquares>(
     squares: &mut S,
 ) -> Result<bool, Fault> {
     let blank = squares.empty(9);
-    let east = put_run(squares, blank, one_cell(4, 0, 1))?;
+    let east = set_run(squares, blank, one_cell(4, 0, 1))?;
     let four = trim(squares, east, 1)?;
     if squares.level(four) != 4 {
         return Ok(false);
@@ -221,15 +221,15 @@ pub(crate) fn grown_and_trimmed<S: SharedSquares>(
 /// Two cells, of which one may be listed.
 pub(crate) fn list_refused<S: Squares>(alloc: Global, squares: &mut S) -> Result<bool, Fault> {
     let blank = squares.empty(5);
-    let one = put_run(squares, blank, one_cell(-4, 0, 1))?;
-    let two = put_run(squares, one, one_cell(4, 0, 1))?;
+    let one = set_run(squares, blank, one_cell(-4, 0, 1))?;
+    let two = set_run(squares, one, one_cell(4, 0, 1))?;
     is_refused(cells(alloc, squares, two, 1), Kind::TooManyCells)
 }
 
 /// One cell, and the list of it.
 pub(crate) fn one_listed<S: Squares>(alloc: Global, squares: &mut S) -> Result<bool, Fault> {
     let blank = squares.empty(5);
-    let one = put_run(squares, blank, one_cell(0, 0, 1))?;
+    let one = set_run(squares, blank, one_cell(0, 0, 1))?;
     let list = cells(alloc, squares, one, 1)?;
     let middle = Cell {
         x: 0,
@@ -242,5 +242,5 @@ pub(crate) fn one_listed<S: Squares>(alloc: Global, squares: &mut S) -> Result<b
 /// One cell in a store for four nodes, where a square of level 5 needs five.
 pub(crate) fn one_refused<S: Squares>(squares: &mut S) -> Result<bool, Fault> {
     let blank = squares.empty(5);
-    is_refused(put_run(squares, blank, one_cell(0, 0, 1)), Kind::Full)
+    is_refused(set_run(squares, blank, one_cell(0, 0, 1)), Kind::Full)
 }

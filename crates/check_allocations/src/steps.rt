@@ -3,7 +3,7 @@
 use life_base::Fault;
 use life_quad::Shared;
 use life_step::{step_life, step_table};
-use life_table::{NameSeed, read_table};
+use life_table::{NameSeed, read_table_seeded};
 use std::alloc::Global;
 
 /// A table in which a cell takes the state of its one neighbour.
@@ -59,7 +59,7 @@ pub(crate) fn is_next(
             alloc,
             store,
             file,
-            &read_table(alloc, NameSeed::fixed(), table)?,
+            &read_table_seeded(alloc, NameSeed::fixed(), table)?,
         )?,
     };
     Ok(text.as_slice() == next)

@@ -1,7 +1,7 @@
 //! Rule tables.
 
 use life_base::{Fault, Kind, Place, State};
-use life_table::{NameSeed, Neighborhood, Neighbours, Table, read_table};
+use life_table::{NameSeed, Neighborhood, Neighbours, Table, read_table_seeded};
 use std::alloc::Global;
 
 // What a table of three states over four neighbours answers; a table of others is no answer.
@@ -17,7 +17,7 @@ fn next(table: &Table, around: [State; 5]) -> Option<Result<State, Fault>> {
 
 /// A table in which a cell takes the state of its one neighbour.
 pub(crate) fn read(alloc: Global) -> Result<bool, Fault> {
-    let table = read_table(
+    let table = read_table_seeded(
         alloc,
         NameSeed::fixed(),
         b"@RULE Spread\n@TABLE\nn_states:3\nneighborhood:vonNeumann\nsymmetries:rotate4\nvar a={1,2}\n0,a,0,0,0,a\n",
@@ -31,7 +31,7 @@ pub(crate) fn read(alloc: Global) -> Result<bool, Fault> {
 
 /// A table with a line that gives two states where two neighbours differ.
 pub(crate) fn ambiguous(alloc: Global) -> Result<bool, Fault> {
-    let table = read_table(
+    let table = read_table_seeded(
         alloc,
         NameSeed::fixed(),
         b"@RULE Spread\n@TABLE\nn_states:3\nneighborhood:vonNeumann\nsymmetries:permute\nvar a={1,2}\nvar b={1,2}\n0,a,b,0,0,a\n",

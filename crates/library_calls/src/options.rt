@@ -28,6 +28,6 @@ impl Options {
         } else {
             GREATEST_LIMIT
         };
-        Shared::new(alloc, seed_of_squares(self.seed), most)
+        Shared::seeded(alloc, seed_of_squares(self.seed), most)
     }
 }

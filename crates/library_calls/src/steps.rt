@@ -7,7 +7,7 @@ use crate::seeds::seed_of_names;
 use crate::texts::{Output, answer};
 use crate::told::{Told, refuse, tell};
 use life_step::step_table;
-use life_table::{Table, read_table};
+use life_table::{Table, read_table_seeded};
 use std::alloc::Global;
 
 /// The canonical text of the next generation of the pattern of a file, under its B/S rule.
@@ -39,7 +39,7 @@ pub fn step_by_table(
 ) -> (Told, u32)
     ensures { StepsByTable options.limit bytes.now table.now result.1 out.old out.new result.0 }
 {
-    match read_table(alloc, seed_of_names(options.seed), table) {
+    match read_table_seeded(alloc, seed_of_names(options.seed), table) {
         Ok(table) => (step_by(alloc, bytes, &table, options, out), 0),
         Err(fault) => (refuse(&fault), 1),
     }

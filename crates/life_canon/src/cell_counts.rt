@@ -57,10 +57,14 @@ fn line_count(counts: &[u128], line: &Line) -> u128
 {
     match line {
         Line::Leaf(rows) => leaf_count(rows),
-        Line::Quad(1, nw, ne, sw, se) => {
-            cell_count(*nw) + cell_count(*ne) + cell_count(*sw) + cell_count(*se)
-        }
-        Line::Quad(_, nw, ne, sw, se) => {
+        Line::Quad {
+            level: 1,
+            nw,
+            ne,
+            sw,
+            se,
+        } => { cell_count(*nw) + cell_count(*ne) + cell_count(*sw) + cell_count(*se) }
+        Line::Quad { nw, ne, sw, se, .. } => {
             let north = square_count(counts, *nw).wrapping_add(square_count(counts, *ne));
             let south = square_count(counts, *sw).wrapping_add(square_count(counts, *se));
             north.wrapping_add(south)

@@ -96,7 +96,13 @@ pub(crate) fn line_square<S: Squares>(squares: &mut S, ids: &[Id], line: Line) -
 {
     match line {
         Line::Leaf(rows) => leaf_square(squares, &rows),
-        Line::Quad(level, nw, ne, sw, se) => {
+        Line::Quad {
+            level,
+            nw,
+            ne,
+            sw,
+            se,
+        } => {
             let nw = quarter(squares, ids, level - 1, nw);
             let ne = quarter(squares, ids, level - 1, ne);
             let sw = quarter(squares, ids, level - 1, sw);

@@ -115,7 +115,16 @@ fn walk_new_square<S: SharedSquares, D, L: LineSink<D>>(
     let sw = walk_square(squares, rule, level - 1, sw, numbers, lines, device)?;
     let se = walk_square(squares, rule, level - 1, se, numbers, lines, device)?;
     let number = numbers.push(id)?;
-    lines.take(device, &Line::Quad(level, nw, ne, sw, se))?;
+    lines.take(
+        device,
+        &Line::Quad {
+            level,
+            nw,
+            ne,
+            sw,
+            se,
+        },
+    )?;
     Ok(number)
 }
 

@@ -64,7 +64,7 @@ pub(crate) fn text_of_source<A: Source>(
     ensures { ComesOf (λ text. text.items) (IsTextIn form MAX_LEVEL) (RefusesInForm form)
         (source_run A.remaining A.failures first.old first.new) result }
 {
-    let mut store = Shared::new(alloc, seeds.squares, MOST_SQUARES);
+    let mut store = Shared::seeded(alloc, seeds.squares, MOST_SQUARES);
     let pattern = read_from(alloc, &mut store, first)?;
     text_in(alloc, &mut store, form, &pattern)
 }

@@ -72,7 +72,7 @@ fn rle_of_source<A: Source>(alloc: Global, seeds: &Seeds, first: &mut A) -> Resu
     ensures { ComesOf (λ text. text.items) (IsRleOf MAX_LEVEL (2 ^ 20)) RefusesMany
         (source_run A.remaining A.failures first.old first.new) result }
 {
-    let mut store = Shared::new(alloc, seeds.squares, MOST_SQUARES);
+    let mut store = Shared::seeded(alloc, seeds.squares, MOST_SQUARES);
     let pattern = read_from(alloc, &mut store, first)?;
     rle_of(alloc, &store, &pattern)
 }
@@ -87,7 +87,7 @@ fn five_lines_of_source<A: Source>(
     ensures { ComesOf (λ text. text.items) (IsShown MAX_LEVEL) (Refuses MAX_LEVEL)
         (source_run A.remaining A.failures first.old first.new) result }
 {
-    let mut store = Shared::new(alloc, seeds.squares, MOST_SQUARES);
+    let mut store = Shared::seeded(alloc, seeds.squares, MOST_SQUARES);
     let pattern = read_from(alloc, &mut store, first)?;
     five_lines_of(alloc, &store, &pattern)
 }
@@ -147,7 +147,7 @@ fn compared<A: Source, B: Source>(
         → IsErrAnd result (λ fault. fault.kind ≡ Kind.ReadFault) }
 {
     patterns_stay();
-    let mut store = Shared::new(alloc, seeds.squares, MOST_SQUARES);
+    let mut store = Shared::seeded(alloc, seeds.squares, MOST_SQUARES);
     let a = pattern_in(alloc, &mut store, one)?;
     let b = pattern_in(alloc, &mut store, other)?;
     are_same_in(alloc, &mut store, form, &a?, &b?)
@@ -250,7 +250,7 @@ fn run_canonical<A: Source, O: Sink>(
     ensures write_told { (O.failures out.new ≡ 1) ⊎ (O.stalled out.new ≡ true)
         → IsErrAnd result (λ refusal. refusal.fault.kind ≡ Kind.WriteFault) }
 {
-    let mut store = Shared::new(alloc, seeds.squares, MOST_SQUARES);
+    let mut store = Shared::seeded(alloc, seeds.squares, MOST_SQUARES);
     run_canon(alloc, &mut store, first, out)?;
     Ok(0)
 }

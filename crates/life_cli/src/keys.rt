@@ -29,7 +29,7 @@ fn placed_key<A: Source>(alloc: Global, seeds: &Seeds, source: &mut A) -> Result
     ensures { ComesOf (λ key. key) (IsKeyIn Form.Placed MAX_LEVEL) (RefusesInForm Form.Placed)
         (source_run A.remaining A.failures source.old source.new) result }
 {
-    let mut store = Shared::new(alloc, seeds.squares, MOST_SQUARES);
+    let mut store = Shared::seeded(alloc, seeds.squares, MOST_SQUARES);
     let mut sink = KeySink::new();
     run_canon(alloc, &mut store, source, &mut sink)?;
     Ok(sink.key())

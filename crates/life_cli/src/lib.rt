@@ -16,6 +16,7 @@ pub use jobs::work;
 pub use keys::write_keys;
 pub use origins::{Opened, Origin, open_files};
 pub use plans::requests::{plan, request};
+pub use plans::{Job, Plan, Target, Usage};
 pub use refusals::{Refusal, status, tell};
 pub use reports::{refuse, report};
 pub use seeds::Seeds;

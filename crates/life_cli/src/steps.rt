@@ -10,7 +10,7 @@ use life_base::{Fault, Kind, Source, read_within};
 use life_canon::read_from;
 use life_quad::Shared;
 use life_step::{next_by_rule, next_by_table};
-use life_table::{Table, read_table};
+use life_table::{Table, read_table_seeded};
 use std::alloc::Global;
 
 /// The most bytes of a rule table.
@@ -26,7 +26,7 @@ pub(crate) fn next_of<A: Source>(
     ensures { ComesOf (λ text. text.items) IsStepped RefusesStep
         (source_run A.remaining A.failures first.old first.new) result }
 {
-    let mut store = Shared::new(alloc, seeds.squares, MOST_SQUARES);
+    let mut store = Shared::seeded(alloc, seeds.squares, MOST_SQUARES);
     let pattern = read_from(alloc, &mut store, first)?;
     next_by_rule(alloc, &mut store, pattern)
 }
@@ -42,7 +42,7 @@ fn next_by<A: Source>(
     ensures { ComesOf (λ text. text.items) (IsSteppedBy table.now) (RefusesStepBy table.now)
         (source_run A.remaining A.failures first.old first.new) result }
 {
-    let mut store = Shared::new(alloc, seeds.squares, MOST_SQUARES);
+    let mut store = Shared::seeded(alloc, seeds.squares, MOST_SQUARES);
     let pattern = read_from(alloc, &mut store, first)?;
     next_by_table(alloc, &mut store, pattern, table)
 }
@@ -71,7 +71,7 @@ fn table_in<B: Source>(alloc: Global, seeds: &Seeds, source: &mut B) -> Result<T
         → IsErrAnd result (λ fault. fault.kind ≡ Kind.ReadFault) }
 {
     let bytes = read_whole(alloc, source)?;
-    read_table(alloc, seeds.names, bytes.as_slice())
+    read_table_seeded(alloc, seeds.names, bytes.as_slice())
 }
 
 /// The same, and a refusal that is the table's.

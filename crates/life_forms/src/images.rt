@@ -120,7 +120,7 @@ fn image_text(
         (λ text. IsImageText MAX_LEVEL (universe_in store.now pattern.now) turn text.items) }
     ensures fault { IfErr result (RefusesTurning store.now pattern.now) }
 {
-    let mut squares = Shared::new(alloc, store.seed(), MOST_SQUARES);
+    let mut squares = Shared::seeded(alloc, store.seed(), MOST_SQUARES);
     match moved_image(alloc, &mut squares, store, pattern, turn) {
         Ok(moved) => text_of(alloc, &squares, &moved),
         Err(kind) => Err(Fault::of(without_limit(kind))),

@@ -15,7 +15,13 @@ pub enum Line {
     Leaf([u8; 8]),
     /// A square of a level, 2^level cells wide and high: the level, and the quarters in the north-west, north-east, south-west and
     /// south-east. At level 1 they are four states; above, each is 0, the empty square, or the number of an earlier line, counted from 1.
-    Quad(u8, u64, u64, u64, u64),
+    Quad {
+        level: u8,
+        nw: u64,
+        ne: u64,
+        sw: u64,
+        se: u64,
+    },
 }
 
 /// What a line behind the header is. One that is blank or a comment is nothing.

@@ -144,7 +144,13 @@ pub fn append_line(out: &mut Vec<u8>, line: &Line) -> Result<(), Kind>
             let end = write_leaf(&mut room, rows);
             out.extend_from_slice(&room[..end])?;
         }
-        Line::Quad(level, nw, ne, sw, se) => {
+        Line::Quad {
+            level,
+            nw,
+            ne,
+            sw,
+            se,
+        } => {
             let start = write_quad(&mut room, *level, *nw, *ne, *sw, *se);
             out.extend_from_slice(&room[start..])?;
         }

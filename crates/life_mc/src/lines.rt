@@ -32,7 +32,7 @@ fn level_of_square(square: &Line) -> u8
 {
     match square {
         Line::Leaf(_) => 3,
-        Line::Quad(level, ..) => *level,
+        Line::Quad { level, .. } => *level,
     }
 }
 

@@ -73,7 +73,13 @@ fn square_of_numbers(
     }
     let level = level as u8;
     if are_quarters(rule, levels, level, [nw, ne, sw, se]) {
-        return Ok(Line::Quad(level, nw, ne, sw, se));
+        return Ok(Line::Quad {
+            level,
+            nw,
+            ne,
+            sw,
+            se,
+        });
     }
     if level == 1 {
         Err(Kind::StateRange)

@@ -20,12 +20,13 @@ mod squares;
 
 pub use id::Id;
 pub use id_numbers::IdNumbers;
+pub use life_base::Bounds;
 pub use listing::cells;
 pub use memory::NeighbourhoodMemory;
 pub use moves::{Quarters, divide, grow, is_blank, is_blank_at, trim};
 pub use plain::Plain;
 pub use reads::{bounds, leaf_population, population};
-pub use runs::put_run;
+pub use runs::{put_run, set_run};
 pub use seed::{Lanes, Seed};
 pub use shared::Shared;
 pub use squares::{SharedSquares, Squares};

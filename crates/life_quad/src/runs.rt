@@ -117,7 +117,7 @@ fn set_halves<S: Squares>(
 /// # Errors
 ///
 /// `Full` where a square is new and the store holds its limit, and `Memory`. After either each Id has its square.
-pub fn put_run<S: Squares>(squares: &mut S, root: Id, run: Run) -> Result<Id, Kind>
+pub fn set_run<S: Squares>(squares: &mut S, root: Id, run: Run) -> Result<Id, Kind>
     requires known { S.knows squares.old root }
     requires high { 1 ≤ depth (S.content squares.old root) }
     requires positive { 1 ≤ run.len }
@@ -133,4 +133,29 @@ pub fn put_run<S: Squares>(squares: &mut S, root: Id, run: Run) -> Result<Id, Ki
         state: run.state,
     };
     set_span(squares, root, span)
+}
+
+/// The root's square with the cells (x, y) to (x + len - 1, y) set to the state. `set_run` takes the same as a `Run`.
+///
+/// # Errors
+///
+/// Those of `set_run`.
+pub fn put_run<S: Squares>(
+    squares: &mut S,
+    root: Id,
+    x: i64,
+    y: i64,
+    len: u64,
+    state: State,
+) -> Result<Id, Kind>
+    requires known { S.knows squares.old root }
+    requires high { 1 ≤ depth (S.content squares.old root) }
+    requires positive { 1 ≤ len }
+    requires inside { IsRunInside (S.content squares.old root)
+        (record { x = x; y = y; len = len; state = state }) }
+    ensures { MakesSomeSquare S.Squares squares.old squares.new
+        (λ t. SetsRun (S.content squares.old root) t
+        (record { x = x; y = y; len = len; state = state })) result }
+{
+    set_run(squares, root, Run { x, y, len, state })
 }

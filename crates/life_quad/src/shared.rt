@@ -62,7 +62,7 @@ impl Shared {
     /// An empty store for at most `limit` distinct nonblank squares of level 1 and up. With 2^32 - 66,064 of them beside the small ones
     /// (level 1 or 2, states 0 and 1) `join` answers `Memory` for a new one that isn't small, where the limit is higher. The seed decides time
     /// alone: two stores with different ones hold the same squares by the same Ids.
-    pub fn new(alloc: Global, seed: Seed, limit: u64) -> Shared
+    pub fn seeded(alloc: Global, seed: Seed, limit: u64) -> Shared
         requires { limit ≤ 2 ^ 62 }
         ensures stored { held result ≡ [] }
         ensures most { result.limit ≡ limit }
@@ -76,6 +76,16 @@ impl Shared {
             limit,
             seed,
         }
+    }
+
+    /// An empty store with a fixed seed, for input that you trust: whoever knows the seed can choose squares that collide, and then each join takes
+    /// time in proportion to the squares stored. `Shared::seeded` takes a seed of your own.
+    pub fn new(alloc: Global, limit: u64) -> Shared
+        requires { limit ≤ 2 ^ 62 }
+        ensures stored { held result ≡ [] }
+        ensures most { result.limit ≡ limit }
+    {
+        Shared::seeded(alloc, Seed::fixed(), limit)
     }
 
     /// How many distinct nonblank squares of level 1 and up were joined: none is counted twice, and each that has an Id is among

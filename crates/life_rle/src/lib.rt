@@ -19,6 +19,7 @@ mod wrapping;
 mod writing;
 
 pub use file::RleFile;
+pub use life_base::Run;
 pub use lines::RleLines;
 pub use reading::read_rle;
 pub use sorted::sorted_cells;

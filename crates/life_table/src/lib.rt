@@ -31,6 +31,6 @@ mod words;
 
 pub use index::Index;
 pub use next::Neighbours;
-pub use reading::read_table;
+pub use reading::{read_table, read_table_seeded};
 pub use seed::NameSeed;
 pub use table::{Entry, Neighborhood, Symmetry, Table, Transition, Var};

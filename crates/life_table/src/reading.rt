@@ -55,7 +55,7 @@ fn table_of(alloc: Global, parsed: Parsed, end: u64) -> Result<Table, Fault>
 /// The place is the first line behind which the bytes can't be continued to a file with a table, or the number of lines plus 1 where they
 /// end before they have one, and the kind is that of the first rule which that line breaks, or of what is missing. Where a growth of memory
 /// is refused the fault is `Memory`, which names no line.
-pub fn read_table(alloc: Global, seed: NameSeed, bytes: &[u8]) -> Result<Table, Fault>
+pub fn read_table_seeded(alloc: Global, seed: NameSeed, bytes: &[u8]) -> Result<Table, Fault>
     ensures ok { IfOk result (λ table. IsFile (lines_of bytes.now) table) }
     ensures err { IfErr result (λ fault. OrMemory fault (Refuses (lines_of bytes.now) fault)) }
     ensures kinds { IfErr result (λ fault. OrMemory fault (is_table_kind fault.kind ≡ true)) }
@@ -67,4 +67,18 @@ pub fn read_table(alloc: Global, seed: NameSeed, bytes: &[u8]) -> Result<Table, 
         next = number.saturating_add(1);
     }
     table_of(alloc, reader.parsed, next)
+}
+
+/// Reads the table as `read_table_seeded` does, with a fixed seed, for input that you trust: whoever knows the seed can choose variable names that
+/// collide, and then each look-up of a name takes time in proportion to the names of the table.
+///
+/// # Errors
+///
+/// Those of `read_table_seeded`.
+pub fn read_table(alloc: Global, bytes: &[u8]) -> Result<Table, Fault>
+    ensures ok { IfOk result (λ table. IsFile (lines_of bytes.now) table) }
+    ensures err { IfErr result (λ fault. OrMemory fault (Refuses (lines_of bytes.now) fault)) }
+    ensures kinds { IfErr result (λ fault. OrMemory fault (is_table_kind fault.kind ≡ true)) }
+{
+    read_table_seeded(alloc, NameSeed::fixed(), bytes)
 }

@@ -7,7 +7,7 @@ use crate::worked::{Call, ROOM, fault, first_limit, is_text};
 use life_base::{Fault, Kind};
 use life_quad::{Seed, Shared};
 use life_step::{step_life, step_table};
-use life_table::{NameSeed, Table, read_table};
+use life_table::{NameSeed, Table, read_table_seeded};
 use std::alloc::Global;
 use std::process::Abort;
 
@@ -44,7 +44,7 @@ const OTHER: &[u8] = b"x = 40, y = 3\nob2o3b4o5bo3bo2b5o!\n";
 fn is_served(alloc: Global, step: &Step, limit: u64, text: &[u8]) -> bool
     requires { limit ≤ 4096 }
 {
-    let mut store = Shared::new(alloc, Seed::fixed(), limit);
+    let mut store = Shared::seeded(alloc, Seed::fixed(), limit);
     let first = is_text(step.text(alloc, &mut store), text) && store.len() == limit;
     let again = is_text(step.text(alloc, &mut store), text);
     let refused = step_life(alloc, &mut store, OTHER).err();
@@ -89,7 +89,7 @@ fn steps_under_a_rule_take_room(rt: HostRuntime) {
 #[test]
 fn steps_by_a_table_take_room(rt: HostRuntime) {
     let alloc = rt.alloc();
-    let spread = read_table(alloc, NameSeed::fixed(), SPREAD).expect(&rt, "a table");
+    let spread = read_table_seeded(alloc, NameSeed::fixed(), SPREAD).expect(&rt, "a table");
     takes_room(
         &rt,
         alloc,
@@ -98,7 +98,7 @@ fn steps_by_a_table_take_room(rt: HostRuntime) {
         b"[M2] (canonical 1)\n#R Spread\n#G 1\n1 0 0 1 0\n1 0 0 0 2\n2 0 0 1 2\n3 0 0 3 0\n1 0 1 0 0\n\
         2 0 5 0 0\n3 0 6 0 0\n1 1 1 1 0\n1 2 2 0 2\n2 8 9 0 0\n1 2 0 0 0\n2 11 0 0 0\n3 10 12 0 0\n4 0 4 7 13\n",
     );
-    let wire_world = read_table(alloc, NameSeed::fixed(), WIREWORLD).expect(&rt, "a table");
+    let wire_world = read_table_seeded(alloc, NameSeed::fixed(), WIREWORLD).expect(&rt, "a table");
     takes_room(
         &rt,
         alloc,
@@ -113,7 +113,7 @@ fn steps_by_a_table_take_room(rt: HostRuntime) {
 fn refusal_within(alloc: Global, limit: u64) -> (Option<Fault>, u64)
     requires { limit ≤ 2 ^ 31 }
 {
-    let mut store = Shared::new(alloc, Seed::fixed(), limit);
+    let mut store = Shared::seeded(alloc, Seed::fixed(), limit);
     let refused = step_life(alloc, &mut store, b"x = 3, y = 1\n3o!\n").err();
     (refused, store.len())
 }

@@ -37,7 +37,7 @@ pub(crate) trait Call {
 fn suffices<C: Call>(alloc: Global, call: &C, limit: u64, wanted: &[u8]) -> Option<bool>
     requires { limit ≤ 4096 }
 {
-    let mut store = Shared::new(alloc, Seed::fixed(), limit);
+    let mut store = Shared::seeded(alloc, Seed::fixed(), limit);
     match call.text(alloc, &mut store) {
         Ok(text) if text.as_slice() == wanted => Some(true),
         Err(found) if found == fault(0, Kind::Full) && store.len() == limit => Some(false),

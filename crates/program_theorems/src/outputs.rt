@@ -33,7 +33,7 @@ pub fn written_text_is_that_of_canon<A: Source, B: Source, O: Sink, E: Sink>(
     let (first, second) = (&mut run.first, &mut run.second);
     let (out, err) = (&mut run.out, &mut run.err);
     let status = work(alloc, &run.seeds, &run.job, first, second, out, err);
-    let mut store = Shared::new(alloc, seed, limit);
+    let mut store = Shared::seeded(alloc, seed, limit);
     (status, canon(alloc, &mut store, file))
 }
 

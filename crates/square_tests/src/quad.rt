@@ -7,7 +7,7 @@ ghost use Rattle.life_quad.specs.Grows.{Keeps};
 use life_base::{Bounds, Cell, Kind, MAX_LEVEL, Run};
 use life_quad::{
     Id, NeighbourhoodMemory, Plain, Quarters, Seed, Shared, SharedSquares, Squares, bounds, cells,
-    divide, grow, is_blank, is_blank_at, leaf_population, population, put_run, trim,
+    divide, grow, is_blank, is_blank_at, leaf_population, population, set_run, trim,
 };
 use std::alloc::Global;
 use std::process::Abort;
@@ -46,7 +46,7 @@ fn put<S: Squares>(
     if x < -half || half <= x || y < -half || half <= y || len > (half - x) as u64 {
         return Err(Kind::OutOfPlane);
     }
-    put_run(squares, root, Run { x, y, len, state })
+    set_run(squares, root, Run { x, y, len, state })
 }
 
 // A row of the greatest square, all its cells in state 1.
@@ -92,7 +92,7 @@ fn two_rows<S: SharedSquares + Drop>(alloc: Global, store: S) -> Result<bool, Ki
 
 #[test]
 fn long_runs_share(rt: HostRuntime) {
-    let found = two_rows(rt.alloc(), Shared::new(rt.alloc(), Seed::fixed(), 1000));
+    let found = two_rows(rt.alloc(), Shared::seeded(rt.alloc(), Seed::fixed(), 1000));
     assert!(rt; found == Ok(true));
 }
 
@@ -100,7 +100,7 @@ fn long_runs_share(rt: HostRuntime) {
 fn row_within(alloc: Global, limit: u64) -> (Result<Id, Kind>, u64, u64)
     requires { limit ≤ 62 }
 {
-    let mut squares = Shared::new(alloc, Seed::fixed(), limit);
+    let mut squares = Shared::seeded(alloc, Seed::fixed(), limit);
     let root = squares.empty(MAX_LEVEL);
     let row = whole_row(&mut squares, root, 0);
     (row, squares.limit(), squares.len())
@@ -134,7 +134,7 @@ fn full_square<S: SharedSquares + Drop>(alloc: Global, store: S) -> Result<bool,
 // It has 2^124 cells in 62 nodes: the test ends only if each node is visited once.
 #[test]
 fn a_full_square_is_measured_at_once(rt: HostRuntime) {
-    let found = full_square(rt.alloc(), Shared::new(rt.alloc(), Seed::fixed(), 62));
+    let found = full_square(rt.alloc(), Shared::seeded(rt.alloc(), Seed::fixed(), 62));
     assert!(rt; found == Ok(true));
 }
 
@@ -153,7 +153,7 @@ fn orders<S: SharedSquares + Drop>(store: S) -> Result<(bool, bool), Kind> {
 
 #[test]
 fn orders_do_not_matter(rt: HostRuntime) {
-    assert!(rt; orders(Shared::new(rt.alloc(), Seed::fixed(), 1000)) == Ok((true, true)));
+    assert!(rt; orders(Shared::seeded(rt.alloc(), Seed::fixed(), 1000)) == Ok((true, true)));
 }
 
 // A square that was trimmed from level 9 to level 4, grown and trimmed again: the grown one, the three levels, and whether each
@@ -196,7 +196,7 @@ fn plain_levels(alloc: Global) -> Result<[u8; 3], Kind> {
 fn squares_are_trimmed(rt: HostRuntime) {
     let grown = counted_and_back(
         rt.alloc(),
-        &mut Shared::new(rt.alloc(), Seed::fixed(), 1000),
+        &mut Shared::seeded(rt.alloc(), Seed::fixed(), 1000),
     );
     assert!(rt; grown == Ok((1, [4, 5, 4], [true, true])));
     assert!(rt; plain_levels(rt.alloc()) == Ok([4, 5, 4]));
@@ -228,7 +228,7 @@ fn moves<S: Squares>(squares: &mut S) -> Result<bool, Kind> {
 
 // The same in a store that shares, and the number of its nodes.
 fn shared_moves(alloc: Global) -> (Result<bool, Kind>, u64) {
-    let mut squares = Shared::new(alloc, Seed::fixed(), 9);
+    let mut squares = Shared::seeded(alloc, Seed::fixed(), 9);
     (moves(&mut squares), squares.len())
 }
 
@@ -269,9 +269,9 @@ fn cell(x: i64, y: i64, state: u8) -> Cell {
 fn cells_are_listed(rt: HostRuntime) {
     let alloc = rt.alloc();
     let pair = [cell(-4, -2, 1), cell(3, -2, 7)];
-    let found = are_two_cells(alloc, Shared::new(alloc, Seed::fixed(), 1000), 2, pair);
+    let found = are_two_cells(alloc, Shared::seeded(alloc, Seed::fixed(), 1000), 2, pair);
     assert!(rt; found == Ok(true));
-    let found = are_two_cells(alloc, Shared::new(alloc, Seed::fixed(), 1000), 1, pair);
+    let found = are_two_cells(alloc, Shared::seeded(alloc, Seed::fixed(), 1000), 1, pair);
     assert!(rt; found == Err(Kind::TooManyCells));
     let found = is_one_cell(alloc, Plain::new(alloc, 1000), cell(0, 0, 1));
     assert!(rt; found == Ok(true));
@@ -293,7 +293,7 @@ fn least_lists<S: Squares + Drop>(alloc: Global, store: S) -> Result<[bool; 3], 
 #[test]
 fn blank_squares_list_no_cell(rt: HostRuntime) {
     let alloc = rt.alloc();
-    assert!(rt; least_lists(alloc, Shared::new(alloc, Seed::fixed(), 1000)) == Ok([true; 3]));
+    assert!(rt; least_lists(alloc, Shared::seeded(alloc, Seed::fixed(), 1000)) == Ok([true; 3]));
     assert!(rt; least_lists(alloc, Plain::new(alloc, 1000)) == Ok([true; 3]));
 }
 
@@ -332,7 +332,7 @@ fn blank_ones<S: Squares>(squares: &mut S) -> Result<[bool; 4], Kind> {
 
 // What these say in a store of one node that shares, and the number of its nodes.
 fn shared_quarters(alloc: Global) -> ([Result<bool, Kind>; 3], Result<[bool; 4], Kind>, u64) {
-    let mut squares = Shared::new(alloc, Seed::fixed(), 1);
+    let mut squares = Shared::seeded(alloc, Seed::fixed(), 1);
     let quarters = [
         divided(&mut squares),
         divided(&mut squares),
@@ -397,7 +397,7 @@ fn leaf<S: Squares>(squares: &mut S) -> Result<Id, Kind> {
 fn leaf_twice(alloc: Global, limit: u64) -> (Result<Id, Kind>, Result<Id, Kind>, u64)
     requires { limit ≤ 25 }
 {
-    let mut squares = Shared::new(alloc, Seed::fixed(), limit);
+    let mut squares = Shared::seeded(alloc, Seed::fixed(), limit);
     let first = leaf(&mut squares);
     let again = leaf(&mut squares);
     (first, again, squares.len())
@@ -468,7 +468,7 @@ fn small_found<S: Squares + Drop>(
 
 #[test]
 fn small_squares_are_found_by_their_cells(rt: HostRuntime) {
-    let (glider, blank) = small_found(Shared::new(rt.alloc(), Seed::fixed(), 100));
+    let (glider, blank) = small_found(Shared::seeded(rt.alloc(), Seed::fixed(), 100));
     assert!(rt; glider == Ok((None, true, Some(GLIDER), None)));
     assert!(rt; blank == (true, [None, Some(0), None]));
     // A store that doesn't share has no names for them.
@@ -491,7 +491,7 @@ fn glider_made<S: Squares>(squares: &mut S) -> Result<[bool; 3], Kind> {
 fn shared_glider(alloc: Global, limit: u64) -> (Result<[bool; 3], Kind>, u64)
     requires { limit ≤ 100 }
 {
-    let mut squares = Shared::new(alloc, Seed::fixed(), limit);
+    let mut squares = Shared::seeded(alloc, Seed::fixed(), limit);
     (glider_made(&mut squares), squares.len())
 }
 
@@ -529,7 +529,7 @@ fn shared_behind_quarters(
     requires limit { limit ≤ 100 }
     requires last { last < 16 }
 {
-    let mut squares = Shared::new(alloc, Seed::fixed(), limit);
+    let mut squares = Shared::seeded(alloc, Seed::fixed(), limit);
     (behind_quarters(&mut squares, last, cells), squares.len())
 }
 
@@ -571,7 +571,9 @@ fn leaf_populations<S: Squares>(squares: &mut S) -> Result<[u128; 2], Kind> {
 #[test]
 fn leaves_are_counted(rt: HostRuntime) {
     // Three cells twice, and two gliders of five.
-    assert!(rt; leaf_populations(&mut Shared::new(rt.alloc(), Seed::fixed(), 100)) == Ok([16, 6]));
+    assert!(rt;
+        leaf_populations(&mut Shared::seeded(rt.alloc(), Seed::fixed(), 100)) == Ok([16, 6])
+    );
     assert!(rt; leaf_populations(&mut Plain::new(rt.alloc(), 100)) == Ok([16, 6]));
 }
 
@@ -593,7 +595,7 @@ fn measures<S: SharedSquares + Drop>(alloc: Global, store: S) -> Result<bool, Ki
 
 #[test]
 fn squares_are_measured(rt: HostRuntime) {
-    let found = measures(rt.alloc(), Shared::new(rt.alloc(), Seed::fixed(), 1000));
+    let found = measures(rt.alloc(), Shared::seeded(rt.alloc(), Seed::fixed(), 1000));
     assert!(rt; found == Ok(true));
 }
 
@@ -625,6 +627,6 @@ fn is_remembered(alloc: Global, ids: [Id; 5]) -> bool {
 
 #[test]
 fn nine_squares_are_remembered(rt: HostRuntime) {
-    let ids = five_ids(Shared::new(rt.alloc(), Seed::fixed(), 0));
+    let ids = five_ids(Shared::seeded(rt.alloc(), Seed::fixed(), 0));
     assert!(rt; is_remembered(rt.alloc(), ids));
 }

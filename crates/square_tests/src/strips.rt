@@ -4,7 +4,7 @@ ghost use Rattle.life_strip.specs.Filling.{IsFilling};
 ghost use Rattle.life_strip.specs.Given.{IsNext};
 
 use life_base::{Kind, MAX_LEVEL, Run, State};
-use life_quad::{Id, Plain, Seed, Shared, Squares, put_run, trim};
+use life_quad::{Id, Plain, Seed, Shared, Squares, set_run, trim};
 use life_strip::{Builder, laws};
 use std::alloc::Global;
 
@@ -55,16 +55,16 @@ fn by_rows<S: Squares>(alloc: Global, store: &mut S) -> Result<Id, Kind> {
 // The same runs, put into the plane one by one.
 fn one_by_one<S: Squares>(store: &mut S) -> Result<Id, Kind> {
     let root = store.empty(MAX_LEVEL);
-    let root = put_run(store, root, run(-(1 << 61), -(1 << 61), 1, 1))?;
-    let root = put_run(store, root, run((1 << 61) - 1, -(1 << 61), 1, 2))?;
-    let root = put_run(store, root, run(-3, -7, 5, 1))?;
-    let root = put_run(store, root, run(2, -7, 2, 3))?;
-    let root = put_run(store, root, run(5, -7, 1, 1))?;
-    let root = put_run(store, root, run(-3, -6, 5, 1))?;
-    let root = put_run(store, root, run(-(1 << 61), 4, 1 << 62, 255))?;
-    let root = put_run(store, root, run(1, 9, 3, 1))?;
-    let root = put_run(store, root, run(-(1 << 61), (1 << 61) - 1, 3, 4))?;
-    put_run(store, root, run((1 << 61) - 2, (1 << 61) - 1, 2, 5))
+    let root = set_run(store, root, run(-(1 << 61), -(1 << 61), 1, 1))?;
+    let root = set_run(store, root, run((1 << 61) - 1, -(1 << 61), 1, 2))?;
+    let root = set_run(store, root, run(-3, -7, 5, 1))?;
+    let root = set_run(store, root, run(2, -7, 2, 3))?;
+    let root = set_run(store, root, run(5, -7, 1, 1))?;
+    let root = set_run(store, root, run(-3, -6, 5, 1))?;
+    let root = set_run(store, root, run(-(1 << 61), 4, 1 << 62, 255))?;
+    let root = set_run(store, root, run(1, 9, 3, 1))?;
+    let root = set_run(store, root, run(-(1 << 61), (1 << 61) - 1, 3, 4))?;
+    set_run(store, root, run((1 << 61) - 2, (1 << 61) - 1, 2, 5))
 }
 
 // Two cells that touch at the middle of the plane, in the least square with them.
@@ -103,7 +103,7 @@ fn agree<S: Squares + Drop>(alloc: Global, store: S) -> Result<bool, Kind> {
 
 #[test]
 fn runs_by_rows_give_the_square_of_runs_one_by_one(rt: HostRuntime) {
-    let store = Shared::new(rt.alloc(), Seed::fixed(), 10_000);
+    let store = Shared::seeded(rt.alloc(), Seed::fixed(), 10_000);
     assert!(rt; agree(rt.alloc(), store) == Ok(true));
 }
 
@@ -133,7 +133,7 @@ fn quarter_states<S: Squares + Drop>(alloc: Global, store: S) -> Result<[Option<
 #[test]
 fn two_cells_give_the_square_joined_by_hand(rt: HostRuntime) {
     let alloc = rt.alloc();
-    assert!(rt; is_joined(alloc, Shared::new(alloc, Seed::fixed(), 1000)) == Ok(true));
+    assert!(rt; is_joined(alloc, Shared::seeded(alloc, Seed::fixed(), 1000)) == Ok(true));
     let states = quarter_states(alloc, Plain::new(alloc, 1000));
     assert!(rt; states == Ok([Some(1), Some(0), Some(0), Some(2)]));
 }
@@ -147,14 +147,14 @@ fn gives_blank<S: Squares + Drop>(alloc: Global, store: S) -> Result<bool, Kind>
 
 #[test]
 fn no_cell_gives_the_blank_square(rt: HostRuntime) {
-    assert!(rt; gives_blank(rt.alloc(), Shared::new(rt.alloc(), Seed::fixed(), 0)) == Ok(true));
+    assert!(rt; gives_blank(rt.alloc(), Shared::seeded(rt.alloc(), Seed::fixed(), 0)) == Ok(true));
 }
 
 // Whether a store of this limit takes a cell, and the number of its nodes.
 fn one_cell_within(alloc: Global, limit: u64) -> (Result<(), Kind>, u64)
     requires { limit ≤ 62 }
 {
-    let mut store = Shared::new(alloc, Seed::fixed(), limit);
+    let mut store = Shared::seeded(alloc, Seed::fixed(), limit);
     let answer = one_cell(alloc, &mut store);
     (answer.map(|_root| ()), store.len())
 }
@@ -171,7 +171,7 @@ fn a_store_without_room_is_full(rt: HostRuntime) {
 fn five_rows_within(alloc: Global, limit: u64) -> (Result<(), Kind>, u64)
     requires { limit ≤ 62 }
 {
-    let mut store = Shared::new(alloc, Seed::fixed(), limit);
+    let mut store = Shared::seeded(alloc, Seed::fixed(), limit);
     (five_rows(alloc, &mut store), store.len())
 }
 
@@ -186,7 +186,7 @@ fn a_run_in_a_full_store_is_refused(rt: HostRuntime) {
 
 // How many squares a store holds behind the runs.
 fn room_of_runs(alloc: Global) -> Result<u64, Kind> {
-    let mut ample = Shared::new(alloc, Seed::fixed(), 10_000);
+    let mut ample = Shared::seeded(alloc, Seed::fixed(), 10_000);
     one_by_one(&mut ample)?;
     Ok(ample.len())
 }
@@ -195,7 +195,7 @@ fn room_of_runs(alloc: Global) -> Result<u64, Kind> {
 fn takes_again(alloc: Global, limit: u64) -> Result<[bool; 3], Kind>
     requires { limit ≤ 10_000 }
 {
-    let mut store = Shared::new(alloc, Seed::fixed(), limit);
+    let mut store = Shared::seeded(alloc, Seed::fixed(), limit);
     let first = one_by_one(&mut store)?;
     let is_full = store.len() == store.limit();
     let again = one_by_one(&mut store)?;

@@ -10,7 +10,7 @@ use life_canon::canon;
 use life_canon::laws::{files_are_on_plane, files_are_unique};
 use life_step::step_table;
 use life_table::laws::grammars_agree;
-use life_table::{NameSeed, read_table};
+use life_table::{NameSeed, read_table_seeded};
 use std::alloc::Global;
 use table_laws::laws::{tables_decide, tables_read, tables_refuse};
 use theorems::{Room, are_equal};
@@ -41,7 +41,7 @@ pub fn next_generation_by_table(
     tables_read();
     tables_refuse();
     tables_decide();
-    let table = read_table(alloc, names, rules)?;
+    let table = read_table_seeded(alloc, names, rules)?;
     step_table(alloc, &mut room.new_store(alloc), file, &table)
 }
 
@@ -57,7 +57,7 @@ pub fn next_text_by_table_is_fixed(
     ensures { IfOk result (λ equal. IsTrue equal) }
 {
     files_are_unique();
-    let table = read_table(alloc, names, rules)?;
+    let table = read_table_seeded(alloc, names, rules)?;
     let text = step_table(alloc, &mut one.new_store(alloc), file, &table)?;
     let again = canon(alloc, &mut other.new_store(alloc), &text)?;
     Ok(are_equal(&text, &again))

@@ -20,6 +20,6 @@ impl Room {
         ensures stored { held result ≡ [] }
         ensures most { result.limit ≡ self.limit }
     {
-        Shared::new(alloc, self.seed, self.limit)
+        Shared::seeded(alloc, self.seed, self.limit)
     }
 }

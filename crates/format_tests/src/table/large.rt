@@ -1,6 +1,6 @@
 //! A large file: many variables.
 use life_base::{Fault, Kind};
-use life_table::{Entry, NameSeed, Transition, Var, read_table};
+use life_table::{Entry, NameSeed, Transition, Var, read_table_seeded};
 use std::alloc::{AllocError, Global};
 use std::process::Abort;
 use std::rt::HostRuntime;
@@ -63,7 +63,7 @@ fn is_only(transitions: &[Transition], line: u64, inputs: &[Entry], output: Entr
 fn a_chain_of_variables_is_read(rt: HostRuntime) {
     let line = "0,v09999,v00000,v05000,0,v05000\n";
     let bytes = chain(rt.alloc(), 10000, line).expect(&rt, "memory");
-    let table = read_table(rt.alloc(), NameSeed::fixed(), &bytes).expect(&rt, "table");
+    let table = read_table_seeded(rt.alloc(), NameSeed::fixed(), &bytes).expect(&rt, "table");
     assert!(rt; is_chain(table.vars.as_slice()));
     let middle = Entry::Var(5000);
     let inputs = [
@@ -79,7 +79,7 @@ fn a_chain_of_variables_is_read(rt: HostRuntime) {
 /// The line behind a chain of 10,000 variables is refused with this kind.
 fn assert_chain_ends(rt: &impl Abort, alloc: Global, line: &str, kind: Kind) {
     let bytes = chain(alloc, 10000, line).expect(rt, "memory");
-    let refused = read_table(alloc, NameSeed::fixed(), &bytes).err();
+    let refused = read_table_seeded(alloc, NameSeed::fixed(), &bytes).err();
     assert!(rt; refused == Some(Fault::at(10006, kind)), "{line}");
 }
 

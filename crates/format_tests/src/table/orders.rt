@@ -3,7 +3,7 @@ ghost use Rattle.std.specs.Prelude.{◌≡◌, ◌<◌, All};
 
 use life_base::{Fault, Kind, Place, State};
 use life_table::{
-    Entry, NameSeed, Neighborhood, Neighbours, Symmetry, Table, Transition, read_table,
+    Entry, NameSeed, Neighborhood, Neighbours, Symmetry, Table, Transition, read_table_seeded,
 };
 use std::alloc::{AllocError, Global};
 use std::process::Abort;
@@ -18,7 +18,7 @@ fn read_texts(alloc: Global, texts: &[&str]) -> Result<Result<Table, Fault>, All
     for text in texts {
         bytes.extend_from_slice(text.as_bytes())?;
     }
-    Ok(read_table(alloc, NameSeed::fixed(), &bytes))
+    Ok(read_table_seeded(alloc, NameSeed::fixed(), &bytes))
 }
 
 /// The table that texts write one behind another, and no refusal.

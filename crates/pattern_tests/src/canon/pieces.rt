@@ -24,7 +24,7 @@ pub(super) fn text_of(alloc: Global, store: &mut Shared, reader: Reader) -> Resu
 
 /// The canonical text of two pieces.
 fn text_of_pieces(alloc: Global, first: &[u8], second: &[u8]) -> Result<Vec<u8>, Fault> {
-    let mut store = Shared::new(alloc, Seed::fixed(), ROOM);
+    let mut store = Shared::seeded(alloc, Seed::fixed(), ROOM);
     let mut reader = Reader::new(alloc);
     reader.feed(&mut store, first)?;
     reader.feed(&mut store, second)?;
@@ -33,7 +33,7 @@ fn text_of_pieces(alloc: Global, first: &[u8], second: &[u8]) -> Result<Vec<u8>,
 
 /// The canonical text of the bytes, each a piece of its own.
 fn text_of_bytes(alloc: Global, input: &[u8]) -> Result<Vec<u8>, Fault> {
-    let mut store = Shared::new(alloc, Seed::fixed(), ROOM);
+    let mut store = Shared::seeded(alloc, Seed::fixed(), ROOM);
     let mut reader = Reader::new(alloc);
     for byte in input {
         reader.feed(&mut store, &[*byte])?;
@@ -91,7 +91,7 @@ fn a_source_gives_a_byte_at_a_time(rt: HostRuntime) {
 /// What a reader tells for these three pieces, and at its end.
 fn refusals(alloc: Global, pieces: [&[u8]; 3]) -> [Option<Fault>; 4] {
     let [first, second, third] = pieces;
-    let mut store = Shared::new(alloc, Seed::fixed(), ROOM);
+    let mut store = Shared::seeded(alloc, Seed::fixed(), ROOM);
     let mut reader = Reader::new(alloc);
     [
         reader.feed(&mut store, first).err(),

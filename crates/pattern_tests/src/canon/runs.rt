@@ -15,7 +15,7 @@ const PAIR_LINES: &[u8] = b"rule B3/S23\ngeneration 0\npopulation 2\nbox -4 0 9 
 
 /// The canonical text of a file that goes from a source to a sink, in a store of its own.
 pub(super) fn text_through<R: Read + Drop>(alloc: Global, input: R) -> Result<Vec<u8>, Fault> {
-    let mut store = Shared::new(alloc, Seed::fixed(), ROOM);
+    let mut store = Shared::seeded(alloc, Seed::fixed(), ROOM);
     text_run(alloc, &mut store, input)
 }
 
@@ -26,7 +26,7 @@ fn a_file_goes_from_source_to_sink(rt: HostRuntime) {
 
 /// Whether the pattern that a source gives has these five lines and is this RLE.
 fn is_read(alloc: Global, input: &[u8], lines: &[u8], runs: &[u8]) -> Result<bool, Fault> {
-    let mut store = Shared::new(alloc, Seed::fixed(), ROOM);
+    let mut store = Shared::seeded(alloc, Seed::fixed(), ROOM);
     let mut reader = Device::new(input);
     let pattern = read_from(alloc, &mut store, &mut reader)?;
     let has_lines = is_text(five_lines_of(alloc, &store, &pattern), lines);
@@ -45,7 +45,7 @@ fn a_pattern_is_read_from_a_source(rt: HostRuntime) {
 fn text_within(alloc: Global, input: &[u8], most: u64) -> Result<Vec<u8>, Fault>
     requires { most ≤ 2 ^ 30 }
 {
-    let mut store = Shared::new(alloc, Seed::fixed(), ROOM);
+    let mut store = Shared::seeded(alloc, Seed::fixed(), ROOM);
     let mut text = Vec::new(alloc);
     let mut reader = Device::new(input);
     let mut writer = Device::new(&mut text);

@@ -14,7 +14,7 @@ use std::io::Read;
 
 /// The canonical text of a file in a store of no room.
 fn text_without_room(alloc: Global, input: &[u8]) -> Result<Vec<u8>, Fault> {
-    canon(alloc, &mut Shared::new(alloc, Seed::fixed(), 0), input)
+    canon(alloc, &mut Shared::seeded(alloc, Seed::fixed(), 0), input)
 }
 
 #[test]
@@ -28,7 +28,7 @@ fn a_store_without_room_takes_a_blank_pattern(rt: HostRuntime) {
 
 /// How many squares a store holds behind the file.
 fn room_of(alloc: Global, input: &[u8]) -> Result<u64, Fault> {
-    let mut large = Shared::new(alloc, Seed::fixed(), ROOM);
+    let mut large = Shared::seeded(alloc, Seed::fixed(), ROOM);
     let _text = canon(alloc, &mut large, input)?;
     Ok(large.len())
 }
@@ -87,7 +87,7 @@ const BLANK_ANSWERS: Answers = Answers {
 /// Whether a store whose limit is what the file needs is full behind it, and takes it and a blank pattern again by every call.
 fn fits(alloc: Global, input: &[u8], wanted: &Answers) -> Result<bool, Fault> {
     let limit = room_of(alloc, input)?.min(ROOM);
-    let mut store = Shared::new(alloc, Seed::fixed(), limit);
+    let mut store = Shared::seeded(alloc, Seed::fixed(), limit);
     let has_text = is_text(canon(alloc, &mut store, input), wanted.text);
     let is_full = store.len() == store.limit();
     let again = takes(alloc, &mut store, input, wanted);

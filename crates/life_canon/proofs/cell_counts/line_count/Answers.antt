@@ -11,5 +11,5 @@ returns-in-Quad-eq1-default-default-default-default c = λ _.
     let ne = c.cell_count-in-Quad-eq1-default-default-default-default.ensures.count counts in
     let sw = c.cell_count-in-Quad-eq1-default-default-default-default-2.ensures.count counts in
     let se = c.cell_count-in-Quad-eq1-default-default-default-default-3.ensures.count counts in
-    let one : q.field-0 ≡ 1 = grind (arith, q.field-0-test) in
+    let one : q.level ≡ 1 = grind (arith, q.level-test) in
     (λ i. nw i + ne i + sw i + se i) ∙ sym (ap (λ level. line_count counts (Quad level q.nw q.ne q.sw q.se)) one) ∙ sym (ap (line_count counts) q.is)

@@ -9,14 +9,14 @@ use Rattle.life_cli.proofs.forms.text_of_source.Goals as goal
 pub returns-in_err-pattern : goal.returns-in_err-pattern
 returns-in_err-pattern g c =
     let p = err_from_is_err_and c.from_residual.result c.from_residual.ensures.1 in
-    rw (p.1, p.2) (nothing_comes _ (IsTextIn c.args.form MAX_LEVEL) (RefusesInForm c.args.form) _ _ _ _ c.new-store.ensures.most
+    rw (p.1, p.2) (nothing_comes _ (IsTextIn c.args.form MAX_LEVEL) (RefusesInForm c.args.form) _ _ _ _ c.seeded-store.ensures.most
     (λ bytes refuses. refused_in c.args.form bytes _ refuses) c.in_err-pattern.ensures)
 
 pub text_in-requires-clause-read : goal.text_in-requires-clause-read
 text_in-requires-clause-read g c = (c.in_ok-pattern.ensures.pattern.bytes, c.in_ok-pattern.ensures.pattern.is)
 
 pub text_in-requires-clause-limit : goal.text_in-requires-clause-limit
-text_in-requires-clause-limit g c = c.read_from.ensures.reads.keeps.limit ∙ c.new-store.ensures.most
+text_in-requires-clause-limit g c = c.read_from.ensures.reads.keeps.limit ∙ c.seeded-store.ensures.most
 
 pub returns : goal.returns
 returns g c =

@@ -8,7 +8,7 @@ use Rattle.life_cli.proofs.jobs.five_lines_of_source.Goals as goal
 pub returns-in_err-pattern : goal.returns-in_err-pattern
 returns-in_err-pattern g c =
     let p = err_from_is_err_and c.from_residual.result c.from_residual.ensures.1 in
-    rw (p.1, p.2) (nothing_comes _ (IsShown MAX_LEVEL) (Refuses MAX_LEVEL) _ _ _ _ c.new-store.ensures.most (λ bytes refuses. refuses) c.in_err-pattern.ensures)
+    rw (p.1, p.2) (nothing_comes _ (IsShown MAX_LEVEL) (Refuses MAX_LEVEL) _ _ _ _ c.seeded-store.ensures.most (λ bytes refuses. refuses) c.in_err-pattern.ensures)
 
 pub five_lines_of-requires : goal.five_lines_of-requires
 five_lines_of-requires g c = (c.in_ok-pattern.ensures.pattern.bytes, c.in_ok-pattern.ensures.pattern.is)

@@ -9,7 +9,7 @@ use Rattle.life_cli.proofs.jobs.rle_of_source.Goals as goal
 pub returns-in_err-pattern : goal.returns-in_err-pattern
 returns-in_err-pattern g c =
     let p = err_from_is_err_and c.from_residual.result c.from_residual.ensures.1 in
-    rw (p.1, p.2) (nothing_comes _ (IsRleOf MAX_LEVEL (2 ^ 20)) RefusesMany _ _ _ _ c.new-store.ensures.most (λ bytes refuses. inl refuses)
+    rw (p.1, p.2) (nothing_comes _ (IsRleOf MAX_LEVEL (2 ^ 20)) RefusesMany _ _ _ _ c.seeded-store.ensures.most (λ bytes refuses. inl refuses)
     c.in_err-pattern.ensures)
 
 pub rle_of-requires : goal.rle_of-requires

@@ -13,6 +13,6 @@ returns g c =
 pub returns-in_err-run_canon : goal.returns-in_err-run_canon
 returns-in_err-run_canon g c =
     let p = err_from_is_err_and c.from_residual.result c.from_residual.ensures.1 in
-    let limit = c.run_canon.ensures.runs.reads.keeps.limit ∙ c.new-store.ensures.most in
+    let limit = c.run_canon.ensures.runs.reads.keeps.limit ∙ c.seeded-store.ensures.most in
     rw (p.1, p.2) (none_placed _ _ c.run_canon.new.store _ limit refl refl c.in_err-run_canon.ensures.runs.err
     (λ e. c.in_err-run_canon.ensures.runs.reads.needed (cc)) c.in_err-run_canon.ensures.runs.reads.told)

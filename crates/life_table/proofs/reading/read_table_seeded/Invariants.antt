@@ -2,7 +2,7 @@ use Rattle.std.proofs.Common.{◌≡◌, ◌++◌, ◌+◌, ◌-◌, ◌^◌, mi
 use Rattle.life_base.specs.Text.{lines_of, numbered_from}
 use Rattle.life_table.specs.Reading.{Numbered}
 use Rattle.life_table.proofs.ReadLines.{Reads}
-use Rattle.life_table.proofs.reading.read_table.Given as goal
+use Rattle.life_table.proofs.reading.read_table_seeded.Given as goal
 
 abbrev pub numbered : ℕ × Bor (List ℕ) → Numbered
 numbered p = (p.0, p.1.now)

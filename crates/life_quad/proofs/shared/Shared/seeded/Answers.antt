@@ -2,7 +2,7 @@ use Rattle.std.proofs.Common.{◌≡◌, ◌+◌, length, rules}
 use Rattle.life_quad.specs.IdMap.{value_of}
 use Rattle.life_quad.specs.Store.{Nodes, IsSound, IsShared, squares, levels_of}
 use Rattle.life_quad.proofs.CallLemmas.{held-none, HasSeen-none}
-use Rattle.life_quad.proofs.shared.Shared.new.Goals as goal
+use Rattle.life_quad.proofs.shared.Shared.seeded.Goals as goal
 
 pub invariant_of-result : goal.invariant_of-result
 unfolding squares

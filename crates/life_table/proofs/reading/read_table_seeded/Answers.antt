@@ -12,8 +12,8 @@ use Rattle.life_table.specs.declared.directive.Parsed.{Parsed}
 use Rattle.life_table.proofs.Grammars.{grammars_agree}
 use Rattle.life_table.proofs.LineKinds.{directive_kind, lacking_kind}
 use Rattle.life_table.proofs.ReadLines.{Reads, reads_none, reads_more, next_number, refused_at, read_whole, refused_at_end, good_reads}
-use Rattle.life_table.proofs.reading.read_table.Invariants.{numbered}
-use Rattle.life_table.proofs.reading.read_table.Goals as goal
+use Rattle.life_table.proofs.reading.read_table_seeded.Invariants.{numbered}
+use Rattle.life_table.proofs.reading.read_table_seeded.Goals as goal
 
 pub loop-number-init : goal.loop-number-init
 loop-number-init c = record {

@@ -4,7 +4,7 @@ use Rattle.std.proofs.lemmas.Int.{ints}
 use Rattle.std.proofs.Math.Pow.{pow_mono}
 use Rattle.life_base.specs.Tree.{half_side}
 use Rattle.life_quad.proofs.RunLemmas.{SetsRun-span}
-use Rattle.life_quad.proofs.runs.put_run.Goals as goal
+use Rattle.life_quad.proofs.runs.set_run.Goals as goal
 
 pub offset-requires-clause-small : goal.offset-requires-clause-small
 offset-requires-clause-small g c =
