@@ -18,7 +18,7 @@ pub(crate) struct Example {
 }
 
 /// Files of both formats.
-pub(crate) const EXAMPLES: [Example; 4] = [
+pub(crate) const EXAMPLES: [Example; 6] = [
     Example {
         name: "glider",
         input: b"x = 3, y = 3, rule = B3/S23\nbo$2bo$3o!\n",
@@ -48,6 +48,21 @@ pub(crate) const EXAMPLES: [Example; 4] = [
         canonical: b"[M2] (canonical 1)\n#R WireWorld\n#G 7\n1 1 25 0 0\n",
         runs: b"#CXRLE Pos=-1,-1 Gen=7\nx = 2, y = 1, rule = WireWorld\nApA!\n",
         shown: b"rule WireWorld\ngeneration 7\npopulation 2\nbox -1 -1 2 1\nnodes 1\n",
+    },
+    // of the rules that the tables step
+    Example {
+        name: "one cell of a table",
+        input: b"x = 1, y = 1, rule = Spread\nB!\n",
+        canonical: b"[M2] (canonical 1)\n#R Spread\n1 0 0 0 2\n",
+        runs: b"#CXRLE Pos=0,0\nx = 1, y = 1, rule = Spread\nB!\n",
+        shown: b"rule Spread\ngeneration 0\npopulation 1\nbox 0 0 1 1\nnodes 1\n",
+    },
+    Example {
+        name: "two cells of a table",
+        input: b"#CXRLE Pos=0,-1\nx = 2, y = 2, rule = Spread\nA$.B!\n",
+        canonical: b"[M2] (canonical 1)\n#R Spread\n1 0 0 1 0\n1 0 2 0 0\n2 0 1 0 2\n",
+        runs: b"#CXRLE Pos=0,-1\nx = 2, y = 2, rule = Spread\nA$.B!\n",
+        shown: b"rule Spread\ngeneration 0\npopulation 2\nbox 0 -1 2 2\nnodes 3\n",
     },
 ];
 

@@ -49,15 +49,38 @@ fn put<S: Squares>(
     set_run(squares, root, Run { x, y, len, state })
 }
 
-// A row of the greatest square, all its cells in state 1.
-fn whole_row<S: Squares>(squares: &mut S, root: Id, y: i64) -> Result<Id, Kind>
+/// The rows of the squares of one level: the level, the first and the last column, and how many cells a row has.
+#[derive(Clone, Copy)]
+struct Rows {
+    level: u8,
+    left: i64,
+    right: i64,
+    len: u64,
+}
+
+const ROWS_OF_62: Rows = Rows {
+    level: 62,
+    left: -2305843009213693952,
+    right: 2305843009213693951,
+    len: 4611686018427387904,
+};
+
+const ROWS_OF_60: Rows = Rows {
+    level: 60,
+    left: -576460752303423488,
+    right: 576460752303423487,
+    len: 1152921504606846976,
+};
+
+// A row of a square, all its cells in state 1.
+fn whole_row<S: Squares>(squares: &mut S, root: Id, rows: Rows, y: i64) -> Result<Id, Kind>
     requires { S.knows squares.old root }
     ensures known { IfOk result (S.knows squares.new) }
     ensures level { IfOk result
         (λ r. depth (S.content squares.new r) ≡ depth (S.content squares.old root)) }
     ensures high { IfOk result (λ r. 1 ≤ depth (S.content squares.new r)) }
 {
-    put(squares, root, -(1 << 61), y, 1 << 62, 1)
+    put(squares, root, rows.left, y, rows.len, 1)
 }
 
 // Whether a square has this population and this box.
@@ -74,44 +97,58 @@ fn has_measures<S: SharedSquares>(
     Ok(population(alloc, squares, id)? == number && bounds(alloc, squares, id)? == least)
 }
 
-// Whether a row of the greatest square has the population and the box of a row, and two have the population of two.
-fn two_rows<S: SharedSquares + Drop>(alloc: Global, store: S) -> Result<bool, Kind> {
+// Whether a row of a square has the population and the box of a row, and two have the population of two.
+fn two_rows<S: SharedSquares + Drop>(
+    alloc: Global,
+    store: S,
+    rows: Rows,
+    both: u128,
+) -> Result<bool, Kind>
+    requires { rows.level ≤ MAX_LEVEL }
+{
     let mut squares = store;
-    let root = squares.empty(MAX_LEVEL);
-    let one = whole_row(&mut squares, root, 0)?;
+    let root = squares.empty(rows.level);
+    let one = whole_row(&mut squares, root, rows, 0)?;
     let row = Bounds {
-        left: -2305843009213693952,
+        left: rows.left,
         top: 0,
-        right: 2305843009213693951,
+        right: rows.right,
         bottom: 0,
     };
-    let is_row = has_measures(alloc, &squares, one, 4611686018427387904, Some(row))?;
-    let two = whole_row(&mut squares, one, 1)?;
-    Ok(is_row && population(alloc, &squares, two)? == 9223372036854775808)
+    let is_row = has_measures(alloc, &squares, one, rows.len as u128, Some(row))?;
+    let two = whole_row(&mut squares, one, rows, 1)?;
+    Ok(is_row && population(alloc, &squares, two)? == both)
 }
 
 #[test]
 fn long_runs_share(rt: HostRuntime) {
-    let found = two_rows(rt.alloc(), Shared::seeded(rt.alloc(), Seed::fixed(), 1000));
-    assert!(rt; found == Ok(true));
+    let alloc = rt.alloc();
+    let store = Shared::seeded(alloc, Seed::fixed(), 1000);
+    assert!(rt; two_rows(alloc, store, ROWS_OF_62, 9223372036854775808) == Ok(true));
+    let store = Shared::new(alloc, 1000);
+    assert!(rt; two_rows(alloc, store, ROWS_OF_60, 2305843009213693952) == Ok(true));
 }
 
-// A row of the greatest square in a store of this limit, and the limit and the number of nodes that the store tells.
-fn row_within(alloc: Global, limit: u64) -> (Result<Id, Kind>, u64, u64)
-    requires { limit ≤ 62 }
+// A row of a square in a store of this limit, and the limit and the number of nodes that the store tells.
+fn row_within(alloc: Global, rows: Rows, limit: u64) -> (Result<Id, Kind>, u64, u64)
+    requires level { rows.level ≤ MAX_LEVEL }
+    requires limit { limit ≤ 62 }
 {
-    let mut squares = Shared::seeded(alloc, Seed::fixed(), limit);
-    let root = squares.empty(MAX_LEVEL);
-    let row = whole_row(&mut squares, root, 0);
+    let mut squares = Shared::new(alloc, limit);
+    let root = squares.empty(rows.level);
+    let row = whole_row(&mut squares, root, rows, 0);
     (row, squares.limit(), squares.len())
 }
 
 // It needs a node of each level from 1 up.
 #[test]
-fn a_long_run_needs_62_nodes(rt: HostRuntime) {
-    assert!(rt; row_within(rt.alloc(), 61) == (Err(Kind::Full), 61, 61));
-    let (row, limit, len) = row_within(rt.alloc(), 62);
+fn a_long_run_needs_a_node_of_each_level(rt: HostRuntime) {
+    assert!(rt; row_within(rt.alloc(), ROWS_OF_62, 61) == (Err(Kind::Full), 61, 61));
+    let (row, limit, len) = row_within(rt.alloc(), ROWS_OF_62, 62);
     assert!(rt; row.is_ok() && limit == 62 && len == 62);
+    assert!(rt; row_within(rt.alloc(), ROWS_OF_60, 59) == (Err(Kind::Full), 59, 59));
+    let (row, limit, len) = row_within(rt.alloc(), ROWS_OF_60, 60);
+    assert!(rt; row.is_ok() && limit == 60 && len == 60);
 }
 
 // Whether the greatest square with each cell in state 1 has the population and the box of the plane.
