@@ -42,13 +42,15 @@ all: golly_canon
 	@./golly_canon canon $(EXAMPLE)
 
 golly_canon: FORCE
+	@RT="$(RT)" python3 -B scripts/needs build
 	@RT="$(RT)" sh scripts/build
 
 library: FORCE
+	@RT="$(RT)" CC="$(CC)" python3 -B scripts/needs library
 	@RT="$(RT)" CC="$(CC)" CFLAGS="$(CFLAGS)" LDFLAGS="$(LDFLAGS)" sh scripts/library "$(PREFIX)"
 
 page: FORCE
-	@sh scripts/heap
+	@RT="$(RT)" python3 -B scripts/needs page
 	@RT="$(RT)" python3 -B scripts/page
 
 quick:
@@ -58,7 +60,7 @@ test:
 	@RT="$(RT)" python3 tests/all
 
 test_page: golly_canon
-	@sh scripts/heap
+	@RT="$(RT)" python3 -B scripts/needs test
 	@RT="$(RT)" python3 -B tests/page/page.py ./golly_canon
 
 test_collection: library_is_built

@@ -334,7 +334,7 @@ git_recipes() {
 }
 
 for shell in sh bash; do
-    command -v $shell > /dev/null || continue
+    command -v $shell > /dev/null || { echo "skipped: the recipes in $shell, since it isn't installed"; continue; }
     mkdir "$folder/$shell" && cd "$folder/$shell" || exit 1
     each_recipe
 done

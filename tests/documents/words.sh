@@ -35,6 +35,8 @@ same_words "the man page has the statuses" "$(sed -n '/^\.SH "EXIT/,/^\.SH DIAG/
     "$("$program" --help | awk '/^Exit status:/ { on = 1; next } /^$/ { on = 0 } on && /^  [0-9]/ { print $1 }')"
 if command -v groff > /dev/null; then
     verdict "the man page has no errors" "$(groff -man -Tutf8 -ww -z $page 2>&1 | head -n 5)"
+else
+    echo "skipped: the man page as groff sets it, since groff isn't installed"
 fi
 
 # ---- bash

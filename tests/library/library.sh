@@ -44,6 +44,8 @@ counted "the same by the shared object" $?
 if command -v valgrind > /dev/null; then
     valgrind -q --error-exitcode=9 --leak-check=full --show-leak-kinds=all ./checks > said 2>&1
     counted "the same, each access to memory checked" $?
+else
+    echo "skipped: each access to memory checked, since valgrind isn't installed"
 fi
 
 # The header's numbers are those of the names: GOLLY_CANON_BAD_CHILD is that of BadChild.
@@ -56,8 +58,12 @@ verdict "the header's numbers have their names" "$(awk '
     { name = $2; gsub(/[A-Z]/, "_&", name); name = "GOLLY_CANON" toupper(name); if ($2 == "OK") name = "GOLLY_CANON_OK" }
     name != $1 { print " " $0 }
     END { if (NR != 41) print " " NR " numbers" }' told 2>&1)"
-verdict "the header serves C++" "$(printf '#include <golly_canon.h>\nint main() { return 0; }\n' > header.cpp
-    ! command -v c++ > /dev/null || c++ -Wall -Wextra -Werror -I"$top/include" -c header.cpp -o header.o 2>&1)"
+if command -v c++ > /dev/null; then
+    printf '#include <golly_canon.h>\nint main() { return 0; }\n' > header.cpp
+    verdict "the header serves C++" "$(c++ -Wall -Wextra -Werror -I"$top/include" -c header.cpp -o header.o 2>&1)"
+else
+    echo "skipped: the header in C++, since there is no c++"
+fi
 
 # ---- as the program does
 
