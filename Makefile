@@ -43,7 +43,7 @@ all: golly_canon
 
 golly_canon: FORCE
 	@RT="$(RT)" python3 -B scripts/needs build
-	@RT="$(RT)" sh scripts/build
+	@RT="$(RT)" python3 -B scripts/build
 
 library: FORCE
 	@RT="$(RT)" CC="$(CC)" python3 -B scripts/needs library

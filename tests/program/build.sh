@@ -1,44 +1,83 @@
 #!/bin/sh
-# What `make` does, with a command in the place of `rt` that notes what it is asked: it checks each crate below the program, behind those that
-# the crate stands on, then the program, runs that, and leaves it as ./golly_canon. Where a check fails, it leaves none and fails. And what `make
-# install` does: it asks `rt` nothing, puts what is built into the folders that are named, and puts nothing in place where a part isn't built.
+# What `make` does, with a compiler in place of the toolchain's that notes what it is asked: each crate that the program stands on is proved once, after
+# those below it, and only again where its files or those of a crate below it changed; then the program is left as ./golly_canon. Where a proof fails,
+# `make` leaves no program and fails. And what `make install` does: it proves nothing, puts what is built into the folders that are named, and puts
+# nothing in place where a part isn't built.
 top=$(cd "$(dirname "$0")/../.." && pwd)
 folder=$(mktemp -d) || exit 1
 trap 'rm -rf "$folder"' EXIT
 cd "$folder" || exit 1
 cp -r "$top/Makefile" "$top/crates.txt" "$top/scripts" "$top/docs" "$top/completions" "$top/include" "$top/python" .
 for crate in "$top"/crates/*; do mkdir -p "crates/${crate##*/}"; done
-cat > rt <<'NOTES'
+mkdir -p crates/golly_canon/src kit/bin && echo "a program" > crates/golly_canon/src/main.rt && echo "a kit" > kit/KIT-ID
+printf '#!/bin/sh\necho "rt $*" >> "$NOTES"\n' > kit/bin/rt
+# It notes when it begins with a crate and when it ends, and writes what it is told to write.
+cat > kit/bin/rattle <<'NOTES'
 #!/bin/sh
-crate=${PWD##*/}
-echo "$crate $*" >> "$NOTES"
+while [ $# != 0 ]; do
+    case $1 in
+        --crate-name) crate=$2 ;;
+        -o) made=$2 ;;
+    esac
+    shift
+done
+echo "begin $crate" >> "$NOTES"
+echo "logic=proved functions=2 sum=0"
 [ "$crate" != "$FAILS" ] || exit 1
-[ "$1" != run ] || { mkdir -p out && echo "the program $crate" > "out/$crate"; }
+case $made in *.rlib) mkdir "$made" ;; *) echo "an object" > "$made" ;; esac
+echo "end $crate" >> "$NOTES"
 NOTES
-chmod 755 rt
+cat > kit/bin/rattle-link <<'NOTES'
+#!/bin/sh
+while [ "$1" != -o ]; do shift; done
+echo "the program" > "$2"
+NOTES
+chmod 755 kit/bin/*
 export NOTES="$folder/notes"
 unset MAKEFLAGS
+RT="$folder/kit/bin/rt"
+crates=$(awk -F ': *' '
+    /^[a-z]/ { name = $1; sub(/ .*/, "", name); below[name] = $2 }
+    function visit(name, words, count, i) {
+        if (!(name in below) || seen[name]++) return
+        count = split(below[name], words, " ")
+        for (i = 1; i <= count; i++) visit(words[i])
+        print name
+    }
+    END { visit("golly_canon") }' crates.txt | sort)
 
 . "$top/tests/shared/counting.sh"
 
-FAILS= make -s golly_canon RT="$folder/rt" > said 2>&1
+begun() { sed -n 's/^begin //p' notes | sort; }
+FAILS= make -s golly_canon RT="$RT" > said 2>&1
 verdict "make ends well" "$([ $? = 0 ] || cat said)"
-verdict "the program is left" "$([ "$(cat golly_canon)" = "the program golly_canon" ] || echo "another file")"
-verdict "the program is checked and run last" "$([ "$(tail -n 2 notes)" = "golly_canon check
-golly_canon run -- --help" ] || tail -n 2 notes)"
-verdict "libraries are checked first" "$(awk -F ': *' '
-    NR == FNR { below[$1] = $2; next }
+verdict "the program is left" "$([ "$(cat golly_canon)" = "the program" ] || echo "another file")"
+verdict "each crate is proved once" "$([ "$(begun)" = "$crates" ] || begun)"
+verdict "a crate is proved after those below it" "$(awk -F ': *' '
+    NR == FNR { name = $1; sub(/ .*/, "", name); below[name] = $2; next }
+    { split($0, words, " ") }
+    words[1] == "end" { proved[words[2]] = 1; next }
     {
-        split($0, words, " ")
-        count = split(below[words[1]], libraries, " ")
+        count = split(below[words[2]], libraries, " ")
         for (i = 1; i <= count; i++)
-            if (libraries[i] in below && !(libraries[i] in checked)) print words[1] " before " libraries[i]
-        checked[words[1]]
+            if (libraries[i] in below && !(libraries[i] in proved)) print words[2] " before " libraries[i]
     }' crates.txt notes)"
+count=$(echo "$crates" | wc -l)
+verdict "it says how far it is" "$(grep -q "^golly_canon: $count of $count crates proved, and $((count * 2)) functions" said || cat said)"
+
+: > notes
+FAILS= make -s golly_canon RT="$RT" > said 2>&1
+verdict "what is proved is not proved again" "$(cat notes)"
+mkdir -p crates/life_step/src && echo "a change" > crates/life_step/src/changed.rt
+FAILS= make -s golly_canon RT="$RT" > said 2>&1
+verdict "a crate that changed is proved again, and those above it" "$([ "$(begun | tr '\n' ' ')" = "golly_canon life_cli life_step " ] || begun)"
 
 rm golly_canon
-FAILS=life_base make -s golly_canon RT="$folder/rt" > said 2>&1
+mkdir -p crates/life_base/src && echo "a change" > crates/life_base/src/changed.rt
+: > notes
+FAILS=life_base make -s golly_canon RT="$RT" > said 2>&1
 verdict "a crate that isn't proved ends it" "$([ $? != 0 ] || cat said)"
+verdict "nothing above it is begun" "$([ "$(cat notes)" = "begin life_base" ] || cat notes)"
 verdict "nothing is left then" "$([ ! -e golly_canon ] || echo "a program")"
 
 # ---- what is installed
@@ -48,7 +87,7 @@ FAILS=
 export FAILS
 prefix=$folder/prefix
 installed() { find place -type f -o -type l | sort | tr '\n' ' '; }
-makes() { make "$@" RT="$folder/rt" DESTDIR=place PREFIX="$prefix" LIBDIR="$prefix/lib64" MANDIR=/man > said 2>&1; }
+makes() { make "$@" RT="$RT" DESTDIR=place PREFIX="$prefix" LIBDIR="$prefix/lib64" MANDIR=/man > said 2>&1; }
 in_prefix="place$prefix"
 program_files="place/man/man1/golly_canon.1 $in_prefix/bin/golly_canon $in_prefix/share/bash-completion/completions/golly_canon \
 $in_prefix/share/fish/vendor_completions.d/golly_canon.fish $in_prefix/share/zsh/site-functions/_golly_canon"
@@ -87,7 +126,7 @@ cat > cc <<'NOTES'
 printf '%s\n' "$@" > "$NOTES"
 NOTES
 chmod 755 cc
-mkdir -p kit/bin kit/c crates/golly_canon_c/src && touch part.o && ar rc kit/c/liblibc_c.a part.o && cp rt kit/bin/rt
+mkdir -p kit/c crates/golly_canon_c/src && touch part.o && ar rc kit/c/liblibc_c.a part.o
 cp "$top/crates/golly_canon_c/src/names.rt" crates/golly_canon_c/src
 CC=$folder/cc CFLAGS="-g -O1" LDFLAGS="-Wl,-z,now" RT=$folder/kit/bin/rt sh scripts/link_library kit/c/liblibc_c.a linked > said 2>&1
 verdict "CFLAGS and LDFLAGS reach the shared object" "$([ "$(grep -xE -- '-g|-O1|-Wl,-z,now' notes | tr '\n' ' ')" = "-g -O1 -Wl,-z,now " ] || cat said notes)"
