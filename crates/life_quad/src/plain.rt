@@ -111,10 +111,6 @@ impl Squares for Plain {
         id.level(self.levels.as_slice())
     }
 
-    fn find_small(&self, _cells: u16) -> Option<Id> {
-        None
-    }
-
     fn small_cells(&self, id: Id) -> Option<u16> {
         id.cells()
     }

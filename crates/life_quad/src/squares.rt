@@ -104,11 +104,16 @@ pub trait Squares {
         ensures level { result ≡ depth (content self.now id) }
         ensures low { result ≤ MAX_LEVEL };
 
-    /// The square of level 2 with these cells of the states 0 and 1, where the store can tell that it is there without its quarters; `None`
-    /// tells nothing. The highest four bits are the cells of the north-west quarter, then come those of the north-east, the south-west and
-    /// the south-east one, and the cells of a quarter stand in the same order.
+    /// The square of level 2 with these cells of the states 0 and 1, if the store can find it without the Ids of its quarters. `None` doesn't
+    /// mean that the square isn't stored, and is what a store without an index of small squares always returns. The highest four bits are the
+    /// cells of the north-west quarter, followed by those of the north-east, the south-west and the south-east one; the cells of each quarter
+    /// have the same order.
     fn find_small(&self, cells: u16) -> Option<Id>
-        ensures { IfSome result (λ id. knows self.now id × (content self.now id ≡ four cells)) };
+        ensures { IfSome result (λ id. knows self.now id × (content self.now id ≡ four cells)) }
+    {
+        let _ = cells;
+        None
+    }
 
     /// The square of level 1 with these four cells of the states 0 and 1: the north-west one is the highest bit, then come the north-east, the
     /// south-west and the south-east one. A refused call leaves each Id its square.
@@ -149,11 +154,15 @@ pub trait Squares {
         self.join(nw, ne, sw, se)
     }
 
-    /// The cells of a square of level 2 with the states 0 and 1, as `find_small` takes them, where the store can tell them without its
-    /// quarters; `None` tells nothing.
+    /// The cells of a square of level 2 with the states 0 and 1, as `find_small` takes them, if the store can read them from the Id. `None`
+    /// says nothing about the square, and is what a store whose Ids don't contain cells always returns: read its quarters instead.
     fn small_cells(&self, id: Id) -> Option<u16>
         requires { knows self.now id }
-        ensures { IfSome result (λ cells. content self.now id ≡ four cells) };
+        ensures { IfSome result (λ cells. content self.now id ≡ four cells) }
+    {
+        let _ = id;
+        None
+    }
 
     // Each Id stands for a full square of the greatest level at most.
     ghost full: { (store : Self) (id : IdValue) → knows store id → IsFull (content store id) };
@@ -163,8 +172,11 @@ pub trait Squares {
 
 /// A store that keeps each square once.
 pub trait SharedSquares: Squares {
-    /// The words by which the store finds its nodes: what else is kept for its squares may be found by words drawn from them.
-    fn seed(&self) -> Seed;
+    /// The seed by which the store hashes its nodes. Tables beside the store, such as the memory of a step, draw their own keys from it. A store
+    /// that draws no seed of its own has the fixed one, `Seed::fixed`, whose keys everybody knows: use it for input that you trust.
+    fn seed(&self) -> Seed {
+        Seed::fixed()
+    }
 
     // Two Ids are equal if their squares are.
     ghost same_id: { (store : Self) (a b : IdValue) → Self.knows store a → Self.knows store b → Self.content store a ≡ Self.content store b → a ≡ b };
