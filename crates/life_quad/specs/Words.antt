@@ -22,6 +22,7 @@ pub use Rattle.life_quad.specs.Store.{IsShared, IsSmall, IsSound, Knows, levels_
 pub use Rattle.life_quad.specs.Store.{squares, two}
 pub use Rattle.life_quad.specs.StoreLaws.{full_content, low_content, same_id}
 pub use Rattle.life_quad.specs.declared.id.Id.{Id as IdValue}
+pub use Rattle.life_quad.specs.declared.id.Node.{Node as NodeValue}
 pub use Rattle.life_quad.specs.declared.id.TheConstants.{FIRST_NODE}
 pub use Rattle.life_quad.specs.declared.memory.Slot.{Slot as SlotValue}
 pub use Rattle.std.specs.Borrow.{ftrue}

@@ -1,6 +1,6 @@
 //! A store that keeps each square once.
-ghost use Rattle.std.specs.Prelude.{◌≡◌, ◌≢◌, ◌↔◌, ◌⊎◌, ◌+◌, AllPairs, ◌<◌, ◌≤◌, ◌^◌, [], length, vec_len, vec_capacity, Contains, false, None, MatchOption};
-ghost use Rattle.life_quad.specs.Words.{Full, Memory, IdValue, Tree, depth, is_blank_tree, FIRST_NODE, value_of, full_content, low_content, same_id, squares, content, held, node_square, number_of, small_square, Knows, IsShared, IsNode, IsSmall, Answers};
+ghost use Rattle.std.specs.Prelude.{◌≡◌, ◌≢◌, ◌++◌, ◌∷◌, AllPairs, ◌<◌, ◌≤◌, ◌^◌, [], length, Contains, false, None};
+ghost use Rattle.life_quad.specs.Words.{IdValue, Tree, depth, is_blank_tree, FIRST_NODE, value_of, full_content, low_content, same_id, squares, content, held, node_square, number_of, small_square, NodeValue, Knows, IsShared, IsNode, IsSmall, Answers};
 
 use crate::id::{FIRST_NODE, FIRST_SMALL, LEVEL_TWO, Node, are_blank, no_room, small_number};
 use crate::join_log::JoinLog;
@@ -39,21 +39,14 @@ impl Model for Shared {
     ghost invariant = { λ s. IsSound (record { nodes = s.nodes.keys; log = s.log.ids; limit = s.limit }) × IsShared (record { nodes = s.nodes.keys; log = s.log.ids; limit = s.limit }) × HasSeen (value_of s.seen) s.log.ids × (length s.log.ids ≡ length s.nodes.keys + s.small) × (s.levels.items ≡ levels_of s.nodes.keys) };
 }
 
-/// Makes room for the level of one more node, unless a store with so many squares and nodes takes no more of them: then it answers why.
-fn make_room(levels: &mut Vec<u8>, len: u64, nodes: u64, limit: u64) -> Option<Kind>
-    requires { len ≤ limit }
-    ensures room { MatchOption result ((len < limit) × (FIRST_NODE + nodes < 2 ^ 32)
-        × (vec_len levels.new < vec_capacity levels.new)) (λ k. (k ≡ Full) ⊎ (k ≡ Memory)) }
-    ensures full { MatchOption result (len < limit) (λ k. (k ≡ Full) ↔ (len ≡ limit)) }
-    ensures levels { levels.new.items ≡ levels.old.items }
+/// Takes back the node that was stored last.
+#[cold]
+#[inline(never)]
+fn drop_last(nodes: &mut IndexSet<Node, Seed>)
+    requires { 0 < length nodes.old.keys }
+    ensures { (n : NodeValue) × (nodes.old.keys ≡ nodes.new.keys ++ n ∷ []) }
 {
-    if let Some(kind) = no_room(len, nodes, limit) {
-        return Some(kind);
-    }
-    if levels.reserve(1).is_err() {
-        return Some(Kind::Memory);
-    }
-    None
+    let _last = nodes.pop();
 }
 
 impl Shared {
@@ -136,7 +129,8 @@ impl Shared {
         Ok(id)
     }
 
-    /// The Id of a node of a level, which is stored if it is new. It is never inlined, so that `join` can be.
+    /// The Id of a node of a level, which is stored if it is new. Memory is requested only after the look-up, so that a node that is stored takes
+    /// none. It is never inlined, so that `join` can be.
     #[inline(never)]
     fn intern(&mut self, node: Node, level: u8) -> Result<Id, Kind>
         requires sound { IsNode self.old.log (squares self.old.nodes) (length self.old.nodes) node }
@@ -145,7 +139,7 @@ impl Shared {
         ensures { Answers self.old self.new (node_square (squares self.old.nodes) node) result }
     {
         let nodes = self.nodes.len() as u64;
-        if let Some(kind) = make_room(&mut self.levels, nodes + self.small, nodes, self.limit) {
+        if let Some(kind) = no_room(nodes + self.small, nodes, self.limit) {
             let Some(i) = self.nodes.get_index_of(&node) else {
                 return Err(kind);
             };
@@ -154,7 +148,10 @@ impl Shared {
         let (i, is_new) = self.nodes.insert_full(node)?;
         let number = FIRST_NODE + i as u64;
         if is_new {
-            self.levels.push(level)?;
+            if self.levels.push(level).is_err() {
+                drop_last(&mut self.nodes);
+                return Err(Kind::Memory);
+            }
             self.log = self.log.then(&[number]);
         }
         Ok(Id(number))
