@@ -1,7 +1,8 @@
 #!/usr/bin/env python3
 """Refuses each request for memory in turn, alone and together with all behind it: first those of the built program, PROGRAM, then those of CALLS,
 the built program of crates/check_allocations, which makes each call that takes memory of the libraries. What meets a refusal answers `Memory`, or
-does without that memory, and all else is as ever. The last line is 'N passed, M failed'. It needs a C compiler, for tests/devices/refuse_allocation.c.
+does without that memory, and all else is as ever. A join of a square that is stored makes no request. The last line is 'N passed, M failed'. It
+needs a C compiler, for tests/devices/refuse_allocation.c.
 
 usage: tests/devices/allocations.py PROGRAM CALLS
 """
@@ -154,15 +155,23 @@ class Requests:
     def __init__(self, program, refuse, folder):
         self.program, self.refuse, self.folder = program, refuse, folder
 
-    def ran(self, run, first, last):
-        """What a run answers where these requests are refused, how many there were, and how many were refused."""
+    def reported(self, run, first, last):
+        """What a run answers where these requests are refused, and all numbers that are reported of it."""
         settings = {"FIRST": first, "LAST": last}
         try:
-            found, (requests, refused, _) = processes.preloaded(self.refuse, [self.program, *run.words], settings, 3, run.source, cwd=self.folder,
-                                                                timeout=SECONDS)
+            return processes.preloaded(self.refuse, [self.program, *run.words], settings, 3, run.source, cwd=self.folder, timeout=SECONDS)
         except subprocess.TimeoutExpired:
-            return Answer(None, b"", b"it did not end"), 1, 1
+            return Answer(None, b"", b"it did not end"), [1, 1, 0]
+
+    def ran(self, run, first, last):
+        """What a run answers where these requests are refused, how many there were, and how many were refused."""
+        found, (requests, refused, *_) = self.reported(run, first, last)
         return found, requests, refused
+
+    def by_line(self, run):
+        """How many requests a run makes with ample memory for each line that it writes."""
+        found, (_, _, _, *ends) = self.reported(run, 0, 0)
+        return {line: end - start for line, start, end in zip(found.output.splitlines(), [0, *ends], ends)}
 
     def total(self, run):
         """How many requests a run makes, and what is wrong with it with ample memory."""
@@ -192,6 +201,19 @@ def program_checks(requests, pool, runs):
         yield f"{run.name}: each of {total} requests refused, {without} done without", problems
 
 
+# The joins of 64 squares that are stored, and the first join after them, of a new one.
+STORED, NEW = b"Shared 64 joins, again: ok", b"Shared a 65th join: ok"
+
+
+def stored_problems(requests, run):
+    """What is wrong with the requests of these joins. The new square shows that the list of levels is full when the others are joined again."""
+    made = requests.by_line(run)
+    if STORED not in made or NEW not in made:
+        return ["the joins, or the requests for their lines, were not seen"]
+    problems = [f"joins of stored squares make {made[STORED]} requests"] if made[STORED] else []
+    return problems if made[NEW] else [*problems, "the join of a new square makes no request"]
+
+
 def calls_checks(requests, pool, run):
     """The same of the calls of the libraries. Each meets the refusal of one request, where it is made for the first time."""
     total, problems = requests.total(run)
@@ -210,6 +232,7 @@ def calls_checks(requests, pool, run):
     yield f"{run.name}: each of {total} requests refused, {without} done without", problems
     made = {line for line in run.answer.output.splitlines() if not line.endswith(b", again: ok")}
     yield "each call meets a refusal", sorted(line.decode() for line in made - met)
+    yield "a join of a stored square makes no request", stored_problems(requests, run)
 
 
 def put_files(folder):

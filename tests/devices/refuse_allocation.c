@@ -1,12 +1,14 @@
 /* Loaded into a program before the C library (LD_PRELOAD), refuses some of its requests for memory: those whose numbers, counted
    from 1, go from the variable FIRST to the variable LAST. At the end it writes, into the file that the variable REPORT names, how
-   many requests there were, how many of them it refused, and how many blocks were not given back. */
+   many requests there were, how many of them it refused, and how many blocks were not given back; and then, for each line that the
+   program wrote to standard output, how many requests there were before the line was complete. */
 #define _GNU_SOURCE
 #include <dlfcn.h>
 #include <errno.h>
 #include <stddef.h>
 #include <stdio.h>
 #include <stdlib.h>
+#include <unistd.h>
 
 /* What the C library does under this name. */
 #define NEXT(name) \
@@ -17,6 +19,11 @@
 static unsigned long first, last, requests, refused;
 static long held;
 static int counting;
+
+/* The requests before each line. Further lines are not counted. */
+#define MOST_LINES 10000
+static unsigned long at_line[MOST_LINES];
+static size_t lines;
 
 static unsigned long number_in(const char *name)
 {
@@ -38,7 +45,10 @@ __attribute__((destructor)) static void end(void)
     counting = 0;
     report = name ? fopen(name, "w") : NULL;
     if (report) {
-        fprintf(report, "%lu %lu %ld\n", requests, refused, held);
+        fprintf(report, "%lu %lu %ld", requests, refused, held);
+        for (size_t line = 0; line < lines; line++)
+            fprintf(report, " %lu", at_line[line]);
+        fputc('\n', report);
         fclose(report);
     }
 }
@@ -104,4 +114,13 @@ void free(void *block)
     NEXT(free);
     held -= counting && block;
     next(block);
+}
+
+ssize_t write(int file, const void *bytes, size_t size)
+{
+    NEXT(write);
+    for (size_t at = 0; counting && file == 1 && at < size; at++)
+        if (((const char *)bytes)[at] == '\n' && lines < MOST_LINES)
+            at_line[lines++] = requests;
+    return next(file, bytes, size);
 }

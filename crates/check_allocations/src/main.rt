@@ -17,8 +17,8 @@ use calls::{Calls, New};
 use life_quad::{Plain, Seed, Shared};
 use patterns::{EXAMPLES, Example};
 use squares::{
-    bounded, counted, grown, grown_and_trimmed, joined, levels_trimmed, list_refused, one_listed,
-    one_refused, put, row_refused, rows_measured, set_and_cleared, small, trimmed,
+    bounded, counted, grown, grown_and_trimmed, joined, levels_trimmed, list_refused, nodes_joined,
+    one_listed, one_refused, put, row_refused, rows_measured, set_and_cleared, small, trimmed,
 };
 use std::alloc::Global;
 use steps::{STEPS, is_next};
@@ -77,6 +77,16 @@ fn shared_calls(rt: &HostRuntime) {
     calls.tell_twice::<Shared, _>("trim of level 9", 1000, |it| levels_trimmed(it));
     calls.tell_twice::<Shared, _>("grow, trim", 1000, |it| grown_and_trimmed(alloc, it));
     calls.tell_twice::<Shared, _>("two cells at limit 1", 1000, |it| list_refused(alloc, it));
+}
+
+// A join of a square that is there requests no memory, also where a list of the store is full to its capacity, as that of the levels is at 64 nodes:
+// one node more requests some.
+fn joins_again(rt: &HostRuntime) {
+    let calls = Calls::of(rt, "Shared");
+    let mut store = Shared::seeded(rt.alloc(), Seed::fixed(), LIMIT);
+    calls.tell("64 joins", nodes_joined(&mut store, 2, 65));
+    calls.tell("64 joins, again", nodes_joined(&mut store, 2, 65));
+    calls.tell("a 65th join", nodes_joined(&mut store, 2, 66));
 }
 
 fn plain_calls(rt: &HostRuntime) {
@@ -168,6 +178,7 @@ fn main(rt: HostRuntime) {
     filling_calls::<Shared>(&rt, "Shared");
     filling_calls::<Plain>(&rt, "Plain");
     shared_calls(&rt);
+    joins_again(&rt);
     plain_calls(&rt);
     pattern_calls(&rt);
     form_calls(&rt);

@@ -42,6 +42,23 @@ pub(crate) fn joined<S: Squares>(squares: &mut S) -> Result<bool, Fault> {
     Ok(squares.level(square) == 1 && squares.parts(square) == Some([first, second, dead, dead]))
 }
 
+/// Squares of level 1 with a cell of each of these states, none of which is 0 or 1: each of the squares has a node.
+pub(crate) fn nodes_joined<S: Squares>(
+    squares: &mut S,
+    first: State,
+    last: State,
+) -> Result<bool, Fault> {
+    for state in first..=last {
+        let dead = squares.cell(0);
+        let live = squares.cell(state);
+        let square = squares.join(live, dead, dead, dead)?;
+        if squares.parts(square) != Some([live, dead, dead, dead]) {
+            return Ok(false);
+        }
+    }
+    Ok(true)
+}
+
 /// A square of level 2 with a glider in its north-west, by its cells.
 pub(crate) fn small<S: Squares>(alloc: Global, squares: &mut S) -> Result<bool, Fault> {
     let square = squares.small(0x42c8)?;
