@@ -16,6 +16,7 @@ use Rattle.life_canon.specs.Texts.{IsLeastBox, IsOrdered, AreCellsOf}
 use Rattle.life_canon.specs.Universe.{Universe, IsSame, IsWithin, IsBlankOutside, corner, square_universe}
 use Rattle.life_forms.specs.Forms.{IsInPlace, edge, IsMoved}
 use Rattle.life_forms.specs.Cells.{LiesOnPlane, IsWay, moved_runs}
+use Rattle.life_forms.specs.Needed.{SomeOfPlane, SomeOfMoved}
 use Rattle.life_forms.proofs.CellMoves.{states-moved}
 use Rattle.life_forms.proofs.ShiftFacts.{plus-zero, zero-unless, box-shifted, shift-sym, shift-of, shifted, still, same-sym, shift-trans, in-place-at, moved-seen, has-box, one-box, there-and-back, forth-and-back}
 
@@ -161,6 +162,18 @@ way-read cell a b f g way = subst₂ (λ (m n : ℤ). IsWay cell m n) (sym (to_z
 
 pub are-cells : (t : Tree) (cells : List Cell) → quad.IsCellList t cells → AreCellsOf (tree_cell t) cells
 are-cells t cells list = record { in_order = list.in_order; true_cells = list.true_cells; all_cells = list.all_cells }
+
+-- what the runs of the cells need, the cells need, moved into their place
+pub plane-needed : (t : Tree) (cells given : List Cell) (a b : ℤ) → given ≡ cells → quad.IsCellList t cells → IsWay (tree_cell t) a b
+    → (P : Tree → Type 0) → SomeOfPlane P (moved_runs a b given) → SomeOfMoved P (tree_cell t)
+plane-needed t cells given a b e list way P s = record {
+  cells = given;
+  are = subst (λ (xs : List Cell). AreCellsOf (tree_cell t) xs) (sym e) (are-cells t cells list);
+  columns = a;
+  rows = b;
+  way = way;
+  square = s;
+}
 
 has-at : (cells : List Cell) (k : ℕ) (d : Cell) → k < length cells → Contains cells (get_or cells k d)
 has-at cells k d lt = (k, lt, get_or_from_slice_get cells k (get_or cells k d) _ (slice_get-get_or cells k d lt))

@@ -1,4 +1,4 @@
--- The squares that a refused call had to store while cells were moved.
+-- Which squares a call needs that moves cells: all that it stores are such, and where the store is full it lacks one.
 use Rattle.std.specs.Prelude.{◌≡◌, ℕ, ◌^◌, ◌<◌, ◌≤◌, ◌⊎◌, ℤ, List, length}
 use Rattle.life_base.specs.Refusal.{OrMemory, fault_of}
 use Rattle.life_base.specs.Tree.{Tree}
@@ -8,14 +8,15 @@ use Rattle.life_base.specs.declared.cell.TheConstants.{MAX_LEVEL}
 use Rattle.life_base.specs.declared.fault.Fault.{Fault}
 use Rattle.life_base.specs.declared.kind.Kind.TheVariants.{TooManyCells}
 use Rattle.life_quad.specs.Cells.{population}
+use Rattle.life_quad.specs.Keeping.{AddsOnly}
 use Rattle.life_quad.specs.Refused.{TrimmedTo}
-use Rattle.life_quad.specs.Store.{Nodes}
+use Rattle.life_quad.specs.Store.{Nodes, held}
 use Rattle.life_strip.specs.Given.{state_by, by_columns}
 use Rattle.life_strip.specs.Needed.{SomeSquare}
 use Rattle.life_canon.specs.Needs.{IsNew, SomeOfRuns}
 use Rattle.life_canon.specs.Store.{content}
 use Rattle.life_canon.specs.Texts.{AreCellsOf}
-use Rattle.life_canon.specs.Universe.{Universe, least_level, square_universe}
+use Rattle.life_canon.specs.Universe.{Universe, least_level, centred}
 use Rattle.life_canon.specs.declared.pattern.Pattern.{Pattern}
 use Rattle.life_forms.specs.Forms.{IsMoved}
 use Rattle.life_forms.specs.Cells.{moved_runs, IsWay}
@@ -49,9 +50,21 @@ IsMany store pattern = 2 ^ 20 < population (content store pattern.root)
 abbrev pub RefusesTurning : Nodes → Pattern → Fault → Type 0
 RefusesTurning store pattern fault = OrMemory fault ((fault ≡ fault_of TooManyCells) × IsMany store pattern)
 
--- the pattern has few enough cells, and the store lacks a square of its plane, moved, or the one to which that plane is trimmed
-abbrev pub LacksForMoved : Universe → Nodes → Type 0
-LacksForMoved u store =
+-- A square that is needed to move a pattern has a property: the pattern has few enough cells, and it is a square of the plane of its cells, moved
+-- into their place, or the one to which the whole plane of the moved form is trimmed.
+abbrev pub SomeOfMovedForm : (Tree → Type 0) → Universe → Type 0
+SomeOfMovedForm P u =
     HasFewCells u.cell
-    × (SomeOfMoved (IsNew store) u.cell
-    ⊎ ((t : Tree) × IsMoved MAX_LEVEL u (square_universe u.rule u.generation t) × TrimmedTo (IsNew store) t (least_level u.rule)))
+    × (SomeOfMoved P u.cell ⊎ ((v : Universe) × IsMoved MAX_LEVEL u v × TrimmedTo P (centred v.cell MAX_LEVEL) (least_level u.rule)))
+
+-- the store lacks such a square
+abbrev pub LacksForMoved : Universe → Nodes → Type 0
+LacksForMoved u store = SomeOfMovedForm (IsNew store) u
+
+-- a call stores no square but such as are needed to move the pattern
+abbrev pub AddsMoved : Universe → Nodes → Nodes → Type 0
+AddsMoved u old new = AddsOnly held (λ P. SomeOfMovedForm P u) old new
+
+-- a call stores no square but such as are needed to move one of two patterns
+abbrev pub AddsEitherMoved : Universe → Universe → Nodes → Nodes → Type 0
+AddsEitherMoved u v old new = AddsOnly held (λ P. SomeOfMovedForm P u ⊎ SomeOfMovedForm P v) old new

@@ -12,7 +12,7 @@ pub use Rattle.life_forms.specs.Cells.{moved_run, moved_runs, LiesOnPlane, IsWay
 pub use Rattle.life_forms.specs.Forms.{IsShift, IsTurnedShift, IsMoved, IsUpTo, IsInPlace}
 pub use Rattle.life_forms.specs.Images.{IsImageText, IsTurnedText, numbered}
 pub use Rattle.life_forms.specs.Laws.{TurnsAreEight, TurnsAreClosed, TurnsHaveInverses, ImagesStayOnPlane, ImagesKeepShifts, MovedFormsExist, MovedFormsAreOnPlane, MovedFormsTellShifts, MovedFormsAreFixed, MovedTextsTellShifts, MovedTextsTellFiles, TurnedTextsTellFiles, MovedTextsAreFiles, TurnedTextsAreFiles, FilesHaveForms, ForFaithfulTexts, TurnedFormsExist, TurnedFormsAreOnPlane, TurnedTextsTellTurns, TurnedFormsAreFixed}
-pub use Rattle.life_forms.specs.Needed.{IsFew, IsMany, LacksForMoved, RefusesTurning, SomeOfPlane, SomeOfMoved}
+pub use Rattle.life_forms.specs.Needed.{IsFew, IsMany, AddsMoved, AddsEitherMoved, LacksForMoved, RefusesTurning, SomeOfPlane, SomeOfMoved}
 pub use Rattle.life_forms.specs.Trees.{turned_tree, id_of_four, side_of, end_of}
 pub use Rattle.life_forms.specs.Turns.{image}
 pub use Rattle.life_mc.specs.Macrocell.{largest_state}

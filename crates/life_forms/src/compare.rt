@@ -1,7 +1,7 @@
 //! Two patterns, compared in a form.
 
 ghost use Rattle.std.specs.Prelude.{◌≡◌, ◌↔◌, ◌⊎◌, Err, IfOk, IfErr, OnOk, IsTrue};
-ghost use Rattle.life_forms.specs.Words.{OrMemory, fault_of, IsRule, Full, TooManyCells, IsTrimmed, IsWant, universe_in, IsShift, IsTurnedShift, IsFew, IsMany, LacksForMoved};
+ghost use Rattle.life_forms.specs.Words.{OrMemory, fault_of, IsRule, Full, TooManyCells, IsTrimmed, IsWant, universe_in, IsShift, IsTurnedShift, IsFew, IsMany, AddsEitherMoved, LacksForMoved};
 ghost use Rattle.life_canon.specs.Store.{Keeps};
 
 use crate::images::turned_text;
@@ -34,6 +34,8 @@ pub fn are_shifts(
     ensures needed { result ≡ Err (fault_of Full)
         → LacksForMoved (universe_in store.old a.now) store.new
         ⊎ LacksForMoved (universe_in store.old b.now) store.new }
+    ensures adds { AddsEitherMoved (universe_in store.old a.now) (universe_in store.old b.now)
+        store.old store.new }
     ensures keeps { Keeps store.old store.new }
 {
     let first = moved_of(alloc, store, a)?;

@@ -3,6 +3,7 @@
 ghost use Rattle.std.specs.Prelude.{◌≡◌, ◌⊎◌, ◌^◌, ◌<◌, ◌≤◌, ◌+ℤ◌, ℕ, ℤ, All, AllPairs, Err, IfOk, IfErr, OnOk};
 ghost use Rattle.life_forms.specs.Words.{MAX_LEVEL, Full, TooManyCells, Rule, IsOrdered, square_universe, IsInPlace, IsMoved, depth, tree_cell, IsBefore, population, IsWantKind, state_by, moved_run, moved_runs, LiesOnPlane, IsWay, SomeOfPlane, SomeOfMoved, IsMemory, IsWantOf};
 ghost use Rattle.life_quad.specs.Grows.{Keeps};
+ghost use Rattle.life_quad.specs.Keeping.{AddsOnly};
 
 use life_base::{Cell, Kind, MAX_LEVEL, Run};
 use life_canon::MOST_CELLS;
@@ -88,6 +89,8 @@ fn moved_square<S: Squares>(
     ensures refusals { IfErr result (IsWantOf S.Squares squares.new) }
     ensures needed { result ≡ Err Full
         → SomeOfPlane (S.needs_node squares.new) (moved_runs columns rows cells.now) }
+    ensures adds { AddsOnly S.stored (λ P. SomeOfPlane P (moved_runs columns rows cells.now))
+        squares.old squares.new }
 {
     let mut builder = Builder::new(alloc);
     for cell in cells {
@@ -122,6 +125,10 @@ pub(crate) fn moved_plane<S: SharedSquares>(
     ensures room { result ≡ Err Full → population (S.content squares.old root) ≤ 2 ^ 20 }
     ensures needed { result ≡ Err Full
         → SomeOfMoved (S.needs_node squares.new) (tree_cell (S.content squares.old root)) }
+    ensures adds { AddsOnly S.stored
+        (λ P. (population (S.content squares.old root) ≤ 2 ^ 20)
+        × SomeOfMoved P (tree_cell (S.content squares.old root)))
+        squares.old squares.new }
     ensures keeps { Keeps S.Squares squares.old squares.new }
 {
     let list = cells(alloc, squares, root, MOST_CELLS)?;

@@ -1,7 +1,7 @@
 //! Patterns, moved.
 
 ghost use Rattle.std.specs.Prelude.{◌≡◌, ◌⊎◌, ◌^◌, ◌<◌, ◌≤◌, ℤ, Err, IfOk, IfErr, OnOk};
-ghost use Rattle.life_forms.specs.Words.{fault_of, depth, tree_cell, MAX_LEVEL, Full, TooManyCells, largest_state, population, IsWantKind, held, IsKnown, IsTrimmed, IsWant, content, universe_in, least_level, square_universe, IsMoved, IsFew, IsMany, LacksForMoved};
+ghost use Rattle.life_forms.specs.Words.{fault_of, depth, tree_cell, MAX_LEVEL, Full, TooManyCells, largest_state, population, IsWantKind, held, IsKnown, IsTrimmed, IsWant, content, universe_in, least_level, square_universe, IsMoved, IsFew, IsMany, AddsMoved, LacksForMoved};
 ghost use Rattle.life_canon.specs.Store.{Keeps};
 
 use crate::moves::moved_plane;
@@ -33,6 +33,8 @@ pub(crate) fn moved_pattern(
         (λ kind. (kind ≡ TooManyCells) ⊎ IsWantKind (held store.new) store.new.limit kind) }
     ensures needed { result ≡ Err Full
         → LacksForMoved (square_universe rule generation (content store.old square)) store.new }
+    ensures adds { AddsMoved (square_universe rule generation (content store.old square))
+        store.old store.new }
     ensures keeps { Keeps store.old store.new }
 {
     squares_are_centred();
@@ -54,6 +56,8 @@ pub(crate) fn moved_pattern(
 /// `TooManyCells` where more than 2^20 cells aren't 0, and only there; `Full` where no more are, and the store holds its limit and lacks a square of
 /// the moved pattern; and `Memory`. They name no line. After a fault too each Id of the store names the square that it named, and nothing stored is
 /// gone.
+///
+/// Whatever it returns, the store gets no squares except those that the moved pattern needs, and none at all if more than 2^20 cells aren't 0.
 pub fn moved_of(alloc: Global, store: &mut Shared, pattern: &Pattern) -> Result<Pattern, Fault>
     requires { IsTrimmed store.old pattern.now }
     ensures trimmed { IfOk result (IsTrimmed store.new) }
@@ -64,6 +68,7 @@ pub fn moved_of(alloc: Global, store: &mut Shared, pattern: &Pattern) -> Result<
         × IsMany store.old pattern.now) ⊎ IsWant store.new fault) }
     ensures needed { result ≡ Err (fault_of Full)
         → LacksForMoved (universe_in store.old pattern.now) store.new }
+    ensures adds { AddsMoved (universe_in store.old pattern.now) store.old store.new }
     ensures keeps { Keeps store.old store.new }
 {
     let rule = pattern.rule.copy(alloc)?;
