@@ -8,14 +8,15 @@ use Rattle.life_base.specs.declared.fault.Fault.{Fault}
 use Rattle.life_base.specs.declared.kind.Kind.{Kind}
 use Rattle.life_base.specs.declared.kind.Kind.TheVariants as kinds
 use Rattle.claims.specs.Outcomes.{◌>>=◌}
-use Rattle.claims.specs.Rules.{Rule, counting, named, rule_of, digits_of}
+use Rattle.claims.specs.Rules.{Rule, counting, named, rule_of, digits_of, rule_text}
 use Rattle.claims.specs.Pattern.{Pattern}
 use Rattle.claims.specs.Macrocell.{Macrocell, first_line, with_line}
 use Rattle.claims.specs.Rle.{Position, Rle, before_header, behind_header, behind_end, state_of}
 use Rattle.claims.specs.Rle.{with_line as with_rle_line}
 use Rattle.claims.specs.Files.{pattern_of, fault_at}
 use Rattle.claims.specs.Generation.{next_life}
-use Rattle.claims.specs.Shown.{rule_text, box_line}
+use Rattle.claims.specs.Shown.{box_line}
+use Rattle.claims.specs.Canonical.{middle_square, square_text}
 
 abbrev b3s23 : Rule
 b3s23 = counting 8 (3 ∷ []) (2 ∷ 3 ∷ [])
@@ -370,3 +371,59 @@ boxed = refl
 
 unboxed : box_line None ≡ codes "box none\n"
 unboxed = refl
+
+-- ---- canonical texts
+
+-- the text of the square of this level about the middle of the plane, of what a file says
+abbrev text_at : ℕ → List ℕ → List ℕ
+text_at level bytes = elim (pattern_of bytes) [
+  | Ok pattern ↦ square_text pattern.rule pattern.generation (middle_square pattern.cell level)
+  | Err fault ↦ []
+]
+
+abbrev header : List ℕ
+header = codes "[M2] (canonical 1)\n"
+
+glider_text : text_at 3 (codes "x = 3, y = 3, rule = B3/S23\nbo$2bo$3o!\n") ≡ header ++ codes "#R B3/S23\n$$$$.....*$......*$....***$$\n"
+unfolding pattern_of rule_of digits_of with_rle_line
+glider_text = refl
+
+blank_text : text_at 3 (codes "x = 0, y = 0, rule = 23/3\n!\n") ≡ header ++ codes "#R B3/S23\n"
+unfolding pattern_of rule_of digits_of with_rle_line
+blank_text = refl
+
+one_cell_text : text_at 4 (codes "#CXRLE Pos=4,0\nx = 1, y = 1, rule = B3/S23\no!\n") ≡ header ++ codes "#R B3/S23\n....*$$$$$$$$\n4 0 0 0 1\n"
+unfolding pattern_of rule_of digits_of with_rle_line digits
+one_cell_text = refl
+
+-- equal quarters have one line
+shared_text : text_at 4 (codes "#CXRLE Pos=-4,0\nx = 9, y = 1, rule = B3/S23\no7bo!\n") ≡ header ++ codes "#R B3/S23\n....*$$$$$$$$\n4 0 0 1 1\n"
+unfolding pattern_of rule_of digits_of with_rle_line digits
+shared_text = refl
+
+-- a higher root, squares below the leaves, a leaf twice, and a square that the root doesn't reach
+higher_text :
+    text_at 4 (codes "[M2] (golly 4.2)\n#R B3/S23\n....*$$$$$$$$\n4 1 0 0 0\n5 2 0 0 0\n6 3 0 0 0\n7 4 0 0 0\n8 5 0 0 0\n9 0 0 0 6\n")
+    ≡ header ++ codes "#R B3/S23\n....*$$$$$$$$\n4 0 0 0 1\n"
+unfolding pattern_of rule_of digits_of with_line digits
+higher_text = refl
+
+below_leaves_text : text_at 4 (codes "[M2]\n1 1 0 0 0\n2 1 0 0 0\n3 0 2 0 0\n4 0 0 0 3\n") ≡ header ++ codes "#R B3/S23\n....*$$$$$$$$\n4 0 0 0 1\n"
+unfolding pattern_of rule_of digits_of with_line digits
+below_leaves_text = refl
+
+repeated_text :
+    text_at 4 (codes "[M2]\n#R B3/S23\n....*$$$$$$$$\n....*$$$$$$$$\n*$$$$$$$$\n4 0 0 1 2\n")
+    ≡ header ++ codes "#R B3/S23\n....*$$$$$$$$\n4 0 0 1 1\n"
+unfolding pattern_of rule_of digits_of with_line digits
+repeated_text = refl
+
+-- a name, whose squares have lines from level 1 on, and a generation
+named_text : text_at 1 (codes "#CXRLE Pos=-1,-1 Gen=7\nx = 2, y = 1, rule = WireWorld\nApA!\n") ≡ header ++ codes "#R WireWorld\n#G 7\n1 1 25 0 0\n"
+unfolding pattern_of rule_of digits_of with_rle_line digits
+named_text = refl
+
+-- leaves are numbered in the order in which a walk visits them, which is not that of the file
+walked_text : text_at 4 (codes "[M2]\n*$\n.*$\n4 2 1 0 0\n") ≡ header ++ codes "#R B3/S23\n.*$$$$$$$$\n*$$$$$$$$\n4 1 2 0 0\n"
+unfolding pattern_of rule_of digits_of with_line digits
+walked_text = refl

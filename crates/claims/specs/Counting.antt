@@ -2,9 +2,10 @@
 use Rattle.std.specs.Prelude.{◌≡◌, ◌⊎◌, ◌≤◌, ℕ, Bool, true, false, not, ◌&&◌, List, drop, count_by, slice_index, codes}
 use Rattle.std.specs.List.{list_any}
 use Rattle.life_base.specs.Text.{lines_of, is_blank, begins_with, trim}
-use Rattle.claims.specs.Rules.{Rule, counting, named}
+use Rattle.claims.specs.Rules.{is_counting}
 use Rattle.claims.specs.Macrocell.{is_leaf_byte}
 use Rattle.claims.specs.Files.{Same}
+use Rattle.claims.specs.Canonical.{IsTextOfPattern}
 
 -- a line that is neither blank nor begins with `#`; those after the first are node lines
 abbrev pub is_node_line : List ℕ → Bool
@@ -17,10 +18,6 @@ node_lines bytes = count_by is_node_line (drop 1 (lines_of bytes))
 abbrev pub has_leaves : List ℕ → Bool
 has_leaves bytes = list_any (λ line. is_node_line line && is_leaf_byte (slice_index (trim line) 0)) (drop 1 (lines_of bytes))
 
-abbrev pub is_counting : Rule → Bool
-is_counting (counting neighbours births survivals) = true
-is_counting (named name) = false
-
 -- A file with which a canonical text is compared: a macrocell file of the same pattern, under a name one without leaf lines. A higher root, mixed levels,
 -- repeats and squares that the root doesn't reach are allowed.
 pub record IsRival (file rival : List ℕ) : Type 0 where
@@ -28,7 +25,8 @@ pub record IsRival (file rival : List ℕ) : Type 0 where
   pub format : begins_with rival (codes "[M2]") ≡ true
   pub leaves : (is_counting same.second.rule ≡ true) ⊎ (has_leaves rival ≡ false)
 
--- the text is a rival itself, and no rival has fewer node lines
+-- the text is the canonical text of the file's pattern; it is a rival itself, and no rival has fewer node lines
 pub record IsCanonicalText (file text : List ℕ) : Type 0 where
   pub rival : IsRival file text
+  pub is : IsTextOfPattern rival.same.first text
   pub least : (rival : List ℕ) → IsRival file rival → node_lines text ≤ node_lines rival

@@ -3,7 +3,7 @@
 -- bytes, and the kinds with the order of their tests. Golly Help has more, which is refused: `:` (a bounded grid), `H` (six neighbours), births on 0,
 -- and letters after a digit, or no `S`, where the text has a `/`. Every text of 1 to 255 visible bytes without `/` and `:` that is none of the five
 -- forms, with or without a letter `V` or `H` behind it, is a name, whatever it means in Golly.
-use Rattle.std.specs.Prelude.{ℕ, ◌+◌, ◌-◌, Bool, not, ◌&&◌, ◌||◌, List, [], ◌∷◌, ◌==◌, length, take, drop, map, filter, nat_le, nat_lt, if◌then◌else◌, bytes_eq, codes, Option, Some, None, Result, Ok, Err}
+use Rattle.std.specs.Prelude.{ℕ, ◌+◌, ◌-◌, Bool, true, false, not, ◌&&◌, ◌||◌, List, [], ◌∷◌, ◌++◌, ◌==◌, length, take, drop, map, filter, nat_le, nat_lt, if◌then◌else◌, bytes_eq, codes, Option, Some, None, Result, Ok, Err}
 use Rattle.std.specs.Char.{is_ascii_graphic, to_ascii_uppercase}
 use Rattle.std.specs.List.{list_all, list_any, slice_split}
 use Rattle.std.specs.Str.{byte}
@@ -100,3 +100,14 @@ default_rule = counting 8 (3 ∷ []) (2 ∷ 3 ∷ [])
 abbrev pub largest_state : Rule → ℕ
 largest_state (counting neighbours births survivals) = 1
 largest_state (named name) = 255
+
+-- a B/S rule
+abbrev pub is_counting : Rule → Bool
+is_counting (counting neighbours births survivals) = true
+is_counting (named name) = false
+
+-- the canonical text of a rule
+abbrev pub rule_text : Rule → List ℕ
+rule_text (counting neighbours births survivals) =
+    codes "B" ++ map (λ n. byte "0" + n) births ++ codes "/S" ++ map (λ n. byte "0" + n) survivals ++ (if neighbours == 4 then codes "V" else [])
+rule_text (named name) = name

@@ -17,8 +17,8 @@ use Rattle.life_canon.specs.Least.{IsLeastText, HasNoLeaves}
 use Rattle.life_mc.specs.Cells.{node_lines as layer_node_lines}
 use Rattle.life_mc.proofs.NodeLines.{node_lines_counted}
 use Rattle.life_base.specs.declared.rule.Rule.TheVariants.{Life, Named}
-use Rattle.claims.specs.Rules.{Rule}
-use Rattle.claims.specs.Counting.{node_lines, has_leaves, is_counting, IsRival}
+use Rattle.claims.specs.Rules.{Rule, is_counting}
+use Rattle.claims.specs.Counting.{node_lines, has_leaves, IsRival}
 use Rattle.claims.proofs.Back.{macrocell_back, no_leaves}
 use Rattle.life_canon.specs.Files.{as_macrocell, as_rle, Reads, is_macrocell, Accepted, Same as LayerSame}
 use Rattle.life_canon.specs.Texts.{IsCanonical, IsRleOf}

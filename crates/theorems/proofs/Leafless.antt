@@ -16,8 +16,8 @@ use Rattle.life_mc.proofs.NodeLines.{node_lines_counted}
 use Rattle.life_canon.specs.Universe.{Universe, is_life, least_level, whole}
 use Rattle.life_canon.specs.Least.{HasNoLeaves}
 use Rattle.life_canon.specs.Listing.{canonical_file, line_of, lines_for, listed}
-use Rattle.claims.specs.Counting.{has_leaves, is_counting}
-use Rattle.claims.specs.Rules.{Rule as ToldRule}
+use Rattle.claims.specs.Counting.{has_leaves}
+use Rattle.claims.specs.Rules.{Rule as ToldRule, is_counting}
 use Rattle.claims.proofs.RuleLaw.{rule_in}
 
 -- none of the lines is a leaf

@@ -14,10 +14,9 @@ use Rattle.life_canon.specs.Laws.{FilesAreOnPlane, TextsAreFiles}
 use Rattle.life_canon.specs.Listing.{canon_text, canonical_file}
 use Rattle.life_canon.specs.Universe.{Universe, IsOnPlane, macrocell_universe, rle_universe}
 use Rattle.life_mc.specs.Macrocell.{largest_state as layer_largest}
-use Rattle.claims.specs.Rules.{Rule, rule_of, largest_state}
+use Rattle.claims.specs.Rules.{Rule, rule_of, rule_text, largest_state}
 use Rattle.claims.specs.Pattern.{Pattern}
 use Rattle.claims.specs.Files.{pattern_of}
-use Rattle.claims.specs.Shown.{rule_text}
 use Rattle.claims.proofs.Back.{macrocell_back, rle_back}
 use Rattle.claims.proofs.NodeLaw.{largest_is}
 use Rattle.claims.proofs.RuleLaw.{rule_in, rule_of_is}

@@ -19,7 +19,8 @@ use Rattle.life_canon.specs.Texts.{IsShown as LayerShown, IsBoxOf}
 use Rattle.claims.specs.Pattern.{Pattern}
 use Rattle.claims.specs.Files.{pattern_of}
 use Rattle.claims.specs.Counting.{node_lines}
-use Rattle.claims.specs.Shown.{rule_text, IsBox, box_line, IsShown}
+use Rattle.claims.specs.Rules.{rule_text}
+use Rattle.claims.specs.Shown.{IsBox, box_line, IsShown}
 use Rattle.claims.proofs.RuleLaw.{rule_in}
 use Rattle.theorems.proofs.FileLaw.{files_agree}
 use Rattle.theorems.proofs.CellsLaw.{same_cells}

@@ -1,9 +1,8 @@
 -- Which patterns files say.
 use Rattle.std.specs.Prelude.{◌≡◌, ◌^◌, ◌<◌, ◌≤◌, ℕ, ℤ, false, ◌&&◌, List, Ok}
-use Rattle.claims.specs.Rules.{rule_of, largest_state}
+use Rattle.claims.specs.Rules.{rule_of, rule_text, largest_state}
 use Rattle.claims.specs.Pattern.{Pattern, is_coordinate}
 use Rattle.claims.specs.Files.{pattern_of}
-use Rattle.claims.specs.Shown.{rule_text}
 
 -- the rule is that of its own text, the generation is below 2 ^ 64, the states are those of the rule, and cells outside the plane have state 0
 pub record Fits (pattern : Pattern) : Type 0 where

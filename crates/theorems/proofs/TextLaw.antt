@@ -1,0 +1,152 @@
+-- The canonical text of a pattern is that of the layers.
+use Rattle.std.proofs.Common.{◌≡◌, ℕ, zero, suc, ◌+◌, ◌-◌, ◌^◌, ◌<◌, ◌≤◌, List, [], ◌++◌, map, true, ◌&&◌, refl, ap, ◌∙◌, sym, subst, arith, ◌⊎◌, inl, inr}
+use Rattle.std.specs.Prelude.{ℤ, pos, neg_ℤ, ◌+ℤ◌, ◌≤ℤ◌, ◌<ℤ◌, int_le, int_lt, codes, flat_map}
+use Rattle.std.proofs.lemmas.Int.{ints}
+use Rattle.std.proofs.lemmas.Bool.{and_from, true≢false}
+use Rattle.life_base.specs.Tree.{Tree, depth}
+use Rattle.life_base.specs.declared.rule.Rule.{Rule as LayerRule}
+use Rattle.life_base.specs.declared.rule.Rule.TheVariants.{Life, Named}
+use Rattle.life_mc.specs.Macrocell.{largest_state}
+use Rattle.life_mc.specs.Writing.{mc_text, node_text, generation_text}
+use Rattle.life_canon.specs.Universe.{Universe, IsOnPlane, IsWithin, IsBlankOutside, corner, centred, whole}
+use Rattle.life_canon.specs.Universe.{least_level as layer_least}
+use Rattle.life_canon.specs.Listing.{walk as tree_walk}
+use Rattle.life_canon.specs.Listing.{canonical_file, canon_text, line_of, listed, square_file, with_all}
+use Rattle.life_canon.proofs.TreeWords.{trimmed_to}
+use Rattle.life_canon.proofs.Trees.{bool_cases, centred-depth, centred-trimmed, depth_is, trimmed-centred, and_left, and_right}
+use Rattle.life_canon.proofs.Canonical.{IsWhole, whole-is, whole-trimmed, least-high}
+use Rattle.life_canon.proofs.Content.{least-one}
+use Rattle.claims.specs.Pattern.{Pattern}
+use Rattle.claims.specs.Canonical.{Square, square_at, middle_square, is_in_middle, HoldsAllCells, least_level, walk, first_visits, square_line, square_text, IsTextOfPattern}
+use Rattle.claims.proofs.RuleLaw.{rule_in}
+use Rattle.theorems.proofs.ShownLaw.{rule_text_is}
+use Rattle.theorems.proofs.SquareLaw.{tree, HasLevel, square_is, level_at, walk_is, visits_are, walk_has, visits_have, lines_are}
+
+-- ---- the text of a square
+
+least_is : (rule : LayerRule) → least_level (rule_in rule) ≡ layer_least rule
+least_is (Life sets) = refl
+least_is (Named name) = refl
+
+squares_are : (rule : LayerRule) (s : Square) → map tree (first_visits [] (walk (least_level (rule_in rule)) s)) ≡ listed (tree s) (layer_least rule)
+unfolding listed
+squares_are rule s =
+    visits_are [] (walk (least_level (rule_in rule)) s) ∙ ap (with_all []) (walk_is (least_level (rule_in rule)) s ∙ ap (λ m. tree_walk (tree s) m) (least_is rule))
+
+text_is : (rule : LayerRule) (generation : ℕ) {level : ℕ} (s : Square) → HasLevel (largest_state rule) level s
+    → square_text (rule_in rule) generation s ≡ mc_text (square_file rule generation (tree s))
+text_is rule generation s h =
+    let squares = first_visits [] (walk (least_level (rule_in rule)) s) in
+    let have = visits_have (largest_state rule) [] (walk (least_level (rule_in rule)) s) tt (walk_has (largest_state rule) (least_level (rule_in rule)) h) in
+    let all : List Tree = listed (tree s) (layer_least rule) in
+    let lines : flat_map (square_line (rule_in rule) squares) squares ≡ flat_map node_text (map (line_of rule all) all) =
+    lines_are rule squares squares have ∙ ap (λ (t : List Tree). flat_map node_text (map (line_of rule t) t)) (squares_are rule s) in
+    λ i. codes "[M2] (canonical 1)\n#R " ++ rule_text_is rule i ++ codes "\n" ++ generation_text generation ++ lines i
+
+-- ---- the plane
+
+less_one : (k : ℕ) → suc k - 1 ≡ k
+less_one k = omega arith
+
+middle_is : (f : ℤ → ℤ → ℕ) (k : ℕ) → tree (middle_square f (suc k)) ≡ centred f (suc k)
+unfolding centred corner
+middle_is f k =
+    ap (λ n. tree (square_at f (suc k) (neg_ℤ (pos (2 ^ n))) (neg_ℤ (pos (2 ^ n))))) (less_one k) ∙ square_is f (suc k) (neg_ℤ (pos (2 ^ k))) (neg_ℤ (pos (2 ^ k)))
+
+twice : (k : ℕ) → 2 ^ suc k ≡ 2 ^ k + 2 ^ k
+twice k = omega arith
+
+west_of : (x : ℤ) (h : ℕ) → (int_le (neg_ℤ (pos h)) x && int_lt x (pos h)) ≡ true → neg_ℤ (pos h) ≤ℤ x
+west_of x h e = grind (arith, ints, e)
+
+east_of : (x : ℤ) (h : ℕ) → (int_le (neg_ℤ (pos h)) x && int_lt x (pos h)) ≡ true → x <ℤ pos h
+east_of x h e = grind (arith, ints, e)
+
+side : (x : ℤ) (h m : ℕ) → m ≡ h + h → x <ℤ pos h → x <ℤ (neg_ℤ (pos h) +ℤ pos m)
+side x h m e l = omega (arith, ints, e, l)
+
+side_back : (x : ℤ) (h m : ℕ) → m ≡ h + h → x <ℤ (neg_ℤ (pos h) +ℤ pos m) → x <ℤ pos h
+side_back x h m e l = omega (arith, ints, e, l)
+
+both_of : (x : ℤ) (h : ℕ) → neg_ℤ (pos h) ≤ℤ x → x <ℤ pos h → (int_le (neg_ℤ (pos h)) x && int_lt x (pos h)) ≡ true
+both_of x h l m = grind (arith, ints)
+
+to_within : (k : ℕ) (x : ℤ) → is_in_middle (suc k) x ≡ true → IsWithin (suc k) x
+unfolding corner
+to_within k x e =
+    let h : (int_le (neg_ℤ (pos (2 ^ k))) x && int_lt x (pos (2 ^ k))) ≡ true =
+    sym (ap (λ n. int_le (neg_ℤ (pos (2 ^ n))) x && int_lt x (pos (2 ^ n))) (less_one k)) ∙ e in
+    (west_of x (2 ^ k) h, side x (2 ^ k) (2 ^ suc k) (twice k) (east_of x (2 ^ k) h))
+
+from_within : (k : ℕ) (x : ℤ) → IsWithin (suc k) x → is_in_middle (suc k) x ≡ true
+unfolding corner
+from_within k x w =
+    ap (λ n. int_le (neg_ℤ (pos (2 ^ n))) x && int_lt x (pos (2 ^ n))) (less_one k)
+    ∙ both_of x (2 ^ k) w.0 (side_back x (2 ^ k) (2 ^ suc k) (twice k) w.1)
+
+holds_all : (f : ℤ → ℤ → ℕ) (k : ℕ) → IsBlankOutside (suc k) f → HoldsAllCells f (suc k)
+holds_all f k outside x y e =
+    outside x y (λ w. true≢false (sym (and_from (is_in_middle (suc k) x) (is_in_middle (suc k) y) (from_within k x w.0) (from_within k y w.1)) ∙ e))
+
+outside_all : (f : ℤ → ℤ → ℕ) (k : ℕ) → HoldsAllCells f (suc k) → IsBlankOutside (suc k) f
+outside_all f k holds x y never = elim (bool_cases (is_in_middle (suc k) x && is_in_middle (suc k) y)) [
+  | inl e ↦ absurd (never (to_within k x (and_left (is_in_middle (suc k) x) _ e), to_within k y (and_right (is_in_middle (suc k) x) _ e)))
+  | inr e ↦ holds x y e
+]
+
+-- the whole square of a pattern is no wider than any square that holds all cells
+module _ (u : Universe) (on : IsOnPlane 62 u) where
+  abbrev w : IsWhole 62 u (whole 62 u)
+  w = whole-is 61 u (least-high u.rule 62 (omega arith)) on
+
+  no_wider : (lower : ℕ) → layer_least u.rule ≤ lower → HoldsAllCells u.cell lower → suc w.level ≤ lower
+  no_wider zero h holds = let one = least-one u.rule in absurd (omega (arith, h, one))
+  no_wider (suc j) h holds = elim (within 62 (suc j)) [ inl low ↦ narrow low | inr high ↦ let most = w.most in omega (arith, most, high) ]
+    where
+      within : (a b : ℕ) → (b ≤ a) ⊎ (a < b)
+      within a b = grind arith
+
+      narrow : suc j ≤ 62 → suc w.level ≤ suc j
+      narrow low =
+          let outside = outside_all u.cell j holds in
+          let one = least-one u.rule in
+          let t = trimmed-centred u.cell (layer_least u.rule) j one h outside in
+          let n : (61 - j) + j ≡ 61 = omega (arith, low) in
+          let same : centred u.cell (suc w.level) ≡ centred u.cell (suc t.level) =
+          sym w.is ∙ whole-trimmed 62 u ∙ sym (ap (λ k. trimmed_to (centred u.cell (suc k)) (layer_least u.rule)) n)
+          ∙ centred-trimmed u.cell (layer_least u.rule) (61 - j) j one h outside ∙ t.is in
+          let levels : suc w.level ≡ suc t.level =
+          sym (depth_is (centred-depth u.cell (suc w.level))) ∙ ap depth same ∙ depth_is (centred-depth u.cell (suc t.level)) in
+          let most = t.most in
+          omega (arith, levels, most)
+
+  -- the canonical text is that of the pattern
+  pub own_text : IsTextOfPattern (record { rule = rule_in u.rule; generation = u.generation; cell = u.cell }) (canon_text 62 u)
+  unfolding canon_text canonical_file
+  own_text =
+      let s = middle_square u.cell (suc w.level) in
+      record {
+        level = suc w.level;
+        high = subst (λ n. n ≤ suc w.level) (sym (least_is u.rule)) w.least;
+        holds = holds_all u.cell w.level w.outside;
+        least = λ lower h holds. no_wider lower (subst (λ n. n ≤ lower) (least_is u.rule) h) holds;
+        is = ap (λ (t : Tree). mc_text (square_file u.rule u.generation t)) (w.is ∙ sym (middle_is u.cell w.level))
+            ∙ sym (text_is u.rule u.generation s (level_at u.cell (largest_state u.rule) on.states (suc w.level) _ _));
+      }
+
+-- and of each pattern that agrees with it
+pub text_of_pattern : (u : Universe) (pattern : Pattern) (text : List ℕ) → IsOnPlane 62 u → pattern.rule ≡ rule_in u.rule
+    → pattern.generation ≡ u.generation → ((x y : ℤ) → pattern.cell x y ≡ u.cell x y) → text ≡ canon_text 62 u → IsTextOfPattern pattern text
+text_of_pattern u pattern text on rule generation cells is =
+    let same : record { rule = rule_in u.rule; generation = u.generation; cell = u.cell } ≡ pattern =
+    λ i. record { rule = sym rule i; generation = sym generation i; cell = λ x y. sym (cells x y) i } in
+    subst (λ (t : List ℕ). IsTextOfPattern pattern t) (sym is)
+    (subst (λ (p : Pattern). IsTextOfPattern p (canon_text 62 u)) same (own_text u on))
+
+-- a pattern has one text
+pub one_text_of : (pattern : Pattern) (s t : List ℕ) → IsTextOfPattern pattern s → IsTextOfPattern pattern t → s ≡ t
+one_text_of pattern s t a b =
+    let up = a.least b.level b.high b.holds in
+    let down = b.least a.level a.high a.holds in
+    let level : a.level ≡ b.level = omega (arith, up, down) in
+    a.is ∙ ap (λ n. square_text pattern.rule pattern.generation (middle_square pattern.cell n)) level ∙ sym b.is
