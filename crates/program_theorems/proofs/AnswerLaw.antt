@@ -25,7 +25,7 @@ use Rattle.claims.specs.Pattern.{Pattern}
 use Rattle.claims.specs.Shown.{IsShown}
 use Rattle.theorems.proofs.CellsLaw.{few_cells}
 use Rattle.theorems.proofs.CanonicalLaw.{canonical_so}
-use Rattle.theorems.proofs.FileLaw.{texts_are_exact, same_to, rle_format}
+use Rattle.theorems.proofs.FileLaw.{files_agree, texts_are_exact, same_to, rle_format}
 use Rattle.theorems.proofs.RefusalLaw.{accepted_is_ok}
 use Rattle.theorems.proofs.ShownLaw.{shown_is}
 use Rattle.theorems.proofs.StreamLaw.{all_read, appended, at_end}
@@ -34,6 +34,7 @@ use Rattle.step_theorems.proofs.StepBy.{stepped_text}
 use Rattle.program_theorems.specs.Jobs.{HasSecond, WritesCanonical, Answers, IsShort}
 use Rattle.program_theorems.specs.Forms.{SameIn, IsTextIn}
 use Rattle.program_theorems.specs.Layers.{LayersAgree}
+use Rattle.program_theorems.proofs.FormTexts.{moved_exact, turned_exact}
 use Rattle.program_theorems.proofs.FormLaw.{few_to, moved_text_is, own_moved, own_text_of, own_turned, same_in_from, same_in_to, texts_tell_in, turned_text_is}
 
 -- ---- second files
@@ -89,9 +90,13 @@ compares laws form a b status text p q (inr h) = inr (h.0, (λ s. h.1 (same_in_f
 text_in : LayersAgree → (form : Form) (file text : List ℕ) → LayerTextIn form 62 file text → IsTextIn form file text
 text_in laws Placed file text h = canonical laws file text h
 text_in laws Moved file text h =
-    let is = moved_text_is laws file text h in (is.0, canonical laws text text (own_moved laws file text h), is.1)
+    let is = moved_text_is laws file text h in
+    let p = files_agree file h.universe h.reads in
+    (is.0, canonical laws text text (own_moved laws file text h), is.1, (p.pattern, p.is, moved_exact laws file text h))
 text_in laws Turned file text h =
-    let is = turned_text_is laws file text h in (is.0, canonical laws text text (own_turned laws file text h), is.1)
+    let is = turned_text_is laws file text h in
+    let p = files_agree file h.universe h.reads in
+    (is.0, canonical laws text text (own_turned laws file text h), is.1, (p.pattern, p.is, turned_exact laws file text h))
 
 answers : LayersAgree → (job : Job) (file second : List ℕ) (status : ℕ) (text : List ℕ) → Writes job file second status text
     → Answers job file second status text

@@ -31,12 +31,12 @@ use Rattle.program_theorems.specs.Layers.{LayersAgree}
 -- ---- patterns
 
 -- the pattern is that of the layer
-record Says (p : Pattern) (u : Universe) : Type 0 where
+pub record Says (p : Pattern) (u : Universe) : Type 0 where
   pub rule : p.rule ≡ rule_in u.rule
   pub generation : p.generation ≡ u.generation
   pub cells : (x y : ℤ) → p.cell x y ≡ u.cell x y
 
-said : (bytes : List ℕ) (u : Universe) (p : Agrees bytes u) → Says p.pattern u
+pub said : (bytes : List ℕ) (u : Universe) (p : Agrees bytes u) → Says p.pattern u
 said bytes u p = record { rule = p.rule; generation = p.generation; cells = p.cells }
 
 counted_is : (b : Bool) (x : ℤ) → counted b x ≡ layer.counted b x
@@ -44,7 +44,7 @@ counted_is true (pos n) = refl
 counted_is true (negsuc n) = refl
 counted_is false x = refl
 
-image_says : (p : Pattern) (u : Universe) (turn : Turn) → Says p u → Says (image turn.exchange turn.columns turn.rows p) (layer.image turn u)
+pub image_says : (p : Pattern) (u : Universe) (turn : Turn) → Says p u → Says (image turn.exchange turn.columns turn.rows p) (layer.image turn u)
 image_says p u turn s = record {
   rule = s.rule;
   generation = s.generation;
@@ -53,7 +53,7 @@ image_says p u turn s = record {
       ∙ s.cells (layer.column_of turn x y) (layer.row_of turn x y);
 }
 
-shift_to : (p q : Pattern) (u v : Universe) → Says p u → Says q v → LayerShift u v → IsShift p q
+pub shift_to : (p q : Pattern) (u v : Universe) → Says p u → Says q v → LayerShift u v → IsShift p q
 shift_to p q u v a b s = (
   a.rule ∙ ap rule_in s.rule ∙ sym b.rule,
   a.generation ∙ s.generation ∙ sym b.generation,

@@ -1,3 +1,4 @@
 mod FormLaw
+mod FormTexts
 mod AnswerLaw
 mod RefusalLaw

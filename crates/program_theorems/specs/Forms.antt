@@ -1,11 +1,16 @@
 -- The forms in which patterns are taken: as they lie, moved, and turned. They are this project's own.
-use Rattle.std.specs.Prelude.{◌≡◌, ◌⊎◌, ◌^◌, ℕ, Bool, true, false, if◌then◌else◌, ℤ, pos, negsuc, ◌+ℤ◌, List, Ok}
+use Rattle.std.specs.Prelude.{◌≡◌, ◌⊎◌, ◌^◌, ℕ, Bool, true, false, if◌then◌else◌, ℤ, pos, negsuc, ◌+ℤ◌, ◌<ℤ◌, List, Ok}
+use Rattle.std.specs.Cmp.Lexicographic.{slice_cmp}
+use Rattle.std.specs.Ordering.{nat_cmp, is_gt}
+use Rattle.life_base.specs.declared.bounds.Bounds.{Bounds}
 use Rattle.life_cli.specs.declared.plans.Form.{Form}
 use Rattle.life_cli.specs.declared.plans.Form.TheVariants.{Placed, Moved, Turned}
+use Rattle.claims.specs.Canonical.{IsTextOfPattern}
 use Rattle.claims.specs.Counting.{IsCanonicalText}
 use Rattle.claims.specs.Files.{pattern_of, Same}
 use Rattle.claims.specs.Generation.{SaysMoreCells}
-use Rattle.claims.specs.Pattern.{Pattern}
+use Rattle.claims.specs.Pattern.{Pattern, edge}
+use Rattle.claims.specs.Shown.{IsLeastBox}
 
 -- the second is the first, with each cell so many columns further east and rows further south
 abbrev pub IsShift : Pattern → Pattern → Type 0
@@ -50,7 +55,38 @@ HasTooMany Placed a b = ⊥
 HasTooMany Moved a b = SaysMoreCells (2 ^ 20) a ⊎ SaysMoreCells (2 ^ 20) b
 HasTooMany Turned a b = AreRelated (λ p q. p.generation ≡ q.generation) a b × (SaysMoreCells (2 ^ 20) a ⊎ SaysMoreCells (2 ^ 20) b)
 
--- the text is the canonical text of a pattern that is the same in the form; the file has no more than 2^20 nonzero cells, if they are moved
+-- the columns or the rows of a box begin with 0; but those that would leave the plane so end with the plane
+abbrev pub IsInPlace : (first last : ℤ) → Type 0
+IsInPlace first last = ((first ≡ pos 0) × (last <ℤ edge)) ⊎ ((first <ℤ pos 0) × (last +ℤ pos 1 ≡ edge))
+
+-- the text is the canonical text of the pattern, shifted so that the least box around its nonzero cells is in its place
+pub record IsMovedText (pattern : Pattern) (text : List ℕ) : Type 0 where
+  pub moved : Pattern
+  pub shift : IsShift pattern moved
+  pub in_place : (box : Bounds) → IsLeastBox moved.cell box → IsInPlace box.left box.right × IsInPlace box.top box.bottom
+  pub is : IsTextOfPattern moved text
+
+-- the first of two texts isn't greater, byte by byte
+abbrev pub IsUpTo : List ℕ → List ℕ → Type 0
+IsUpTo first second = is_gt (slice_cmp nat_cmp first second) ≡ false
+
+-- the text is the least of those of the eight turns and reflections of a pattern, each moved
+pub record IsTurnedText (pattern : Pattern) (text : List ℕ) : Type 0 where
+  pub exchange : Bool
+  pub columns : Bool
+  pub rows : Bool
+  pub is : IsMovedText (image exchange columns rows pattern) text
+  pub least : (exchange columns rows : Bool) (other : List ℕ) → IsMovedText (image exchange columns rows pattern) other → IsUpTo text other
+
+-- the text of a pattern in a form
+abbrev pub IsTextOfForm : Form → Pattern → List ℕ → Type 0
+IsTextOfForm Placed pattern text = IsTextOfPattern pattern text
+IsTextOfForm Moved pattern text = IsMovedText pattern text
+IsTextOfForm Turned pattern text = IsTurnedText pattern text
+
+-- The text is that of the file's pattern in the form. It is the canonical text of a pattern that is the same in the form; and the file has no more
+-- than 2^20 nonzero cells, if they are moved.
 abbrev pub IsTextIn : Form → List ℕ → List ℕ → Type 0
 IsTextIn Placed file text = IsCanonicalText file text
 IsTextIn form file text = SameIn form file text × IsCanonicalText text text × (SaysMoreCells (2 ^ 20) file → ⊥)
+    × ((pattern : Pattern) × (pattern_of file ≡ Ok pattern) × IsTextOfForm form pattern text)

@@ -1,7 +1,7 @@
 -- The laws by which the words of the layers are those of the claims, together: no reader of a theorem needs them.
 use Rattle.life_canon.specs.Laws.{FilesAreOnPlane, FilesAreUnique, TextsAreFiles, TextsKeepPatterns, TextsTellPatterns, TextsAreFixed, CanonicalIsLeast, RleTextsKeepPatterns, RefusalsHaveKinds}
 use Rattle.life_canon.specs.Listing.{canon_text}
-use Rattle.life_forms.specs.Laws.{MovedFormsAreOnPlane, MovedTextsAreFiles, MovedTextsTellFiles}
+use Rattle.life_forms.specs.Laws.{ImagesStayOnPlane, MovedFormsAreOnPlane, MovedTextsAreFiles, MovedTextsTellFiles}
 use Rattle.life_forms.specs.Laws.{TurnedFormsAreOnPlane, TurnedTextsAreFiles, TurnedTextsTellFiles}
 use Rattle.life_table.specs.Grammar.{GrammarsAgree}
 use Rattle.life_table.specs.Laws.{RefusalsHaveKinds as TableRefusalsHaveKinds}
@@ -17,6 +17,7 @@ pub record LayersAgree : Type 0 where
   pub least : CanonicalIsLeast 62
   pub rle : RleTextsKeepPatterns 62
   pub kinds : RefusalsHaveKinds 62
+  pub images : ImagesStayOnPlane 62
   pub moved_on_plane : MovedFormsAreOnPlane 62
   pub moved_files : MovedTextsAreFiles 62
   pub moved_tell : MovedTextsTellFiles 62

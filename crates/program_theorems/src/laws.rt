@@ -8,7 +8,7 @@ use life_canon::laws::{
     texts_tell_patterns,
 };
 use life_forms::laws::{
-    moved_forms_are_on_plane, moved_texts_are_files, moved_texts_tell_files,
+    images_stay_on_plane, moved_forms_are_on_plane, moved_texts_are_files, moved_texts_tell_files,
     turned_forms_are_on_plane, turned_texts_are_files, turned_texts_tell_files,
 };
 use life_table::laws::{grammars_agree, refusals_have_kinds as table_refusals_have_kinds};
@@ -27,6 +27,7 @@ pub fn layers_agree()
     canonical_is_least();
     rle_texts_keep_patterns();
     refusals_have_kinds();
+    images_stay_on_plane();
     moved_forms_are_on_plane();
     moved_texts_are_files();
     moved_texts_tell_files();

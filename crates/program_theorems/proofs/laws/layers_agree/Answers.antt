@@ -12,6 +12,7 @@ returns c = record {
   least = c.canonical_is_least.ensures;
   rle = c.rle_texts_keep_patterns.ensures;
   kinds = c.refusals_have_kinds.ensures;
+  images = c.images_stay_on_plane.ensures 62;
   moved_on_plane = c.moved_forms_are_on_plane.ensures 62;
   moved_files = c.moved_texts_are_files.ensures;
   moved_tell = c.moved_texts_tell_files.ensures;
