@@ -7,16 +7,18 @@ use Rattle.life_base.specs.declared.kind.Kind.TheVariants.{RuleMismatch, Generat
 use Rattle.claims.specs.Rules.{named}
 use Rattle.claims.specs.Table.{Table, becomes, ambiguous}
 use Rattle.claims.specs.Files.{pattern_of, fault_of}
+use Rattle.claims.specs.Canonical.{IsTextOfPattern}
 use Rattle.claims.specs.Pattern.{Pattern, is_coordinate}
 use Rattle.claims.specs.Generation.{HasMoreCells, decided_at, IsNextByTable}
 
--- the bytes are a file with a next pattern by the table, and the text is a file of that one
+-- the bytes are a file with a next pattern by the table, and the text is a file of that one, and its canonical text
 pub record IsSteppedBy (table : Table) (bytes text : List ℕ) : Type 0 where
   pub now : Pattern
   pub next : Pattern
   pub now_is : pattern_of bytes ≡ Ok now
   pub next_is : pattern_of text ≡ Ok next
   pub is : IsNextByTable table now next
+  pub canonical : IsTextOfPattern next text
 
 -- a cell has none of the table's states
 abbrev pub HasStateBeyond : Table → (ℤ → ℤ → ℕ) → Type 0

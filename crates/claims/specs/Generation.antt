@@ -9,6 +9,7 @@ use Rattle.life_base.specs.declared.kind.Kind.TheVariants.{NeedsTable, Generatio
 use Rattle.claims.specs.Rules.{counting, named}
 use Rattle.claims.specs.Table.{Table, Answer, becomes, decided}
 use Rattle.claims.specs.Files.{pattern_of, fault_of}
+use Rattle.claims.specs.Canonical.{IsTextOfPattern}
 use Rattle.claims.specs.Pattern.{Pattern, is_coordinate}
 
 -- the states of the neighbours of a cell from north clockwise, of four or of eight
@@ -91,7 +92,7 @@ pub record IsNextByTable (table : Table) (now next : Pattern) : Type 0 where
   pub inside : (x y : ℤ) → (is_coordinate x && is_coordinate y) ≡ false → next.cell x y ≡ 0
   pub cells : (x y : ℤ) → decided_at table now.cell x y ≡ becomes (next.cell x y)
 
--- the bytes are a file with a next pattern under its B/S rule, and the text is a file of that one, canonical or not
+-- the bytes are a file with a next pattern under its B/S rule, and the text is a file of that one, and its canonical text
 pub record IsStepped (bytes text : List ℕ) : Type 0 where
   pub now : Pattern
   pub next : Pattern
@@ -101,3 +102,4 @@ pub record IsStepped (bytes text : List ℕ) : Type 0 where
   pub births : List ℕ
   pub survivals : List ℕ
   pub is : IsNext neighbours births survivals now next
+  pub canonical : IsTextOfPattern next text

@@ -150,21 +150,21 @@ untabled : TablesRefuse → (rules : List ℕ) (fault : Fault) → OrMemory faul
 untabled refuse rules fault (inl memory) = inr memory
 untabled refuse rules fault (inr refuses) = inl ((refuse rules fault).0 refuses)
 
-pub by_table_so : TablesRead → TablesRefuse → TablesDecide
+pub by_table_so : FilesAreOnPlane 62 → TablesRead → TablesRefuse → TablesDecide
     → ((lines : List (List ℕ)) (layer : LayerTable) → IsFile lines layer → AreTable lines layer)
     → (limit : ℕ) (file rules : List ℕ) (in_table : ℕ) (before after : List ℕ) (told : Told) → StepsByTable limit file rules in_table before after told
     → ToldByTable file rules in_table before after told
-by_table_so read refuse decide agree limit file rules in_table before after told (by_table layer is zero answers) =
+by_table_so on_plane read refuse decide agree limit file rules in_table before after told (by_table layer is zero answers) =
     let t = (read rules).0 layer (agree (lines_of rules) layer is) in
     inl (
       zero,
       (
         t.0,
         t.1,
-        reworded answers (stepped_is decide layer t.0 t.2 file) (unstepped_by decide layer t.0 t.2 limit file),
+        reworded answers (stepped_is decide layer t.0 t.2 on_plane file) (unstepped_by decide layer t.0 t.2 limit file),
       ),
     )
-by_table_so read refuse decide agree limit file rules in_table before after told (by_no_table fault why one tells) =
+by_table_so on_plane read refuse decide agree limit file rules in_table before after told (by_no_table fault why one tells) =
     inr (one, (fault, untabled refuse rules fault why, tells))
 
 -- ---- two files

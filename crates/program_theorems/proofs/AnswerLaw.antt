@@ -114,7 +114,7 @@ answers laws jobs.Show file second status text h =
     (h.0, (s.0, s.1, (told, canonical laws file told c, s.2)))
 answers laws jobs.Step file second status text h = (h.0, stepped_is laws.on_plane file text h.1)
 answers laws jobs.StepTable file second status text h =
-    (h.0, stepped_text laws.read laws.decide second file text h.1.0 ((laws.grammars (lines_of second) h.1.0).0 h.1.1) h.1.2)
+    (h.0, stepped_text laws.on_plane laws.read laws.decide second file text h.1.0 ((laws.grammars (lines_of second) h.1.0).0 h.1.1) h.1.2)
 
 -- a job without a second file asks for nothing of one
 second_free : (job : Job) (file a b : List ℕ) (status : ℕ) (text : List ℕ) → (HasSecond job → a ≡ b) → Answers job file a status text

@@ -23,7 +23,7 @@ use Rattle.life_table.specs.Reading.{AreTable}
 use Rattle.life_quad.specs.Store.{Nodes}
 use Rattle.life_canon.specs.Files.{Reads, Refuses}
 use Rattle.life_canon.specs.Store.{IsWant}
-use Rattle.life_canon.specs.Laws.{FilesAreUnique}
+use Rattle.life_canon.specs.Laws.{FilesAreOnPlane, FilesAreUnique}
 use Rattle.life_canon.specs.Listing.{canon_text}
 use Rattle.life_canon.specs.Texts.{AreCellsOf, IsCanonical}
 use Rattle.life_canon.specs.Universe.{Universe}
@@ -39,6 +39,7 @@ use Rattle.claims.specs.Files.{IsWant as IsUnmet}
 use Rattle.claims.proofs.RuleLaw.{rule_in}
 use Rattle.theorems.proofs.FileLaw.{Agrees, files_agree}
 use Rattle.theorems.proofs.RefusalLaw.{refuses_agree, want_as}
+use Rattle.theorems.proofs.TextLaw.{text_of_pattern}
 use Rattle.step_theorems.proofs.StepLaw.{none_some, passes, same_cells, some_of}
 use Rattle.table_laws.specs.Laws.{TablesRead, TablesDecide}
 use Rattle.table_laws.specs.Tables.{IsTable, answer_in}
@@ -87,8 +88,8 @@ module _ (decide : TablesDecide) (layer : LayerTable) (table : Table) (is : IsTa
 
   -- ---- a step
 
-  pub stepped_is : (bytes text : List ℕ) → LayerSteppedBy layer bytes text → IsSteppedBy table bytes text
-  stepped_is bytes text h =
+  pub stepped_is : FilesAreOnPlane 62 → (bytes text : List ℕ) → LayerSteppedBy layer bytes text → IsSteppedBy table bytes text
+  stepped_is on_plane bytes text h =
       let u = h.0 in
       let t = h.3 in
       let step = t.is in
@@ -120,6 +121,7 @@ module _ (decide : TablesDecide) (layer : LayerTable) (table : Table) (is : IsTa
               ap (λ (c : ℤ → ℤ → ℕ). decided_at table c x y) cells ∙ (answers_is u.cell x y (Becomes (t.universe.cell x y))).0 (step.cells x y)
               ∙ ap becomes (sym (q.cells x y));
         };
+        canonical = text_of_pattern t.universe q.pattern text (on_plane text t.universe t.reads) q.rule q.generation q.cells t.canonical;
       }
     where
       below : (a b : ℕ) → (b ≤ a → ⊥) → a < b
@@ -215,12 +217,12 @@ module _ (decide : TablesDecide) (layer : LayerTable) (table : Table) (is : IsTa
 
 -- ---- texts
 
-pub stepped_text : TablesRead → TablesDecide → (rules bytes text : List ℕ) (layer : LayerTable) → AreTable (lines_of rules) layer
+pub stepped_text : FilesAreOnPlane 62 → TablesRead → TablesDecide → (rules bytes text : List ℕ) (layer : LayerTable) → AreTable (lines_of rules) layer
     → LayerSteppedBy layer bytes text
     → (t : Table) × (table_of rules ≡ Ok t) × IsSteppedBy t bytes text
-stepped_text read decide rules bytes text layer are h =
+stepped_text on_plane read decide rules bytes text layer are h =
     let t = (read rules).0 layer are in
-    (t.0, t.1, stepped_is decide layer t.0 t.2 bytes text h)
+    (t.0, t.1, stepped_is decide layer t.0 t.2 on_plane bytes text h)
 
 pub unstepped_text : TablesRead → TablesDecide → (rules bytes : List ℕ) (store : Nodes) (fault : Fault) (layer : LayerTable) → AreTable (lines_of rules) layer
     → Refuses 62 bytes fault ⊎ (IsWant store fault ⊎ ((u : Universe) × Reads 62 bytes u × TableRefusal 62 layer u (Some fault)))

@@ -27,6 +27,7 @@ use Rattle.theorems.proofs.FileLaw.{Agrees, files_agree}
 use Rattle.theorems.proofs.CellsLaw.{same_cells as of_layer}
 use Rattle.theorems.proofs.PlaneLaw.{not_of_plane, outside_is}
 use Rattle.theorems.proofs.RefusalLaw.{refuses_agree, want_as}
+use Rattle.theorems.proofs.TextLaw.{text_of_pattern}
 use Rattle.step_theorems.proofs.NextLaw.{next_is}
 
 -- a reason that is not told does not hold
@@ -77,6 +78,7 @@ stepped_is on_plane bytes text h =
         inside = λ m. inside.0 (m.0, m.1, not_of_plane m.0 m.1 m.2, λ z. m.3 (next m.0 m.1 ∙ z));
         cells = λ x y. q.cells x y ∙ step.cells x y ∙ sym (next x y);
       };
+      canonical = text_of_pattern t.universe q.pattern text (on_plane text t.universe t.reads) q.rule q.generation q.cells t.canonical;
     }
 
 -- ---- what is not stepped

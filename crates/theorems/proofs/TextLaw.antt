@@ -10,6 +10,8 @@ use Rattle.life_mc.specs.Macrocell.{largest_state}
 use Rattle.life_mc.specs.Writing.{mc_text, node_text, generation_text}
 use Rattle.life_canon.specs.Universe.{Universe, IsOnPlane, IsWithin, IsBlankOutside, corner, centred, whole}
 use Rattle.life_canon.specs.Universe.{least_level as layer_least}
+use Rattle.life_canon.specs.Laws.{FilesAreOnPlane}
+use Rattle.life_canon.specs.Texts.{IsCanonical}
 use Rattle.life_canon.specs.Listing.{walk as tree_walk}
 use Rattle.life_canon.specs.Listing.{canonical_file, canon_text, line_of, listed, square_file, with_all}
 use Rattle.life_canon.proofs.TreeWords.{trimmed_to}
@@ -19,6 +21,8 @@ use Rattle.life_canon.proofs.Content.{least-one}
 use Rattle.claims.specs.Pattern.{Pattern}
 use Rattle.claims.specs.Canonical.{Square, square_at, middle_square, is_in_middle, HoldsAllCells, least_level, walk, first_visits, square_line, square_text, IsTextOfPattern}
 use Rattle.claims.proofs.RuleLaw.{rule_in}
+use Rattle.theorems.specs.Patterns.{IsTextOfFile}
+use Rattle.theorems.proofs.FileLaw.{files_agree}
 use Rattle.theorems.proofs.ShownLaw.{rule_text_is}
 use Rattle.theorems.proofs.SquareLaw.{tree, HasLevel, square_is, level_at, walk_is, visits_are, walk_has, visits_have, lines_are}
 
@@ -142,6 +146,12 @@ text_of_pattern u pattern text on rule generation cells is =
     λ i. record { rule = sym rule i; generation = sym generation i; cell = λ x y. sym (cells x y) i } in
     subst (λ (t : List ℕ). IsTextOfPattern pattern t) (sym is)
     (subst (λ (p : Pattern). IsTextOfPattern p (canon_text 62 u)) same (own_text u on))
+
+-- and of each file
+pub text_of_file : FilesAreOnPlane 62 → (file text : List ℕ) → IsCanonical 62 file text → IsTextOfFile file text
+text_of_file on_plane file text c =
+    let p = files_agree file c.universe c.reads in
+    (p.pattern, p.is, text_of_pattern c.universe p.pattern text (on_plane file c.universe c.reads) p.rule p.generation p.cells c.is)
 
 -- a pattern has one text
 pub one_text_of : (pattern : Pattern) (s t : List ℕ) → IsTextOfPattern pattern s → IsTextOfPattern pattern t → s ≡ t

@@ -1,16 +1,17 @@
 //! A file that comes from a source, and whose canonical text goes to a sink.
 
 ghost use Rattle.std.specs.Prelude.{◌≡◌, ◌≢◌, ◌⊎◌, ◌≤◌, ◌^◌, ◌++◌, ℕ, List, [], length, true, false, Some, IfOk, IfErr, IsErrAnd, OnOk};
-ghost use Rattle.theorems.specs.Words.{Same, IsStreamFault};
+ghost use Rattle.theorems.specs.Words.{IsTextOfFile, Same, IsStreamFault};
 
 use crate::room::Room;
 use life_base::{Fault, Kind, Sink, Source};
-use life_canon::laws::{files_are_unique, texts_keep_patterns};
+use life_canon::laws::{files_are_on_plane, files_are_unique, texts_keep_patterns};
 use life_canon::{canon, run_canon};
 use std::alloc::Global;
 
-/// From a source that tells its bytes to a sink that tells what it holds, a file of the same pattern is written after what
-/// the sink held, and the sink stays as it was where another fault than one of writing is told.
+/// From a source that tells its bytes to a sink that tells what it holds, the canonical text of the file, which is a file of
+/// the same pattern, is written after what the sink held; and the sink stays as it was where another fault than one of
+/// writing is told.
 ///
 /// # Errors
 ///
@@ -27,7 +28,8 @@ pub fn stream_to_stream<R: Source, W: Sink>(
     ensures done { (bytes held : List ℕ) → R.remaining reader.old ≡ Some bytes
         → W.contents writer.old ≡ Some held
         → OnOk result
-        ((text : List ℕ) × (W.contents writer.new ≡ Some (held ++ text)) × Same bytes text) }
+        ((text : List ℕ) × (W.contents writer.new ≡ Some (held ++ text)) × Same bytes text
+        × IsTextOfFile bytes text) }
     ensures whole { (bytes : List ℕ) → R.remaining reader.old ≡ Some bytes
         → OnOk result ((R.remaining reader.new ≡ Some []) × (length bytes ≤ 2 ^ 30)) }
     ensures flushed { OnOk result (W.flushed writer.new ≡ true) }
@@ -41,6 +43,7 @@ pub fn stream_to_stream<R: Source, W: Sink>(
     ensures write_told { (W.failures writer.new ≡ 1) ⊎ (W.stalled writer.new ≡ true)
         → IsErrAnd result (λ fault. fault.kind ≡ Kind.WriteFault) }
 {
+    files_are_on_plane();
     texts_keep_patterns();
     run_canon(alloc, &mut room.new_store(alloc), reader, writer)
 }
