@@ -16,7 +16,7 @@ use Rattle.claims.specs.Rules.{default_rule}
 use Rattle.claims.specs.Pattern.{Pattern}
 use Rattle.claims.specs.Macrocell.{Macrocell, first_line, cell}
 use Rattle.claims.specs.Macrocell.{with_line as with_node_line}
-use Rattle.claims.specs.Rle.{Lines, Position, before_header, behind_header, behind_end, with_line}
+use Rattle.claims.specs.Rle.{Lines, PositionFields, before_header, after_header, after_end, with_line}
 use Rattle.claims.specs.Files.{fault_at, on_line, read_lines, macrocell_of, end_of_rle, pattern_of}
 use Rattle.claims.specs.Laws.{ended, FrontsGoOn}
 use Rattle.claims.proofs.Format.{first_line_of, begins_line}
@@ -153,8 +153,8 @@ mc_goes_on bytes (suc m) kind f h e =
     first_same [] m = refl
     first_same (line ∷ lines) m = refl
 
-blank_header : (position : Position) → with_line (before_header position) (codes "x = 1, y = 1")
-    ≡ Ok (behind_header (record { rule = default_rule; position = position; items = [] }))
+blank_header : (position : PositionFields) → with_line (before_header position) (codes "x = 1, y = 1")
+    ≡ Ok (after_header (record { rule = default_rule; position = position; items = [] }))
 unfolding with_line
 blank_header position = refl
 
@@ -197,20 +197,20 @@ rle_goes_on bytes m kind f h e = by l.0 l.1
     by : (next : Lines) → Runs with_line begun (take m (lines_of bytes)) next → (more : List ℕ) × IsOk (pattern_of (ended (take m (lines_of bytes)) ++ more))
     by (before_header position) r = (
       codes "x = 1, y = 1",
-      whole (codes "x = 1, y = 1") (behind_header (record { rule = default_rule; position = position; items = [] })) _ refl
-          (runs_on with_line begun (before_header position) (behind_header (record { rule = default_rule; position = position; items = [] }))
+      whole (codes "x = 1, y = 1") (after_header (record { rule = default_rule; position = position; items = [] })) _ refl
+          (runs_on with_line begun (before_header position) (after_header (record { rule = default_rule; position = position; items = [] }))
           (take m (lines_of bytes)) (lines_of (codes "x = 1, y = 1")) r
-          (behind_header (record { rule = default_rule; position = position; items = [] }), blank_header position, refl)) refl,
+          (after_header (record { rule = default_rule; position = position; items = [] }), blank_header position, refl)) refl,
     )
-    by (behind_header file) r = (
+    by (after_header file) r = (
       [],
-      whole [] (behind_header file) _ refl
-          (subst (λ (t : List (List ℕ)). Runs with_line begun t (behind_header file)) (nothing_more (take m (lines_of bytes))) r) refl,
+      whole [] (after_header file) _ refl
+          (subst (λ (t : List (List ℕ)). Runs with_line begun t (after_header file)) (nothing_more (take m (lines_of bytes))) r) refl,
     )
-    by (behind_end file) r = (
+    by (after_end file) r = (
       [],
-      whole [] (behind_end file) _ refl
-          (subst (λ (t : List (List ℕ)). Runs with_line begun t (behind_end file)) (nothing_more (take m (lines_of bytes))) r) refl,
+      whole [] (after_end file) _ refl
+          (subst (λ (t : List (List ℕ)). Runs with_line begun t (after_end file)) (nothing_more (take m (lines_of bytes))) r) refl,
     )
 
 pub fronts_go_on : FrontsGoOn

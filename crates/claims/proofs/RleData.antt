@@ -11,7 +11,7 @@ use Rattle.life_rle.specs.declared.item.Item.{Item as LayerItem}
 use Rattle.life_rle.specs.Items.{Next, End, Mark, Spelled, Broken, next_of, Spells, item_in as layer_item_in, front_digits, behind_digits, counted}
 use Rattle.life_rle.specs.Pattern.{Rle as LayerRle, placed_item, placed_behind, placed_fault, first_fault}
 use Rattle.claims.specs.Outcomes.{◌>>=◌}
-use Rattle.claims.specs.Rle.{Item, Rle, Lines, behind_header, behind_end, item_of, with_item, with_texts, texts_of}
+use Rattle.claims.specs.Rle.{Item, Rle, Lines, after_header, after_end, item_of, with_item, with_texts, texts_of}
 use Rattle.claims.proofs.RlePlane.{file_in, item_answer, with_item_is}
 use Rattle.claims.proofs.RleTexts.{text_of, rest_of, texts_cut, text_begins, Found, spelled, broken, item_found}
 
@@ -53,7 +53,7 @@ spaces file (b ∷ bytes) = elim (cases_Bool (is_whitespace b)) [
     blank_first : (texts : List (List ℕ)) → is_blank (b ∷ []) ≡ true → with_texts file ((b ∷ []) ∷ texts) ≡ with_texts file texts
     blank_first texts e =
         ap (λ v. cond v (with_texts file texts)
-        (cond (bytes_eq (b ∷ []) (codes "!")) (Ok (behind_end file))
+        (cond (bytes_eq (b ∷ []) (codes "!")) (Ok (after_end file))
         (item_of (b ∷ []) >>= λ item. with_item file item >>= λ next. with_texts next texts))) e
 
 -- what stands in front after whitespace is none
@@ -68,8 +68,8 @@ trimmed_first (a ∷ bytes) b rest e = elim (cases_Bool (is_whitespace a)) [
 
 -- what stands in an item's place, and what the line says from there
 abbrev pub from_here : LayerRle → Next → Result Lines Kind
-from_here file End = Ok (behind_header (file_in file))
-from_here file Mark = Ok (behind_end (file_in file))
+from_here file End = Ok (after_header (file_in file))
+from_here file Mark = Ok (after_end (file_in file))
 from_here file (Broken kind) = Err kind
 from_here file (Spelled item rest) =
     item_answer file item (placed_fault 62 file.rule (placed_item file.position file.items item)) >>= λ now. with_texts now (texts_of rest)

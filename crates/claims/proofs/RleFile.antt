@@ -25,7 +25,7 @@ use Rattle.life_rle.specs.Position.{default_position}
 use Rattle.claims.specs.Outcomes.{◌>>=◌}
 use Rattle.claims.specs.Rules.{Rule}
 use Rattle.claims.specs.Pattern.{Pattern}
-use Rattle.claims.specs.Rle.{Position, Lines, before_header, behind_header, behind_end, no_position, header_of, with_texts, texts_of, with_line, cell}
+use Rattle.claims.specs.Rle.{PositionFields, Lines, before_header, after_header, after_end, no_position_fields, header_of, with_texts, texts_of, with_line, cell}
 use Rattle.claims.specs.Files.{fault_at, read_lines, end_of_rle}
 use Rattle.claims.proofs.RuleLaw.{rule_in}
 use Rattle.claims.proofs.RlePlane.{position_in, file_in, item_answer, rle_cell_is}
@@ -40,14 +40,14 @@ use Rattle.claims.proofs.Running.{Runs, runs_on, refused_behind, ended_behind}
 abbrev opened : LayerPosition → Result Opening Kind → Result Lines Kind
 opened p (Ok Comment) = Ok (before_header (position_in p))
 opened p (Ok (PositionLine here)) = Ok (before_header (position_in here))
-opened p (Ok (Header rule)) = Ok (behind_header (record { rule = rule_in rule; position = position_in p; items = [] }))
+opened p (Ok (Header rule)) = Ok (after_header (record { rule = rule_in rule; position = position_in p; items = [] }))
 opened p (Err kind) = Err kind
 
 open_tests : (p : LayerPosition) (long blank command hash x : Bool) (here : Result LayerPosition Kind) (rule : Result LayerRule Kind)
     → cond long (Err kinds.LineTooLong) (cond blank (Ok (before_header (position_in p)))
     (cond command (result_map position_in here >>= λ q. Ok (before_header q))
     (cond hash (Ok (before_header (position_in p)))
-    (cond x (result_map rule_in rule >>= λ r. Ok (behind_header (record { rule = r; position = position_in p; items = [] }))) (Err kinds.NoHeader)))))
+    (cond x (result_map rule_in rule >>= λ r. Ok (after_header (record { rule = r; position = position_in p; items = [] }))) (Err kinds.NoHeader)))))
     ≡ opened p (cond long (Err kinds.LineTooLong) (cond blank (Ok Comment)
     (cond command (and_then here (λ position. Ok (PositionLine position)))
     (cond hash (Ok Comment) (cond x (and_then rule (λ r. Ok (Header r))) (Err kinds.NoHeader))))))
@@ -63,16 +63,16 @@ open_tests p false false false false false here rule = refl
 open_is : (p : LayerPosition) (line : List ℕ) → with_line (before_header (position_in p)) line ≡ opened p (opening_of 62 line)
 unfolding with_line
 open_is p line =
-    ap (λ (here : Result Position Kind). cond (is_too_long line) (Err kinds.LineTooLong) (cond (is_blank line) (Ok (before_header (position_in p)))
+    ap (λ (here : Result PositionFields Kind). cond (is_too_long line) (Err kinds.LineTooLong) (cond (is_blank line) (Ok (before_header (position_in p)))
     (cond (is_position_line line) (here >>= λ q. Ok (before_header q))
     (cond (begins_with line (codes "#")) (Ok (before_header (position_in p)))
-    (cond (begins_with line (codes "x")) (header_of line >>= λ r. Ok (behind_header (record { rule = r; position = position_in p; items = [] })))
+    (cond (begins_with line (codes "x")) (header_of line >>= λ r. Ok (after_header (record { rule = r; position = position_in p; items = [] })))
     (Err kinds.NoHeader))))))
     (position_is line)
     ∙ ap (λ (rule : Result Rule Kind). cond (is_too_long line) (Err kinds.LineTooLong) (cond (is_blank line) (Ok (before_header (position_in p)))
     (cond (is_position_line line) (result_map position_in (position_of 62 line) >>= λ q. Ok (before_header q))
     (cond (begins_with line (codes "#")) (Ok (before_header (position_in p)))
-    (cond (begins_with line (codes "x")) (rule >>= λ r. Ok (behind_header (record { rule = r; position = position_in p; items = [] })))
+    (cond (begins_with line (codes "x")) (rule >>= λ r. Ok (after_header (record { rule = r; position = position_in p; items = [] })))
     (Err kinds.NoHeader))))))
     (header_is line)
     ∙ open_tests p (is_too_long line) (is_blank line) (is_position_line line) (begins_with line (codes "#")) (begins_with line (codes "x"))
@@ -81,13 +81,13 @@ open_is p line =
 -- ---- a line after it
 
 abbrev judged : LayerRle → List ℕ → Result Later Kind → Result Lines Kind
-judged file line (Ok Passed) = Ok (behind_header (file_in file))
+judged file line (Ok Passed) = Ok (after_header (file_in file))
 judged file line (Ok Data) = with_texts (file_in file) (texts_of line)
 judged file line (Err kind) = Err kind
 
 later_tests : (file : LayerRle) (line : List ℕ) (long blank command hash second : Bool)
-    → cond long (Err kinds.LineTooLong) (cond blank (Ok (behind_header (file_in file)))
-    (cond command (Err kinds.LateHeader) (cond hash (Ok (behind_header (file_in file)))
+    → cond long (Err kinds.LineTooLong) (cond blank (Ok (after_header (file_in file)))
+    (cond command (Err kinds.LateHeader) (cond hash (Ok (after_header (file_in file)))
     (cond second (Err kinds.SecondHeader) (with_texts (file_in file) (texts_of line))))))
     ≡ judged file line (cond long (Err kinds.LineTooLong) (cond blank (Ok Passed) (cond command (Err kinds.LateHeader)
     (cond hash (Ok Passed) (cond second (Err kinds.SecondHeader) (Ok Data))))))
@@ -98,33 +98,33 @@ later_tests file line false false false true second = refl
 later_tests file line false false false false true = refl
 later_tests file line false false false false false = refl
 
-later_is : (file : LayerRle) (line : List ℕ) → with_line (behind_header (file_in file)) line ≡ judged file line (later_of line)
+later_is : (file : LayerRle) (line : List ℕ) → with_line (after_header (file_in file)) line ≡ judged file line (later_of line)
 unfolding with_line
 later_is file line =
     later_tests file line (is_too_long line) (is_blank line) (is_position_line line) (begins_with line (codes "#"))
     (begins_with line (codes "x ") || begins_with line (codes "x="))
 
-ended_is : (file : LayerRle) (line : List ℕ) → with_line (behind_end (file_in file)) line ≡ Ok (behind_end (file_in file))
+ended_is : (file : LayerRle) (line : List ℕ) → with_line (after_end (file_in file)) line ≡ Ok (after_end (file_in file))
 unfolding with_line
 ended_is file line = refl
 
 -- items of a line, none of which breaks a rule
 data_is : (file : LayerRle) (line : List ℕ) (items : List LayerItem) (last : Next) → later_of line ≡ Ok Data → Spells 62 line items last
     → first_fault 62 file.rule (placed_behind file.position file.items items) ≡ None
-    → with_line (behind_header (file_in file)) line ≡ from_here (with_items file items) last
+    → with_line (after_header (file_in file)) line ≡ from_here (with_items file items) last
 data_is file line items last e s sound = later_is file line ∙ ap (judged file line) e ∙ spelled_is items line file last s sound
 
 line_is : (file : LayerRle) (line : List ℕ) (items : List LayerItem) → LineSpells 62 line items End
     → first_fault 62 file.rule (placed_behind file.position file.items items) ≡ None
-    → with_line (behind_header (file_in file)) line ≡ Ok (behind_header (file_in (with_items file items)))
+    → with_line (after_header (file_in file)) line ≡ Ok (after_header (file_in (with_items file items)))
 line_is file line items (inl h) sound =
-    later_is file line ∙ ap (judged file line) h.0 ∙ ap (λ (f : LayerRle). Ok (behind_header (file_in f))) (sym (with_none file))
-    ∙ ap (λ (t : List LayerItem). Ok (behind_header (file_in (with_items file t)))) (sym h.1)
+    later_is file line ∙ ap (judged file line) h.0 ∙ ap (λ (f : LayerRle). Ok (after_header (file_in f))) (sym (with_none file))
+    ∙ ap (λ (t : List LayerItem). Ok (after_header (file_in (with_items file t)))) (sym h.1)
 line_is file line items (inr h) sound = data_is file line items End h.0 h.1 sound
 
 last_is : (file : LayerRle) (line : List ℕ) (items : List LayerItem) → LineSpells 62 line items Mark
     → first_fault 62 file.rule (placed_behind file.position file.items items) ≡ None
-    → with_line (behind_header (file_in file)) line ≡ Ok (behind_end (file_in (with_items file items)))
+    → with_line (after_header (file_in file)) line ≡ Ok (after_end (file_in (with_items file items)))
 last_is file line items (inl h) sound = let e : Mark ≡ End = h.2 in cc
 last_is file line items (inr h) sound = data_is file line items Mark h.0 h.1 sound
 
@@ -169,51 +169,51 @@ preamble_runs (line ∷ lines) given position (inr h) =
 
 body_runs : (lines : List (List ℕ)) (items : List LayerItem) (file : LayerRle) → BodySpells 62 lines items
     → first_fault 62 file.rule (placed_behind file.position file.items items) ≡ None
-    → Runs with_line (behind_header (file_in file)) lines (behind_header (file_in (with_items file items)))
+    → Runs with_line (after_header (file_in file)) lines (after_header (file_in (with_items file items)))
 body_runs [] items file e sound =
-    ap (λ (f : LayerRle). behind_header (file_in f)) (sym (with_none file))
-    ∙ ap (λ (t : List LayerItem). behind_header (file_in (with_items file t))) (sym e)
+    ap (λ (f : LayerRle). after_header (file_in f)) (sym (with_none file))
+    ∙ ap (λ (t : List LayerItem). after_header (file_in (with_items file t))) (sym e)
 body_runs (line ∷ lines) items file b sound =
     let none = no_fault file.rule file.position file.items b.0 b.1 items b.2 sound in
     let next = with_items file b.0 in
     let all : with_items next b.1 ≡ with_items file items =
     ap (λ (t : List LayerItem). record file { items = t }) (append_assoc file.items b.0 b.1 ∙ ap (λ (t : List LayerItem). file.items ++ t) (sym b.2)) in (
-      behind_header (file_in next),
+      after_header (file_in next),
       line_is file line b.0 b.3 none.0,
-      subst (λ (f : LayerRle). Runs with_line (behind_header (file_in next)) lines (behind_header (file_in f))) all (body_runs lines b.1 next b.4 none.1),
+      subst (λ (f : LayerRle). Runs with_line (after_header (file_in next)) lines (after_header (file_in f))) all (body_runs lines b.1 next b.4 none.1),
     )
 
-free_runs : (lines : List (List ℕ)) (file : LayerRle) → Runs with_line (behind_end (file_in file)) lines (behind_end (file_in file))
+free_runs : (lines : List (List ℕ)) (file : LayerRle) → Runs with_line (after_end (file_in file)) lines (after_end (file_in file))
 free_runs [] file = refl
-free_runs (line ∷ lines) file = (behind_end (file_in file), ended_is file line, free_runs lines file)
+free_runs (line ∷ lines) file = (after_end (file_in file), ended_is file line, free_runs lines file)
 
 abbrev pub begun : Lines
-begun = before_header no_position
+begun = before_header no_position_fields
 
-unmarked_runs : (lines : List (List ℕ)) (file : LayerRle) → IsUnmarked 62 lines file → Runs with_line begun lines (behind_header (file_in file))
+unmarked_runs : (lines : List (List ℕ)) (file : LayerRle) → IsUnmarked 62 lines file → Runs with_line begun lines (after_header (file_in file))
 unmarked_runs lines file b =
     let fresh : LayerRle = record { rule = file.rule; position = file.position; items = [] } in
-    let header : Runs with_line (before_header (position_in file.position)) (b.header ∷ b.body) (behind_header (file_in file)) = (
-      behind_header (file_in fresh),
+    let header : Runs with_line (before_header (position_in file.position)) (b.header ∷ b.body) (after_header (file_in file)) = (
+      after_header (file_in fresh),
       open_is file.position b.header ∙ ap (opened file.position) b.rule,
       body_runs b.body file.items fresh b.items b.sound,
     ) in
-    subst (λ (t : List (List ℕ)). Runs with_line begun t (behind_header (file_in file))) (sym b.whole)
-    (runs_on with_line begun (before_header (position_in file.position)) (behind_header (file_in file)) b.before (b.header ∷ b.body)
+    subst (λ (t : List (List ℕ)). Runs with_line begun t (after_header (file_in file))) (sym b.whole)
+    (runs_on with_line begun (before_header (position_in file.position)) (after_header (file_in file)) b.before (b.header ∷ b.body)
     (preamble_runs b.before default_position file.position b.preamble) header)
 
-marked_runs : (lines : List (List ℕ)) (file : LayerRle) → IsMarked 62 lines file → Runs with_line begun lines (behind_end (file_in file))
+marked_runs : (lines : List (List ℕ)) (file : LayerRle) → IsMarked 62 lines file → Runs with_line begun lines (after_end (file_in file))
 marked_runs lines file b =
     let front : LayerRle = record file { items = b.earlier } in
     let none = no_fault file.rule file.position [] b.earlier b.final file.items b.items b.sound in
     let same : with_items front b.final ≡ file = ap (λ (t : List LayerItem). record file { items = t }) (sym b.items) in
-    let last : Runs with_line (behind_header (file_in front)) (b.last ∷ b.free) (behind_end (file_in file)) = (
-      behind_end (file_in file),
-      last_is front b.last b.final b.marked none.1 ∙ ap (λ (f : LayerRle). Ok (behind_end (file_in f))) same,
+    let last : Runs with_line (after_header (file_in front)) (b.last ∷ b.free) (after_end (file_in file)) = (
+      after_end (file_in file),
+      last_is front b.last b.final b.marked none.1 ∙ ap (λ (f : LayerRle). Ok (after_end (file_in f))) same,
       free_runs b.free file,
     ) in
-    subst (λ (t : List (List ℕ)). Runs with_line begun t (behind_end (file_in file))) (sym b.whole)
-    (runs_on with_line begun (behind_header (file_in front)) (behind_end (file_in file)) b.front (b.last ∷ b.free) (unmarked_runs b.front front b.begun) last)
+    subst (λ (t : List (List ℕ)). Runs with_line begun t (after_end (file_in file))) (sym b.whole)
+    (runs_on with_line begun (after_header (file_in front)) (after_end (file_in file)) b.front (b.last ∷ b.free) (unmarked_runs b.front front b.begun) last)
 
 -- what a file says, in both
 pub record SaysRle (lines : List (List ℕ)) (file : LayerRle) (pattern : Pattern) : Type 0 where
@@ -230,8 +230,8 @@ rle_says lines file valid = (
   pattern_in file,
   record {
     is = elim valid [
-      | inl b ↦ ended_behind with_line end_of_rle begun (behind_header (file_in file)) lines 1 (unmarked_runs lines file b)
-      | inr b ↦ ended_behind with_line end_of_rle begun (behind_end (file_in file)) lines 1 (marked_runs lines file b)
+      | inl b ↦ ended_behind with_line end_of_rle begun (after_header (file_in file)) lines 1 (unmarked_runs lines file b)
+      | inr b ↦ ended_behind with_line end_of_rle begun (after_end (file_in file)) lines 1 (marked_runs lines file b)
     ];
     rule = refl;
     generation = refl;
@@ -250,11 +250,11 @@ breaks_fails front line kind (breaks_before position h e) = (
   open_is position line ∙ ap (opened position) e,
 )
 breaks_fails front line kind (by_form file u e) =
-    (behind_header (file_in file), unmarked_runs front file u, later_is file line ∙ ap (judged file line) e)
+    (after_header (file_in file), unmarked_runs front file u, later_is file line ∙ ap (judged file line) e)
 breaks_fails front line kind (by_text file items u e s sound) =
-    (behind_header (file_in file), unmarked_runs front file u, data_is file line items (Broken kind) e s sound)
+    (after_header (file_in file), unmarked_runs front file u, data_is file line items (Broken kind) e s sound)
 breaks_fails front line kind (by_item file items item rest u e s sound fault) = (
-  behind_header (file_in file),
+  after_header (file_in file),
   unmarked_runs front file u,
   data_is file line items (Spelled item rest) e s sound
       ∙ ap (λ (o : Option Kind). item_answer (with_items file items) item o >>= λ now. with_texts now (texts_of rest)) fault,

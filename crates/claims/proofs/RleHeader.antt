@@ -9,14 +9,14 @@ use Rattle.life_rle.specs.Items.{front_digits, behind_digits}
 use Rattle.life_rle.specs.Header.{after_word, after_number, rule_in, header_of as layer_header_of, rule_part as layer_rule_part, ◌>>=◌ as ◌>>?◌}
 use Rattle.claims.specs.Outcomes.{◌>>=◌}
 use Rattle.claims.specs.Rules.{Rule, rule_of}
-use Rattle.claims.specs.Rle.{behind, behind_number, rule_part, header_of}
+use Rattle.claims.specs.Rle.{after_token, after_digits, rule_part, header_of}
 use Rattle.claims.proofs.RuleLaw.{rule_in as rule_in_claims, rule_of_is}
 
 abbrev told : {X : Type 0} → Option X → Result X Kind
 told (Some x) = Ok x
 told None = Err kinds.BadHeader
 
-behind_is : (token text : List ℕ) → behind token text ≡ told (after_word token text)
+behind_is : (token text : List ℕ) → after_token token text ≡ told (after_word token text)
 behind_is token text = by (begins_with text token)
   where
     by : (v : Bool) → cond v (Ok (trim_start (drop (length token) text))) (Err kinds.BadHeader)
@@ -24,7 +24,7 @@ behind_is token text = by (begins_with text token)
     by true = refl
     by false = refl
 
-behind_number_is : (text : List ℕ) → behind_number text ≡ told (after_number text)
+behind_number_is : (text : List ℕ) → after_digits text ≡ told (after_number text)
 behind_number_is text = by (is_digit_text (front_digits text))
   where
     by : (v : Bool) → cond v (Ok (trim_start (behind_digits text))) (Err kinds.BadHeader) ≡ told (cond v (Some (trim_start (behind_digits text))) None)
@@ -41,10 +41,10 @@ module _ (next : List ℕ → Result Rule Kind) (form : List ℕ → Option (Opt
   bound (Some rest) = same rest
   bound None = refl
 
-  token_is : (token text : List ℕ) → (behind token text >>= next) ≡ ruled (after_word token text >>? form)
+  token_is : (token text : List ℕ) → (after_token token text >>= next) ≡ ruled (after_word token text >>? form)
   token_is token text = ap (λ (r : Result (List ℕ) Kind). r >>= next) (behind_is token text) ∙ bound (after_word token text)
 
-  number_is : (text : List ℕ) → (behind_number text >>= next) ≡ ruled (after_number text >>? form)
+  number_is : (text : List ℕ) → (after_digits text >>= next) ≡ ruled (after_number text >>? form)
   number_is text = ap (λ (r : Result (List ℕ) Kind). r >>= next) (behind_number_is text) ∙ bound (after_number text)
 
 text_is : (rest : List ℕ) → rule_of rest ≡ ruled (Some (Some rest))

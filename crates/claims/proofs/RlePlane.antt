@@ -16,15 +16,15 @@ use Rattle.life_rle.specs.States.{is_state_of}
 use Rattle.life_rle.specs.Pattern.{Rle as LayerRle, is_row_end, placed_item, placed_behind, cell_among, placed_fault}
 use Rattle.life_rle.specs.Pattern.{rows_in as layer_rows, columns_in as layer_columns, cell as layer_cell}
 use Rattle.claims.specs.Rules.{largest_state}
-use Rattle.claims.specs.Pattern.{edge}
-use Rattle.claims.specs.Rle.{Item, cells, row_ends, Rle, Position, rows_in, ends_rows, columns_in, row_behind, column_behind, state_by, cell, with_item}
+use Rattle.claims.specs.Pattern.{coordinate_bound}
+use Rattle.claims.specs.Rle.{Item, run, row_ends, Rle, PositionFields, rows_in, ends_rows, columns_in, row_after, column_after, state_by, cell, with_item}
 use Rattle.claims.proofs.RuleLaw.{rule_in}
 
 abbrev pub item_in : LayerItem → Item
-item_in (Cells count state) = cells count state
+item_in (Cells count state) = run count state
 item_in (RowEnds count) = row_ends count
 
-abbrev pub position_in : LayerPosition → Position
+abbrev pub position_in : LayerPosition → PositionFields
 position_in position = record { x = position.x; y = position.y; generation = position.generation }
 
 abbrev pub file_in : LayerRle → Rle
@@ -47,11 +47,11 @@ columns_are (Cells count state ∷ items) =
     ∙ ap (λ n. cond (list_any is_row_end items) n (count + n)) (columns_are items)
 columns_are (RowEnds count ∷ items) = columns_are items
 
-row_is : (position : LayerPosition) (items : List LayerItem) → row_behind (position_in position) (map item_in items) ≡ position.y +ℤ pos (layer_rows items)
+row_is : (position : LayerPosition) (items : List LayerItem) → row_after (position_in position) (map item_in items) ≡ position.y +ℤ pos (layer_rows items)
 row_is position items = ap (λ n. position.y +ℤ pos n) (rows_are items)
 
 column_is : (position : LayerPosition) (items : List LayerItem)
-    → column_behind (position_in position) (map item_in items) ≡ position.x +ℤ pos (layer_columns items)
+    → column_after (position_in position) (map item_in items) ≡ position.x +ℤ pos (layer_columns items)
 column_is position items = ap (λ n. position.x +ℤ pos n) (columns_are items)
 
 state_is : (position : LayerPosition) (before items : List LayerItem) (x y : ℤ)
@@ -61,9 +61,9 @@ state_is position before (RowEnds count ∷ items) x y =
     ap (λ (b : List Item). state_by (position_in position) b (map item_in items) x y) (sym (map-append item_in before (RowEnds count ∷ [])))
     ∙ state_is position (before ++ RowEnds count ∷ []) items x y
 state_is position before (Cells count state ∷ items) x y =
-    let rest = state_by (position_in position) (map item_in before ++ cells count state ∷ []) (map item_in items) x y in
+    let rest = state_by (position_in position) (map item_in before ++ run count state ∷ []) (map item_in items) x y in
     let b = map item_in before in
-    ap (λ z. cond (int_eq y (row_behind (position_in position) b) && int_le z x && int_lt x (z +ℤ pos count)) state rest) (column_is position before)
+    ap (λ z. cond (int_eq y (row_after (position_in position) b) && int_le z x && int_lt x (z +ℤ pos count)) state rest) (column_is position before)
     ∙ ap (λ z. cond (int_eq y z && int_le (position.x +ℤ pos (layer_columns before)) x && int_lt x
     ((position.x +ℤ pos (layer_columns before)) +ℤ pos count)) state rest) (row_is position before)
     ∙ both (int_eq y (position.y +ℤ pos (layer_rows before))) (int_le (position.x +ℤ pos (layer_columns before)) x)
@@ -111,23 +111,23 @@ ends_step file count next false e = refl
 pub with_item_is : (file : LayerRle) (item : LayerItem)
     → with_item (file_in file) (item_in item) ≡ item_answer file item (placed_fault 62 file.rule (placed_item file.position file.items item))
 with_item_is file (Cells count state) =
-    let next = map item_in file.items ++ cells count state ∷ [] in
+    let next = map item_in file.items ++ run count state ∷ [] in
     let done : Result Rle Kind = Ok (record { rule = rule_in file.rule; position = position_in file.position; items = next }) in
-    let row = row_behind (position_in file.position) (map item_in file.items) in
-    let column = column_behind (position_in file.position) (map item_in file.items) in
+    let row = row_after (position_in file.position) (map item_in file.items) in
+    let column = column_after (position_in file.position) (map item_in file.items) in
     let row' = file.position.y +ℤ pos (layer_rows file.items) in
     let column' = file.position.x +ℤ pos (layer_columns file.items) in
-    ap (λ v. cond v (Err kinds.StateRange) (cond (int_lt row edge && int_le (column +ℤ pos count) edge) done (Err kinds.OutOfPlane)))
+    ap (λ v. cond v (Err kinds.StateRange) (cond (int_lt row coordinate_bound && int_le (column +ℤ pos count) coordinate_bound) done (Err kinds.OutOfPlane)))
     (larger_is file.rule state)
     ∙ ap (λ z. cond (not (is_state_of file.rule state)) (Err kinds.StateRange)
-    (cond (int_lt z edge && int_le (column +ℤ pos count) edge) done (Err kinds.OutOfPlane))) (row_is file.position file.items)
+    (cond (int_lt z coordinate_bound && int_le (column +ℤ pos count) coordinate_bound) done (Err kinds.OutOfPlane))) (row_is file.position file.items)
     ∙ ap (λ z. cond (not (is_state_of file.rule state)) (Err kinds.StateRange)
-    (cond (int_lt row' edge && int_le (z +ℤ pos count) edge) done (Err kinds.OutOfPlane))) (column_is file.position file.items)
-    ∙ cells_step file count state next (not (is_state_of file.rule state)) (int_lt row' edge) (int_le (column' +ℤ pos count) edge)
+    (cond (int_lt row' coordinate_bound && int_le (z +ℤ pos count) coordinate_bound) done (Err kinds.OutOfPlane))) (column_is file.position file.items)
+    ∙ cells_step file count state next (not (is_state_of file.rule state)) (int_lt row' coordinate_bound) (int_le (column' +ℤ pos count) coordinate_bound)
     (sym (map-append item_in file.items (Cells count state ∷ [])))
 with_item_is file (RowEnds count) =
     let next = map item_in file.items ++ row_ends count ∷ [] in
     let done : Result Rle Kind = Ok (record { rule = rule_in file.rule; position = position_in file.position; items = next }) in
-    ap (λ z. cond (int_le (z +ℤ pos count) edge) done (Err kinds.OutOfPlane)) (row_is file.position file.items)
-    ∙ ends_step file count next (int_le ((file.position.y +ℤ pos (layer_rows file.items)) +ℤ pos count) edge)
+    ap (λ z. cond (int_le (z +ℤ pos count) coordinate_bound) done (Err kinds.OutOfPlane)) (row_is file.position file.items)
+    ∙ ends_step file count next (int_le ((file.position.y +ℤ pos (layer_rows file.items)) +ℤ pos count) coordinate_bound)
     (sym (map-append item_in file.items (RowEnds count ∷ [])))

@@ -18,7 +18,7 @@ use Rattle.life_rle.specs.Position.{Field, Corner, Generation, Other, signed_num
 use Rattle.life_rle.specs.Position.{with_field as layer_with_field}
 use Rattle.claims.specs.Outcomes.{◌>>=◌}
 use Rattle.claims.specs.Pattern.{is_coordinate}
-use Rattle.claims.specs.Rle.{Position, number_of, with_corner, with_field, with_fields, no_position}
+use Rattle.claims.specs.Rle.{PositionFields, number_of, with_corner, with_field, with_fields, no_position_fields}
 use Rattle.claims.proofs.McLaw.{generation_is}
 use Rattle.claims.proofs.McPlane.{all_at}
 use Rattle.claims.proofs.RlePlane.{position_in}
@@ -172,7 +172,7 @@ generation_step : (p : LayerPosition) (r : Result ℕ Kind)
 generation_step p (Ok n) = refl
 generation_step p (Err kind) = refl
 
-field_step : (u v : Bool) (a b : Result Position Kind) (p : LayerPosition) (a' b' : Result Field Kind)
+field_step : (u v : Bool) (a b : Result PositionFields Kind) (p : LayerPosition) (a' b' : Result Field Kind)
     → a ≡ result_map (λ found. position_in (layer_with_field p found)) a' → b ≡ result_map (λ found. position_in (layer_with_field p found)) b'
     → cond u a (cond v b (Ok (position_in p))) ≡ result_map (λ found. position_in (layer_with_field p found)) (cond u a' (cond v b' (Ok Other)))
 field_step true v a b p a' b' e f = e
@@ -189,7 +189,7 @@ field_is p field =
 fields_are : (p : LayerPosition) (fields : List (List ℕ)) → with_fields (position_in p) fields ≡ result_map position_in (position_with 62 p fields)
 fields_are p [] = refl
 fields_are p (field ∷ fields) =
-    ap (λ (r : Result Position Kind). r >>= λ next. with_fields next fields) (field_is p field) ∙ by (λ q. fields_are q fields) (field_of 62 field)
+    ap (λ (r : Result PositionFields Kind). r >>= λ next. with_fields next fields) (field_is p field) ∙ by (λ q. fields_are q fields) (field_of 62 field)
   where
     by : ((q : LayerPosition) → with_fields (position_in q) fields ≡ result_map position_in (position_with 62 q fields)) → (found : Result Field Kind)
         → (result_map (λ f. position_in (layer_with_field p f)) found >>= λ next. with_fields next fields)
@@ -197,5 +197,5 @@ fields_are p (field ∷ fields) =
     by below (Ok f) = below (layer_with_field p f)
     by below (Err kind) = refl
 
-pub position_is : (line : List ℕ) → with_fields no_position (words_of (drop 6 line)) ≡ result_map position_in (position_of 62 line)
+pub position_is : (line : List ℕ) → with_fields no_position_fields (words_of (drop 6 line)) ≡ result_map position_in (position_of 62 line)
 position_is line = fields_are default_position (words_of (drop 6 line))

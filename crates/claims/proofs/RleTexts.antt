@@ -16,7 +16,7 @@ use Rattle.life_rle.specs.Items.{Next, Spelled, Broken, front_digits, behind_dig
 use Rattle.life_rle.specs.Items.{cells_of as layer_cells_of}
 use Rattle.life_rle.specs.States.{single_state, prefixed_number, prefixed_state, with_rest, state_at}
 use Rattle.claims.specs.Outcomes.{◌>>=◌}
-use Rattle.claims.specs.Rle.{Item, row_ends, letter_state, prefixed, state_of, count_of, cells_of, item_of, texts_of}
+use Rattle.claims.specs.Rle.{Item, row_ends, letter_state, prefixed, state_of, count_of, run_of, item_of, texts_of}
 use Rattle.claims.proofs.RlePlane.{item_in}
 
 -- a digit or a prefix of a state
@@ -222,9 +222,9 @@ moved rest {n} {m} {r} {s} e f h = subst (λ x. Found rest x r) (sym e) (subst (
 
 -- what the text behind the digits says
 abbrev last_item : ℕ → List ℕ → Result Item Kind
-last_item count last = cond (bytes_eq last (codes "$")) (Ok (row_ends count)) (cells_of count (state_of last))
+last_item count last = cond (bytes_eq last (codes "$")) (Ok (row_ends count)) (run_of count (state_of last))
 
-state_found : (count : ℕ) (rest : List ℕ) (o : Option ℕ) → Found rest (layer_cells_of count (with_rest o rest)) (cells_of count o)
+state_found : (count : ℕ) (rest : List ℕ) (o : Option ℕ) → Found rest (layer_cells_of count (with_rest o rest)) (run_of count o)
 state_found count rest (Some state) = spelled (Cells count state)
 state_found count rest None = broken kinds.BadItem
 
@@ -233,13 +233,13 @@ one_byte count c u h = elim (cases_Bool (c == 36)) [
   | inl e ↦
       let n : item_behind count (c ∷ u)
       ≡ Spelled (RowEnds count) u = ap (λ v. cond v (Spelled (RowEnds count) u) (layer_cells_of count (state_at (c ∷ u)))) e in
-      let r : last_item count (c ∷ []) ≡ Ok (row_ends count) = ap (λ v. cond (v && true) (Ok (row_ends count)) (cells_of count (state_of (c ∷ [])))) e in
+      let r : last_item count (c ∷ []) ≡ Ok (row_ends count) = ap (λ v. cond (v && true) (Ok (row_ends count)) (run_of count (state_of (c ∷ [])))) e in
       moved u n r (spelled (RowEnds count))
   | inr e ↦
       let n : item_behind count (c ∷ u) ≡ layer_cells_of count (with_rest (single_state c) u) =
       ap (λ v. cond v (Spelled (RowEnds count) u) (layer_cells_of count (state_at (c ∷ u)))) e ∙ ap (layer_cells_of count) (single u) in
-      let r : last_item count (c ∷ []) ≡ cells_of count (single_state c) =
-      ap (λ v. cond (v && true) (Ok (row_ends count)) (cells_of count (state_of (c ∷ [])))) e ∙ ap (cells_of count) (single_is c) in
+      let r : last_item count (c ∷ []) ≡ run_of count (single_state c) =
+      ap (λ v. cond (v && true) (Ok (row_ends count)) (run_of count (state_of (c ∷ [])))) e ∙ ap (run_of count) (single_is c) in
       moved u n r (state_found count u (single_state c))
 ]
   where
@@ -258,8 +258,8 @@ two_bytes count c d u tail h k =
     let n : item_behind count (c ∷ d ∷ u) ≡ layer_cells_of count (with_rest (prefixed_state c d) u) =
     ap (λ v. cond v (Spelled (RowEnds count) (d ∷ u)) (layer_cells_of count (state_at (c ∷ d ∷ u)))) e
     ∙ ap (λ o. layer_cells_of count (option_or (with_rest o (d ∷ u)) (with_rest (prefixed_state c d) u))) (prefix_single c h) in
-    let r : last_item count (c ∷ d ∷ tail) ≡ cells_of count (prefixed_state c d) =
-    ap (λ v. cond (v && bytes_eq (d ∷ tail) []) (Ok (row_ends count)) (cells_of count (state_of (c ∷ d ∷ tail)))) e ∙ ap (cells_of count) k in
+    let r : last_item count (c ∷ d ∷ tail) ≡ run_of count (prefixed_state c d) =
+    ap (λ v. cond (v && bytes_eq (d ∷ tail) []) (Ok (row_ends count)) (run_of count (state_of (c ∷ d ∷ tail)))) e ∙ ap (run_of count) k in
     moved u n r (state_found count u (prefixed_state c d))
 
 at_rest : (n : Next) (r : Result Item Kind) {a b : List ℕ} → a ≡ b → Found b n r → Found a n r
@@ -271,8 +271,8 @@ alone count c h =
     let e = prefix_no_end c h in
     let n : item_behind count (c ∷ []) ≡ layer_cells_of count (with_rest (single_state c) []) =
     ap (λ v. cond v (Spelled (RowEnds count) []) (layer_cells_of count (state_at (c ∷ [])))) e in
-    let r : last_item count (c ∷ []) ≡ cells_of count (single_state c) =
-    ap (λ v. cond (v && true) (Ok (row_ends count)) (cells_of count (state_of (c ∷ [])))) e ∙ ap (cells_of count) (single_is c) in
+    let r : last_item count (c ∷ []) ≡ run_of count (single_state c) =
+    ap (λ v. cond (v && true) (Ok (row_ends count)) (run_of count (state_of (c ∷ [])))) e ∙ ap (run_of count) (single_is c) in
     moved [] n r (state_found count [] (single_state c))
 
 -- a prefix and what is no letter
@@ -286,8 +286,8 @@ not_two count c d u rest h k =
     ∙ ap (λ o. layer_cells_of count (option_or (with_rest o (d ∷ u)) (with_rest (prefixed_state c d) u))) (prefix_single c h)
     ∙ ap (λ o. layer_cells_of count (with_rest o u)) no in
     let r : last_item count (c ∷ d ∷ text_of u) ≡ Err kinds.BadItem =
-    ap (λ v. cond (v && bytes_eq (d ∷ text_of u) []) (Ok (row_ends count)) (cells_of count (state_of (c ∷ d ∷ text_of u)))) e
-    ∙ ap (cells_of count) (no_state (text_of u)) in
+    ap (λ v. cond (v && bytes_eq (d ∷ text_of u) []) (Ok (row_ends count)) (run_of count (state_of (c ∷ d ∷ text_of u)))) e
+    ∙ ap (run_of count) (no_state (text_of u)) in
     moved rest n r (broken kinds.BadItem)
   where
     no_state : (tail : List ℕ) → state_of (c ∷ d ∷ tail) ≡ None

@@ -11,7 +11,7 @@ use Rattle.claims.specs.Outcomes.{◌>>=◌}
 use Rattle.claims.specs.Rules.{Rule, counting, named, rule_of, digits_of, rule_text}
 use Rattle.claims.specs.Pattern.{Pattern}
 use Rattle.claims.specs.Macrocell.{Macrocell, first_line, with_line}
-use Rattle.claims.specs.Rle.{Position, Rle, before_header, behind_header, behind_end, state_of}
+use Rattle.claims.specs.Rle.{PositionFields, Rle, before_header, after_header, after_end, state_of}
 use Rattle.claims.specs.Rle.{with_line as with_rle_line}
 use Rattle.claims.specs.Files.{pattern_of, fault_at}
 use Rattle.claims.specs.Generation.{next_life}
@@ -323,15 +323,15 @@ later_too_long : (file : Macrocell) (line : List ℕ) → 2 ^ 20 < length line �
 unfolding with_line
 later_too_long file line h = rw (long line h) refl
 
-open_too_long : (position : Position) (line : List ℕ) → 2 ^ 20 < length line → with_rle_line (before_header position) line ≡ Err kinds.LineTooLong
+open_too_long : (position : PositionFields) (line : List ℕ) → 2 ^ 20 < length line → with_rle_line (before_header position) line ≡ Err kinds.LineTooLong
 unfolding with_rle_line
 open_too_long position line h = rw (long line h) refl
 
-data_too_long : (file : Rle) (line : List ℕ) → 2 ^ 20 < length line → with_rle_line (behind_header file) line ≡ Err kinds.LineTooLong
+data_too_long : (file : Rle) (line : List ℕ) → 2 ^ 20 < length line → with_rle_line (after_header file) line ≡ Err kinds.LineTooLong
 unfolding with_rle_line
 data_too_long file line h = rw (long line h) refl
 
-ended_is_free : (file : Rle) (line : List ℕ) → with_rle_line (behind_end file) line ≡ Ok (behind_end file)
+ended_is_free : (file : Rle) (line : List ℕ) → with_rle_line (after_end file) line ≡ Ok (after_end file)
 unfolding with_rle_line
 ended_is_free file line = refl
 

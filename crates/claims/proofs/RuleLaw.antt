@@ -14,13 +14,13 @@ use Rattle.life_base.specs.declared.rule.Near.{Near}
 use Rattle.life_base.specs.declared.rule.Near.TheVariants.{Moore, VonNeumann}
 use Rattle.life_base.specs.declared.rule.Rule.{Rule as LayerRule}
 use Rattle.life_base.specs.declared.rule.Rule.TheVariants.{Life, Named}
-use Rattle.claims.specs.Rules.{Rule, counting, named, counts, counts_in, has, Digits, form, digits_of, counting_rule, are_up_to_four, lettered_rule, word_rule, other_rule, rule_of}
+use Rattle.claims.specs.Rules.{Rule, counting, named, neighbour_counts, counts_in, has, Digits, digits_by_marks, digits_of, counting_rule, are_up_to_four, lettered_rule, word_rule, other_rule, rule_of}
 use Rattle.claims.proofs.Bits.{counts-digit_set, zero-digit_set, four-digit_set}
 
 -- a rule of the layer in the words of the claims
 abbrev pub rule_in : LayerRule → Rule
 rule_in (Life rule) =
-    counting (most_neighbours rule.near) (filter (has_digit rule.sets.births) counts) (filter (has_digit rule.sets.survivals) counts)
+    counting (most_neighbours rule.near) (filter (has_digit rule.sets.births) neighbour_counts) (filter (has_digit rule.sets.survivals) neighbour_counts)
 rule_in (Named name) = named name
 
 -- the sets of digits
@@ -36,7 +36,7 @@ choose_one : (u : Bool) (a : Option Digits) → option_map sets_in (cond u a Non
 choose_one true a = refl
 choose_one false a = refl
 
-form_is : (marks : List ℕ) (texts : List (List ℕ)) → option_map sets_in (form marks texts) ≡ life_form texts marks
+form_is : (marks : List ℕ) (texts : List (List ℕ)) → option_map sets_in (digits_by_marks marks texts) ≡ life_form texts marks
 form_is marks [] = refl
 form_is marks ([] ∷ []) = refl
 form_is marks ((x ∷ a) ∷ []) = refl
@@ -57,13 +57,13 @@ unfolding digits_of life_sets
 sets_are text = form_is (marks text) (digit_groups text)
 
 -- the rule of digits
-counting_step : (near : Near) (v : Bool) (b s : List ℕ) (sets : DigitSets) → filter (has_digit sets.births) counts ≡ b
-    → filter (has_digit sets.survivals) counts ≡ s
+counting_step : (near : Near) (v : Bool) (b s : List ℕ) (sets : DigitSets) → filter (has_digit sets.births) neighbour_counts ≡ b
+    → filter (has_digit sets.survivals) neighbour_counts ≡ s
     → cond v (Err kinds.BirthOnZero) (Ok (counting (most_neighbours near) b s))
     ≡ result_map rule_in (cond v (Err kinds.BirthOnZero) (Ok (Life (record { sets = sets; near = near }))))
 counting_step near true b s sets e f = refl
 counting_step near false b s sets e f = ap (λ (x : List ℕ). Ok (counting (most_neighbours near) x s)) (sym e)
-    ∙ ap (λ (x : List ℕ). Ok (counting (most_neighbours near) (filter (has_digit sets.births) counts) x)) (sym f)
+    ∙ ap (λ (x : List ℕ). Ok (counting (most_neighbours near) (filter (has_digit sets.births) neighbour_counts) x)) (sym f)
 
 counting_is : (near : Near) (digits : Digits) → counting_rule (most_neighbours near) digits ≡ result_map rule_in (life_rule near (sets_in digits))
 counting_is near digits =

@@ -8,7 +8,7 @@ use Rattle.life_base.specs.declared.fault.Fault.{Fault}
 use Rattle.claims.specs.Outcomes.{◌>>=◌}
 use Rattle.claims.specs.Pattern.{Pattern}
 use Rattle.claims.specs.Macrocell.{first_line, with_line, cell}
-use Rattle.claims.specs.Rle.{Lines, before_header, behind_header, behind_end, no_position}
+use Rattle.claims.specs.Rle.{Lines, before_header, after_header, after_end, no_position_fields}
 use Rattle.claims.specs.Rle.{with_line as with_rle_line, cell as rle_cell}
 
 -- the fault of a line; a number above 2 ^ 64 - 1 is told as that
@@ -37,14 +37,14 @@ macrocell_of (line ∷ lines) =
 -- what lines of extended RLE say at their end: `!` may be lacking, and a header may not
 abbrev pub end_of_rle : Lines → Result Pattern Kind
 end_of_rle (before_header position) = Err NoHeader
-end_of_rle (behind_header file) = Ok (record { rule = file.rule; generation = file.position.generation; cell = rle_cell file })
-end_of_rle (behind_end file) = Ok (record { rule = file.rule; generation = file.position.generation; cell = rle_cell file })
+end_of_rle (after_header file) = Ok (record { rule = file.rule; generation = file.position.generation; cell = rle_cell file })
+end_of_rle (after_end file) = Ok (record { rule = file.rule; generation = file.position.generation; cell = rle_cell file })
 
 -- what a file of either format says
 unfoldable pub pattern_of : List ℕ → Result Pattern Fault
 pattern_of bytes =
     if begins_with bytes (codes "[M2]") then macrocell_of (lines_of bytes)
-    else read_lines with_rle_line end_of_rle 1 (before_header no_position) (lines_of bytes)
+    else read_lines with_rle_line end_of_rle 1 (before_header no_position_fields) (lines_of bytes)
 
 -- the fault of no line
 abbrev pub fault_of : Kind → Fault

@@ -29,8 +29,8 @@ abbrev pub next_life : ℕ → List ℕ → List ℕ → (ℤ → ℤ → ℕ) �
 next_life neighbours births survivals cell x y =
     let around = if neighbours == 4 then four_around cell x y else eight_around cell x y in
     let live = count_by (λ state. state == 1) around in
-    let counts = if cell x y == 0 then births else if cell x y == 1 then survivals else [] in
-    if list_any (λ n. n == live) counts then 1 else 0
+    let alive_at = if cell x y == 0 then births else if cell x y == 1 then survivals else [] in
+    if list_any (λ n. n == live) alive_at then 1 else 0
 
 -- the list has every cell with a state other than 0, once, row by row from the north, and in a row from the west
 pub record AreCells (cell : ℤ → ℤ → ℕ) (cells : List Cell) : Type 0 where
@@ -61,7 +61,7 @@ pub record IsNext (neighbours : ℕ) (births survivals : List ℕ) (now next : P
   pub rule : now.rule ≡ counting neighbours births survivals
   pub same_rule : next.rule ≡ now.rule
   pub generation : next.generation ≡ now.generation + 1
-  pub room : now.generation ≢ 2 ^ 64 - 1
+  pub not_last : now.generation ≢ 2 ^ 64 - 1
   pub few : HasMoreCells (2 ^ 20) now.cell → ⊥
   pub inside : LeavesPlane (next_life neighbours births survivals now.cell) → ⊥
   pub cells : (x y : ℤ) → next.cell x y ≡ next_life neighbours births survivals now.cell x y
@@ -86,7 +86,7 @@ pub record IsNextByTable (table : Table) (now next : Pattern) : Type 0 where
   pub rule : now.rule ≡ named table.name
   pub same_rule : next.rule ≡ now.rule
   pub generation : next.generation ≡ now.generation + 1
-  pub room : now.generation ≢ 2 ^ 64 - 1
+  pub not_last : now.generation ≢ 2 ^ 64 - 1
   pub few : HasMoreCells (2 ^ 20) now.cell → ⊥
   pub known : (x y : ℤ) → now.cell x y < unwrap_or table.n_states 0
   pub inside : (x y : ℤ) → (is_coordinate x && is_coordinate y) ≡ false → next.cell x y ≡ 0

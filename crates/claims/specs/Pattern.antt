@@ -9,8 +9,8 @@ pub record Pattern : Type 0 where
   pub cell : ℤ → ℤ → ℕ
 
 -- the first coordinate after those of the plane, which has -2 ^ 61 to 2 ^ 61 - 1
-abbrev pub edge : ℤ
-edge = pos (2 ^ 61)
+abbrev pub coordinate_bound : ℤ
+coordinate_bound = pos (2 ^ 61)
 
 abbrev pub is_coordinate : ℤ → Bool
-is_coordinate z = int_le (neg_ℤ edge) z && int_lt z edge
+is_coordinate z = int_le (neg_ℤ coordinate_bound) z && int_lt z coordinate_bound

@@ -19,24 +19,24 @@ use Rattle.life_base.specs.declared.kind.Kind.{Kind}
 use Rattle.life_base.specs.declared.kind.Kind.TheVariants.{NoHeader, BadHeader, BadNumber, TooLarge, BadItem, ZeroCount, StateRange, OutOfPlane, LateHeader, SecondHeader, LineTooLong}
 use Rattle.claims.specs.Outcomes.{◌>>=◌}
 use Rattle.claims.specs.Rules.{Rule, rule_of, default_rule, largest_state}
-use Rattle.claims.specs.Pattern.{edge, is_coordinate}
+use Rattle.claims.specs.Pattern.{coordinate_bound, is_coordinate}
 use Rattle.claims.specs.Macrocell.{is_command, generation_of}
 
 -- where the first item stands, and the generation
-pub record Position : Type 0 where
+pub record PositionFields : Type 0 where
   pub x : ℤ
   pub y : ℤ
   pub generation : ℕ
 
 -- cells of one state side by side, or ends of rows
 pub data Item : Type 0 where
-  cells : (count state : ℕ) → Item
+  run : (count state : ℕ) → Item
   row_ends : (count : ℕ) → Item
 
 -- what the lines from the header on say, and the position that the lines before it said
 pub record Rle : Type 0 where
   pub rule : Rule
-  pub position : Position
+  pub position : PositionFields
   pub items : List Item
 
 -- ---- the plane
@@ -44,35 +44,35 @@ pub record Rle : Type 0 where
 -- the rows that items end
 abbrev pub rows_in : List Item → ℕ
 rows_in [] = 0
-rows_in (cells count state ∷ items) = rows_in items
+rows_in (run count state ∷ items) = rows_in items
 rows_in (row_ends count ∷ items) = count + rows_in items
 
 abbrev pub ends_rows : List Item → Bool
 ends_rows [] = false
-ends_rows (cells count state ∷ items) = ends_rows items
+ends_rows (run count state ∷ items) = ends_rows items
 ends_rows (row_ends count ∷ items) = true
 
 -- the columns that items fill after the last end of rows
 abbrev pub columns_in : List Item → ℕ
 columns_in [] = 0
-columns_in (cells count state ∷ items) = if ends_rows items then columns_in items else count + columns_in items
+columns_in (run count state ∷ items) = if ends_rows items then columns_in items else count + columns_in items
 columns_in (row_ends count ∷ items) = columns_in items
 
 -- the row and the first column of what stands after these items
-abbrev pub row_behind : Position → List Item → ℤ
-row_behind position before = position.y +ℤ pos (rows_in before)
+abbrev pub row_after : PositionFields → List Item → ℤ
+row_after position before = position.y +ℤ pos (rows_in before)
 
-abbrev pub column_behind : Position → List Item → ℤ
-column_behind position before = position.x +ℤ pos (columns_in before)
+abbrev pub column_after : PositionFields → List Item → ℤ
+column_after position before = position.x +ℤ pos (columns_in before)
 
 -- the state of the cell (x, y), by the items that stand after `before`: that of the cells that cover it, and 0 where none do
-abbrev pub state_by : Position → List Item → List Item → ℤ → ℤ → ℕ
+abbrev pub state_by : PositionFields → List Item → List Item → ℤ → ℤ → ℕ
 state_by position before [] x y = 0
 state_by position before (row_ends count ∷ items) x y = state_by position (before ++ row_ends count ∷ []) items x y
-state_by position before (cells count state ∷ items) x y =
-    let column = column_behind position before in
-    if int_eq y (row_behind position before) && int_le column x && int_lt x (column +ℤ pos count)
-    then state else state_by position (before ++ cells count state ∷ []) items x y
+state_by position before (run count state ∷ items) x y =
+    let column = column_after position before in
+    if int_eq y (row_after position before) && int_le column x && int_lt x (column +ℤ pos count)
+    then state else state_by position (before ++ run count state ∷ []) items x y
 
 -- the state of the cell (x, y)
 abbrev pub cell : Rle → ℤ → ℤ → ℕ
@@ -81,12 +81,12 @@ cell file x y = state_by file.position [] file.items x y
 -- The items with one more after them, if it may stand there: its state is one of the rule, and its cells lie in the plane, those of state 0 too.
 -- Ends of rows go as far as the row after the last one. The order of the two tests and the plane are this project's own.
 abbrev pub with_item : Rle → Item → Result Rle Kind
-with_item file (cells count state) =
+with_item file (run count state) =
     if nat_lt (largest_state file.rule) state then Err StateRange
-    else if int_lt (row_behind file.position file.items) edge && int_le (column_behind file.position file.items +ℤ pos count) edge
-    then Ok (record file { items = file.items ++ cells count state ∷ [] }) else Err OutOfPlane
+    else if int_lt (row_after file.position file.items) coordinate_bound && int_le (column_after file.position file.items +ℤ pos count) coordinate_bound
+    then Ok (record file { items = file.items ++ run count state ∷ [] }) else Err OutOfPlane
 with_item file (row_ends count) =
-    if int_le (row_behind file.position file.items +ℤ pos count) edge
+    if int_le (row_after file.position file.items +ℤ pos count) coordinate_bound
     then Ok (record file { items = file.items ++ row_ends count ∷ [] }) else Err OutOfPlane
 
 -- ---- an item
@@ -114,16 +114,16 @@ count_of digits =
     else if nat_lt (2 ^ 62) (value_of digits) then Err TooLarge
     else Ok (value_of digits)
 
-abbrev pub cells_of : ℕ → Option ℕ → Result Item Kind
-cells_of count (Some state) = Ok (cells count state)
-cells_of count None = Err BadItem
+abbrev pub run_of : ℕ → Option ℕ → Result Item Kind
+run_of count (Some state) = Ok (run count state)
+run_of count None = Err BadItem
 
 -- the item of a text: a count, and `$` or a state right after it
 abbrev pub item_of : List ℕ → Result Item Kind
 item_of text =
     count_of (take_while is_ascii_digit text) >>= λ count.
     let last = drop (prefix_len is_ascii_digit text) text in
-    if bytes_eq last (codes "$") then Ok (row_ends count) else cells_of count (state_of last)
+    if bytes_eq last (codes "$") then Ok (row_ends count) else run_of count (state_of last)
 
 -- The texts of a line: each ends with the first byte that is neither a digit nor a prefix of a state, or with the line. So an item is one text, and so
 -- is `!`, and a byte of whitespace between items. No text goes on into the next line.
@@ -136,16 +136,16 @@ texts_of (b ∷ line) =
 
 -- how far the lines so far go: to a line before the header, to one from the header on, or to the `!` that ends the pattern
 pub data Lines : Type 0 where
-  before_header : Position → Lines
-  behind_header : Rle → Lines
-  behind_end : Rle → Lines
+  before_header : PositionFields → Lines
+  after_header : Rle → Lines
+  after_end : Rle → Lines
 
 -- a line of data: items, and perhaps `!`, after which all is passed over
 abbrev pub with_texts : Rle → List (List ℕ) → Result Lines Kind
-with_texts file [] = Ok (behind_header file)
+with_texts file [] = Ok (after_header file)
 with_texts file (text ∷ texts) =
     if is_blank text then with_texts file texts
-    else if bytes_eq text (codes "!") then Ok (behind_end file)
+    else if bytes_eq text (codes "!") then Ok (after_end file)
     else (item_of text >>= λ item. with_item file item >>= λ next. with_texts next texts)
 
 -- the number of a text: digits, and perhaps `-` before them
@@ -156,54 +156,54 @@ number_of text =
     else Ok (if begins_with text (codes "-") then neg_ℤ (pos (value_of digits)) else pos (value_of digits))
 
 -- a corner from the texts between commas: two numbers, with no whitespace around them, both in the plane
-abbrev pub with_corner : Position → List (List ℕ) → Result Position Kind
+abbrev pub with_corner : PositionFields → List (List ℕ) → Result PositionFields Kind
 with_corner position (left ∷ right ∷ []) =
     number_of left >>= λ x. number_of right >>= λ y.
     if is_coordinate x && is_coordinate y then Ok (record position { x = x; y = y }) else Err OutOfPlane
 with_corner position _ = Err BadNumber
 
 -- one field of a position line: `Pos=X,Y`, `Gen=G`, or another one, which is passed over
-abbrev pub with_field : Position → List ℕ → Result Position Kind
+abbrev pub with_field : PositionFields → List ℕ → Result PositionFields Kind
 with_field position field =
     if begins_with field (codes "Pos=") then with_corner position (slice_split (λ b. b == byte ",") (drop 4 field))
     else if begins_with field (codes "Gen=") then (generation_of (drop 4 field) >>= λ generation. Ok (record position { generation = generation }))
     else Ok position
 
-abbrev pub with_fields : Position → List (List ℕ) → Result Position Kind
+abbrev pub with_fields : PositionFields → List (List ℕ) → Result PositionFields Kind
 with_fields position [] = Ok position
 with_fields position (field ∷ fields) = with_field position field >>= λ next. with_fields next fields
 
 -- Without a position line the first item stands at (0, 0), and the generation is 0. Each position line begins anew from there.
-abbrev pub no_position : Position
-no_position = record { x = pos 0; y = pos 0; generation = 0 }
+abbrev pub no_position_fields : PositionFields
+no_position_fields = record { x = pos 0; y = pos 0; generation = 0 }
 
 -- the rest of a text after a token and the whitespace that follows it
-abbrev pub behind : List ℕ → List ℕ → Result (List ℕ) Kind
-behind token text = if begins_with text token then Ok (trim_start (drop (length token) text)) else Err BadHeader
+abbrev pub after_token : List ℕ → List ℕ → Result (List ℕ) Kind
+after_token token text = if begins_with text token then Ok (trim_start (drop (length token) text)) else Err BadHeader
 
-abbrev pub behind_number : List ℕ → Result (List ℕ) Kind
-behind_number text =
+abbrev pub after_digits : List ℕ → Result (List ℕ) Kind
+after_digits text =
     if is_digit_text (take_while is_ascii_digit text) then Ok (trim_start (drop (prefix_len is_ascii_digit text) text)) else Err BadHeader
 
 -- the rule of a header line, after its two sizes: all that follows `rule =`, or B3/S23 where the line ends there
 abbrev pub rule_part : List ℕ → Result Rule Kind
 rule_part [] = Ok default_rule
 rule_part (b ∷ text) = do
-  rest ← behind (codes ",") (b ∷ text)
-  rest ← behind (codes "rule") rest
-  rest ← behind (codes "=") rest
+  rest ← after_token (codes ",") (b ∷ text)
+  rest ← after_token (codes "rule") rest
+  rest ← after_token (codes "=") rest
   rule_of rest
 
 -- the rule of `x = W, y = H` or `x = W, y = H, rule = R`; the two sizes are digits, and count for nothing
 abbrev pub header_of : List ℕ → Result Rule Kind
 header_of line = do
-  rest ← behind (codes "x") line
-  rest ← behind (codes "=") rest
-  rest ← behind_number rest
-  rest ← behind (codes ",") rest
-  rest ← behind (codes "y") rest
-  rest ← behind (codes "=") rest
-  rest ← behind_number rest
+  rest ← after_token (codes "x") line
+  rest ← after_token (codes "=") rest
+  rest ← after_digits rest
+  rest ← after_token (codes ",") rest
+  rest ← after_token (codes "y") rest
+  rest ← after_token (codes "=") rest
+  rest ← after_digits rest
   rule_part rest
 
 -- What the lines so far say with one more after them, or the first rule that this one breaks. After the header a line that begins with `x`, but not
@@ -212,15 +212,15 @@ unfoldable pub with_line : Lines → List ℕ → Result Lines Kind
 with_line (before_header position) line =
     if is_too_long line then Err LineTooLong
     else if is_blank line then Ok (before_header position)
-    else if is_command (codes "#CXRLE") line then (with_fields no_position (words_of (drop 6 line)) >>= λ here. Ok (before_header here))
+    else if is_command (codes "#CXRLE") line then (with_fields no_position_fields (words_of (drop 6 line)) >>= λ here. Ok (before_header here))
     else if begins_with line (codes "#") then Ok (before_header position)
-    else if begins_with line (codes "x") then (header_of line >>= λ rule. Ok (behind_header (record { rule = rule; position = position; items = [] })))
+    else if begins_with line (codes "x") then (header_of line >>= λ rule. Ok (after_header (record { rule = rule; position = position; items = [] })))
     else Err NoHeader
-with_line (behind_header file) line =
+with_line (after_header file) line =
     if is_too_long line then Err LineTooLong
-    else if is_blank line then Ok (behind_header file)
+    else if is_blank line then Ok (after_header file)
     else if is_command (codes "#CXRLE") line then Err LateHeader
-    else if begins_with line (codes "#") then Ok (behind_header file)
+    else if begins_with line (codes "#") then Ok (after_header file)
     else if begins_with line (codes "x ") || begins_with line (codes "x=") then Err SecondHeader
     else with_texts file (texts_of line)
-with_line (behind_end file) line = Ok (behind_end file)
+with_line (after_end file) line = Ok (after_end file)

@@ -17,8 +17,8 @@ pub data Rule : Type 0 where
   named : (name : List ℕ) → Rule
 
 -- the counts that a rule may name
-abbrev pub counts : List ℕ
-counts = 0 ∷ 1 ∷ 2 ∷ 3 ∷ 4 ∷ 5 ∷ 6 ∷ 7 ∷ 8 ∷ []
+abbrev pub neighbour_counts : List ℕ
+neighbour_counts = 0 ∷ 1 ∷ 2 ∷ 3 ∷ 4 ∷ 5 ∷ 6 ∷ 7 ∷ 8 ∷ []
 
 -- a text has this byte
 abbrev pub has : List ℕ → ℕ → Bool
@@ -26,7 +26,7 @@ has text b = list_any (λ c. c == b) text
 
 -- the counts whose digits a text has, in rising order
 abbrev pub counts_in : List ℕ → List ℕ
-counts_in text = filter (λ n. has text (byte "0" + n)) counts
+counts_in text = filter (λ n. has text (byte "0" + n)) neighbour_counts
 
 -- a byte that is none of the digits `0` to `8`
 abbrev pub is_mark : ℕ → Bool
@@ -39,19 +39,19 @@ pub record Digits : Type 0 where
 
 -- The five forms, D for any digits `0` to `8`: `BD/SD` and `SD/BD`, `BDSD` and `SDBD`, `D/D`. They are told by their marks, and by the digits
 -- before, between and after these.
-abbrev pub form : List ℕ → List (List ℕ) → Option Digits
-form marks ([] ∷ d ∷ [] ∷ e ∷ []) =
+abbrev pub digits_by_marks : List ℕ → List (List ℕ) → Option Digits
+digits_by_marks marks ([] ∷ d ∷ [] ∷ e ∷ []) =
     if bytes_eq marks (codes "B/S") then Some (record { births = d; survivals = e })
     else if bytes_eq marks (codes "S/B") then Some (record { births = e; survivals = d }) else None
-form marks ([] ∷ d ∷ e ∷ []) =
+digits_by_marks marks ([] ∷ d ∷ e ∷ []) =
     if bytes_eq marks (codes "BS") then Some (record { births = d; survivals = e })
     else if bytes_eq marks (codes "SB") then Some (record { births = e; survivals = d }) else None
-form marks (d ∷ e ∷ []) = if bytes_eq marks (codes "/") then Some (record { births = e; survivals = d }) else None
-form marks _ = None
+digits_by_marks marks (d ∷ e ∷ []) = if bytes_eq marks (codes "/") then Some (record { births = e; survivals = d }) else None
+digits_by_marks marks _ = None
 
 -- the digits of a text of one of the five forms, where a small letter is as good as a capital one
 unfoldable pub digits_of : List ℕ → Option Digits
-digits_of word = form (map to_ascii_uppercase (filter is_mark word)) (slice_split is_mark word)
+digits_of word = digits_by_marks (map to_ascii_uppercase (filter is_mark word)) (slice_split is_mark word)
 
 -- the rule of these digits, unless cells are born on 0
 abbrev pub counting_rule : ℕ → Digits → Result Rule Kind

@@ -53,7 +53,7 @@ pub data Section : Type 0 where
   ahead : Section
   named_rule : (name : List ℕ) → Section
   in_table : Table → Section
-  behind : Table → Section
+  after_table : Table → Section
 
 -- ---- descriptors
 
@@ -164,12 +164,12 @@ with_entries table number inputs output =
 abbrev pub with_transition : Table → ℕ → List ℕ → Result Table Kind
 with_transition table number text =
     let texts = transition_texts text in
-    let inputs = unwrap_or table.neighbours 0 + 1 in
-    if not (length texts == inputs + 1) then Err BadTransition
-    else elim (entries_of table (take inputs texts)) [
+    let places = unwrap_or table.neighbours 0 + 1 in
+    if not (length texts == places + 1) then Err BadTransition
+    else elim (entries_of table (take places texts)) [
       | None ↦ Err BadTransition
       | Some entries ↦
-          elim (entry_of table (slice_index_or texts inputs [])) [ None ↦ Err BadTransition | Some output ↦ with_entries table number entries output ]
+          elim (entry_of table (slice_index_or texts places [])) [ None ↦ Err BadTransition | Some output ↦ with_entries table number entries output ]
     ]
 
 -- ---- the lines
@@ -193,21 +193,21 @@ new_table name = record { name = name; n_states = None; neighbours = None; symme
 -- What the lines so far say with one more after them, or the first rule that this one breaks. A line that is too long is refused wherever it stands.
 -- Of the others blank lines and comments before the rule line are passed over, and every line between it and the table line, and behind the table.
 unfoldable pub with_line : Section → ℕ → List ℕ → Result Section Kind
-with_line section number line = if is_too_long line then Err LineTooLong else short section
+with_line section number line = if is_too_long line then Err LineTooLong else by_section section
   where
-    short : Section → Result Section Kind
-    short ahead = if is_blank line || begins_with line (codes "#") then Ok ahead else rule_line line (rule_of (drop 5 line))
-    short (named_rule name) = if is_command (codes "@TABLE") line then Ok (in_table (new_table name)) else Ok (named_rule name)
-    short (in_table table) =
-        if begins_with line (codes "@") then (if is_complete table then Ok (behind table) else Err BadDescriptor)
+    by_section : Section → Result Section Kind
+    by_section ahead = if is_blank line || begins_with line (codes "#") then Ok ahead else rule_line line (rule_of (drop 5 line))
+    by_section (named_rule name) = if is_command (codes "@TABLE") line then Ok (in_table (new_table name)) else Ok (named_rule name)
+    by_section (in_table table) =
+        if begins_with line (codes "@") then (if is_complete table then Ok (after_table table) else Err BadDescriptor)
         else (with_text table number (trim (before_first (λ b. b == byte "#") line)) >>= λ next. Ok (in_table next))
-    short (behind table) = Ok (behind table)
+    by_section (after_table table) = Ok (after_table table)
 
 abbrev pub end_of_table : Section → Result Table Kind
 end_of_table ahead = Err NoRuleLine
 end_of_table (named_rule name) = Err NoTable
 end_of_table (in_table table) = if is_complete table then Ok table else Err BadDescriptor
-end_of_table (behind table) = Ok table
+end_of_table (after_table table) = Ok table
 
 -- what lines from this number on say after what is said already, and then their end; or the fault of the first line that has one
 abbrev pub read_table_lines : ℕ → Section → List (List ℕ) → Result Table Fault

@@ -19,7 +19,7 @@ use Rattle.library_calls.specs.Told.{Answers, by_text, by_fault}
 use Rattle.library_calls.specs.declared.texts.Output.{Output}
 use Rattle.library_calls.specs.declared.session.Session.{Session}
 use Rattle.library_calls.specs.declared.session.Session.TheVariants.{Reading, Written, Refused}
-use Rattle.library_theorems.specs.Answered.{IsUnreadWithin, room_for}
+use Rattle.library_theorems.specs.Answered.{IsUnreadWithin, squares_for}
 use Rattle.library_theorems.specs.Ending.{IsEndFault}
 use Rattle.library_theorems.proofs.Reworded.{want_below}
 
@@ -50,7 +50,7 @@ of_all stay limit pieces k fault (inl front) =
     let whole = refuses_agree (joined (take k pieces) ++ joined (drop k pieces)) fault
     (stay (joined (take k pieces)) (joined (drop k pieces)) fault front).refuses in
     subst (λ (bytes : List ℕ). IsUnreadWithin limit bytes fault) (sym (joined_split pieces k)) (inl whole)
-of_all stay limit pieces k fault (inr w) = inr (want_below (room_for (joined pieces)) limit fault (λ store lacks. tight_too store lacks.1) w)
+of_all stay limit pieces k fault (inr w) = inr (want_below (squares_for (joined pieces)) limit fault (λ store lacks. tight_too store lacks.1) w)
   where
     tight_too : (store : Nodes) → IsTightFor (joined (take k pieces)) store → IsTightFor (joined pieces) store
     tight_too store tight =

@@ -42,7 +42,7 @@ use Rattle.library_calls.specs.declared.texts.Output.{Output}
 use Rattle.library_calls.specs.Stepping.{RefusesStepWithin, RefusesStepByWithin, StepsByTable, by_table, by_no_table}
 use Rattle.library_calls.specs.declared.told.Told.{Told}
 use Rattle.library_calls.specs.Told.{Copies, LacksRoom, Gives, Tells, Answers, by_text, by_fault}
-use Rattle.library_theorems.specs.Answered.{IsRleText, AreFiveLines, IsUnread, IsUnreadWithin, IsUnwritten, IsWantBelow, room_for}
+use Rattle.library_theorems.specs.Answered.{IsRleText, AreFiveLines, IsUnread, IsUnreadWithin, IsUnwritten, IsWantBelow, squares_for}
 use Rattle.library_theorems.specs.Ending.{IsEndFault}
 use Rattle.library_theorems.proofs.Numbered.{IsOfText, no_text}
 
@@ -112,7 +112,7 @@ want_below room limit fault tight w = elim (want_as w.0 fault w.2) [
 
 pub unread : (limit : ℕ) (file : List ℕ) (fault : Fault) → RefusesWithin limit file fault → IsUnreadWithin limit file fault
 unread limit file fault (inl refuses) = inl (refuses_agree file fault refuses)
-unread limit file fault (inr w) = inr (want_below (room_for file) limit fault (λ store lacks. lacks.1) w)
+unread limit file fault (inr w) = inr (want_below (squares_for file) limit fault (λ store lacks. lacks.1) w)
 
 -- whatever the limit
 pub unread_at_all : (limit : ℕ) (file : List ℕ) (fault : Fault) → IsUnreadWithin limit file fault → IsUnread file fault
@@ -176,10 +176,10 @@ answer_so on_plane first second a b is_same (inr h) = inr (h.0, λ s. h.1 (same_
 
 uncompared : (limit : ℕ) (first second : List ℕ) (fault : Fault) → RefusesEither limit first second fault
     → (pattern_of first ≡ Err fault)
-    ⊎ ((IsOk (pattern_of first) × (pattern_of second ≡ Err fault)) ⊎ IsWantBelow (room_for first + room_for second) limit fault)
+    ⊎ ((IsOk (pattern_of first) × (pattern_of second ≡ Err fault)) ⊎ IsWantBelow (squares_for first + squares_for second) limit fault)
 uncompared limit first second fault (inl refuses) = inl (refuses_agree first fault refuses)
 uncompared limit first second fault (inr (inl h)) = inr (inl (accepted_is_ok first h.0, refuses_agree second fault h.1))
-uncompared limit first second fault (inr (inr w)) = inr (inr (want_below (room_for first + room_for second) limit fault (λ store lacks. lacks.1) w))
+uncompared limit first second fault (inr (inr w)) = inr (inr (want_below (squares_for first + squares_for second) limit fault (λ store lacks. lacks.1) w))
 
 pub compared_so : FilesAreOnPlane 62 → (limit : ℕ) (first second : List ℕ) (told : Compared) → ComparesWithin limit first second told → told.status ≡ 0
     → (told.line ≡ 0) × IsOk (pattern_of first) × IsOk (pattern_of second)
@@ -191,7 +191,7 @@ compared_so on_plane limit first second told (comparing.by_fault fault status li
 pub uncompared_so : (limit : ℕ) (first second : List ℕ) (told : Compared) → ComparesWithin limit first second told → told.status ≢ 0
     → (told.is_same ≡ 0) × ((fault : Fault) × (told.status ≡ kind_number fault.kind) × (told.line ≡ fault.place.line)
     × ((pattern_of first ≡ Err fault)
-    ⊎ ((IsOk (pattern_of first) × (pattern_of second ≡ Err fault)) ⊎ IsWantBelow (room_for first + room_for second) limit fault)))
+    ⊎ ((IsOk (pattern_of first) × (pattern_of second ≡ Err fault)) ⊎ IsWantBelow (squares_for first + squares_for second) limit fault)))
 uncompared_so limit first second told (by_answer status line a b answer) not = absurd (not status)
 uncompared_so limit first second told (comparing.by_fault fault status line none why) not =
     (none, (fault, status, line, uncompared limit first second fault why))

@@ -28,16 +28,16 @@ abbrev pub IsUnread : List ℕ → Fault → Type 0
 IsUnread file fault = (pattern_of file ≡ Err fault) ⊎ IsWant fault
 
 -- how many squares reading a file takes at most: 14 for each byte, and 264
-abbrev pub room_for : List ℕ → ℕ
-room_for file = 14 * length file + 264
+abbrev pub squares_for : List ℕ → ℕ
+squares_for file = 14 * length file + 264
 
 -- memory was wanted; or room, and the limit, which counts as 2 ^ 62 at most, is below this many squares
-abbrev pub IsWantBelow : (room limit : ℕ) → Fault → Type 0
-IsWantBelow room limit fault = ((fault ≡ fault_of Full) × (min limit (2 ^ 62) < room)) ⊎ (fault ≡ fault_of Memory)
+abbrev pub IsWantBelow : (squares limit : ℕ) → Fault → Type 0
+IsWantBelow squares limit fault = ((fault ≡ fault_of Full) × (min limit (2 ^ 62) < squares)) ⊎ (fault ≡ fault_of Memory)
 
 -- why a file isn't read within a limit: it has this fault; or memory was wanted, or room, and the limit is below the room for the file
 abbrev pub IsUnreadWithin : ℕ → List ℕ → Fault → Type 0
-IsUnreadWithin limit file fault = (pattern_of file ≡ Err fault) ⊎ IsWantBelow (room_for file) limit fault
+IsUnreadWithin limit file fault = (pattern_of file ≡ Err fault) ⊎ IsWantBelow (squares_for file) limit fault
 
 -- why it isn't written in extended RLE
 abbrev pub IsUnwritten : ℕ → List ℕ → Fault → Type 0

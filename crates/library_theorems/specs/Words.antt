@@ -10,7 +10,7 @@ pub use Rattle.library_calls.specs.Outputs.{IsTextOf}
 pub use Rattle.library_calls.specs.Streams.{IsFed, IsOpen, session_of}
 pub use Rattle.library_calls.specs.Told.{Answers, Gives, Tells}
 pub use Rattle.library_calls.specs.declared.texts.Output.{Output as OutputValue}
-pub use Rattle.library_theorems.specs.Answered.{AreFiveLines, IsRleText, IsUnread, IsUnreadWithin, IsUnwritten, IsWantBelow, room_for}
+pub use Rattle.library_theorems.specs.Answered.{AreFiveLines, IsRleText, IsUnread, IsUnreadWithin, IsUnwritten, IsWantBelow, squares_for}
 pub use Rattle.library_theorems.specs.Ending.{IsEndFault}
 pub use Rattle.life_base.specs.Kinds.{kind_number}
 pub use Rattle.life_base.specs.declared.fault.Fault.{Fault}

@@ -1,7 +1,7 @@
 //! Two files, compared.
 
 ghost use Rattle.std.specs.Prelude.{◌≡◌, ◌≢◌, ◌⊎◌, ◌+◌, Err, IsOk};
-ghost use Rattle.library_theorems.specs.Words.{kind_number, Fault, Same, pattern_of, IsWantBelow, room_for};
+ghost use Rattle.library_theorems.specs.Words.{kind_number, Fault, Same, pattern_of, IsWantBelow, squares_for};
 
 use library_calls::{Compared, Options, same};
 use life_canon::laws::files_are_on_plane;
@@ -19,7 +19,7 @@ pub fn files_are_compared(alloc: Global, first: &[u8], second: &[u8], options: O
         × (result.line ≡ fault.place.line)
         × ((pattern_of first.now ≡ Err fault)
         ⊎ ((IsOk (pattern_of first.now) × (pattern_of second.now ≡ Err fault))
-        ⊎ IsWantBelow (room_for first.now + room_for second.now) options.limit fault))) }
+        ⊎ IsWantBelow (squares_for first.now + squares_for second.now) options.limit fault))) }
 {
     files_are_on_plane();
     same(alloc, first, second, options)

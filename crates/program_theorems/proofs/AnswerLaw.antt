@@ -31,7 +31,7 @@ use Rattle.theorems.proofs.ShownLaw.{shown_is}
 use Rattle.theorems.proofs.StreamLaw.{all_read, appended, at_end}
 use Rattle.step_theorems.proofs.StepLaw.{stepped_is}
 use Rattle.step_theorems.proofs.StepBy.{stepped_text}
-use Rattle.program_theorems.specs.Jobs.{HasSecond, WritesCanonical, Answers, IsShort}
+use Rattle.program_theorems.specs.Jobs.{HasSecond, WritesCanonical, IsOutcome, IsShort}
 use Rattle.program_theorems.specs.Forms.{SameIn, IsTextIn}
 use Rattle.program_theorems.specs.Layers.{LayersAgree}
 use Rattle.program_theorems.proofs.FormTexts.{moved_exact, turned_exact}
@@ -99,7 +99,7 @@ text_in laws Turned file text h =
     (is.0, canonical laws text text (own_turned laws file text h), is.1, (p.pattern, p.is, turned_exact laws file text h))
 
 answers : LayersAgree → (job : Job) (file second : List ℕ) (status : ℕ) (text : List ℕ) → Writes job file second status text
-    → Answers job file second status text
+    → IsOutcome job file second status text
 answers laws (jobs.Canon form) file second status text h = (h.0, text_in laws form file text h.1)
 answers laws (jobs.Convert Rle) file second status text h =
     (h.0, same_to file text (laws.rle (2 ^ 20) file text h.1), rle_format file text h.1, few_cells file text h.1)
@@ -117,25 +117,25 @@ answers laws jobs.StepTable file second status text h =
     (h.0, stepped_text laws.on_plane laws.read laws.decide second file text h.1.0 ((laws.grammars (lines_of second) h.1.0).0 h.1.1) h.1.2)
 
 -- a job without a second file asks for nothing of one
-second_free : (job : Job) (file a b : List ℕ) (status : ℕ) (text : List ℕ) → (HasSecond job → a ≡ b) → Answers job file a status text
-    → Answers job file b status text
+second_free : (job : Job) (file a b : List ℕ) (status : ℕ) (text : List ℕ) → (HasSecond job → a ≡ b) → IsOutcome job file a status text
+    → IsOutcome job file b status text
 second_free (jobs.Canon form) file a b status text e h = h
 second_free (jobs.Convert Rle) file a b status text e h = h
 second_free (jobs.Convert Mc) file a b status text e h = h
-second_free (jobs.Same form) file a b status text e h = subst (λ (s : List ℕ). Answers (jobs.Same form) file s status text) (e tt) h
+second_free (jobs.Same form) file a b status text e h = subst (λ (s : List ℕ). IsOutcome (jobs.Same form) file s status text) (e tt) h
 second_free jobs.Show file a b status text e h = h
 second_free jobs.Step file a b status text e h = h
-second_free jobs.StepTable file a b status text e h = subst (λ (s : List ℕ). Answers jobs.StepTable file s status text) (e tt) h
+second_free jobs.StepTable file a b status text e h = subst (λ (s : List ℕ). IsOutcome jobs.StepTable file s status text) (e tt) h
 
 module _ (laws : LayersAgree) (job : Job) (first second : SourceRun) (status : ℕ) (text : List ℕ) (h : HasAnswer job first second status text) where
   -- what was made of the files is what their bytes ask for
-  pub answered : (file other : List ℕ) → first.before ≡ Some file → (HasSecond job → second.before ≡ Some other) → Answers job file other status text
+  pub answered : (file other : List ℕ) → first.before ≡ Some file → (HasSecond job → second.before ≡ Some other) → IsOutcome job file other status text
   answered file other e f =
       let one = all_read (2 ^ 30) first.before first.after file h.first_bytes h.first_read e in
       let given = answers laws job h.first_bytes h.second_bytes status text h.writes in
       second_free job file h.second_bytes other status text
       (λ has. all_read (2 ^ 30) second.before second.after other h.second_bytes (h.second_read (to_layer job has)) (f has))
-      (subst (λ (b : List ℕ). Answers job b h.second_bytes status text) one given)
+      (subst (λ (b : List ℕ). IsOutcome job b h.second_bytes status text) one given)
 
 ended : (source : SourceRun) (bytes read : List ℕ) → ReadAll (2 ^ 30) source.before source.after read → source.before ≡ Some bytes
     → (source.after ≡ Some []) × IsShort bytes

@@ -9,7 +9,7 @@ use Rattle.claims.specs.Canonical.{IsTextOfPattern}
 use Rattle.claims.specs.Counting.{IsCanonicalText}
 use Rattle.claims.specs.Files.{pattern_of, Same}
 use Rattle.claims.specs.Generation.{SaysMoreCells}
-use Rattle.claims.specs.Pattern.{Pattern, edge}
+use Rattle.claims.specs.Pattern.{Pattern, coordinate_bound}
 use Rattle.claims.specs.Shown.{IsLeastBox}
 
 -- the second is the first, with each cell so many columns further east and rows further south
@@ -18,17 +18,17 @@ IsShift p q = (p.rule ≡ q.rule) × (p.generation ≡ q.generation)
     × ((columns : ℤ) × (rows : ℤ) × ((x y : ℤ) → q.cell (x +ℤ columns) (y +ℤ rows) ≡ p.cell x y))
 
 -- a column or row counted from the other side of the plane, -1 - x, or not
-abbrev pub counted : Bool → ℤ → ℤ
-counted true (pos n) = negsuc n
-counted true (negsuc n) = pos n
-counted false x = x
+abbrev pub reflected : Bool → ℤ → ℤ
+reflected true (pos n) = negsuc n
+reflected true (negsuc n) = pos n
+reflected false x = x
 
 -- one of the eight turns and reflections of a pattern: its columns and rows exchanged or not, and each counted from the other side or not
 abbrev pub image : (exchange columns rows : Bool) → Pattern → Pattern
 image exchange columns rows p = record {
   rule = p.rule;
   generation = p.generation;
-  cell = λ x y. p.cell (counted columns (if exchange then y else x)) (counted rows (if exchange then x else y));
+  cell = λ x y. p.cell (reflected columns (if exchange then y else x)) (reflected rows (if exchange then x else y));
 }
 
 -- a shift behind one of the eight takes the first to the second
@@ -57,7 +57,7 @@ HasTooMany Turned a b = AreRelated (λ p q. p.generation ≡ q.generation) a b �
 
 -- the columns or the rows of a box begin with 0; but those that would leave the plane so end with the plane
 abbrev pub IsInPlace : (first last : ℤ) → Type 0
-IsInPlace first last = ((first ≡ pos 0) × (last <ℤ edge)) ⊎ ((first <ℤ pos 0) × (last +ℤ pos 1 ≡ edge))
+IsInPlace first last = ((first ≡ pos 0) × (last <ℤ coordinate_bound)) ⊎ ((first <ℤ pos 0) × (last +ℤ pos 1 ≡ coordinate_bound))
 
 -- the text is the canonical text of the pattern, shifted so that the least box around its nonzero cells is in its place
 pub record IsMovedText (pattern : Pattern) (text : List ℕ) : Type 0 where

@@ -43,19 +43,19 @@ WritesCanonical (jobs.Convert Rle) = ⊥
 WritesCanonical _ = Unit {0}
 
 -- the status and the text of a job on the bytes of its files
-abbrev pub Answers : Job → (file second : List ℕ) → (status : ℕ) → (text : List ℕ) → Type 0
-Answers (jobs.Canon form) file second status text = (status ≡ 0) × IsTextIn form file text
-Answers (jobs.Convert Mc) file second status text = (status ≡ 0) × IsCanonicalText file text
-Answers (jobs.Convert Rle) file second status text =
+abbrev pub IsOutcome : Job → (file second : List ℕ) → (status : ℕ) → (text : List ℕ) → Type 0
+IsOutcome (jobs.Canon form) file second status text = (status ≡ 0) × IsTextIn form file text
+IsOutcome (jobs.Convert Mc) file second status text = (status ≡ 0) × IsCanonicalText file text
+IsOutcome (jobs.Convert Rle) file second status text =
     (status ≡ 0) × Same file text × (begins_with text (codes "[M2]") ≡ false) × (SaysMoreCells (2 ^ 20) file → ⊥)
-Answers (jobs.Same form) file second status text =
+IsOutcome (jobs.Same form) file second status text =
     IsOk (pattern_of file) × IsOk (pattern_of second) × (HasTooMany form file second → ⊥)
     × (((status ≡ 0) × SameIn form file second × (text ≡ codes "same\n")) ⊎ ((status ≡ 1) × (SameIn form file second → ⊥) × (text ≡ codes "different\n")))
-Answers jobs.Show file second status text =
+IsOutcome jobs.Show file second status text =
     (status ≡ 0) × ((pattern : Pattern) × (pattern_of file ≡ Ok pattern)
     × ((canonical : List ℕ) × IsCanonicalText file canonical × IsShown pattern (node_lines canonical) text))
-Answers jobs.Step file second status text = (status ≡ 0) × IsStepped file text
-Answers jobs.StepTable file second status text = (status ≡ 0) × ((table : Table) × (table_of second ≡ Ok table) × IsSteppedBy table file text)
+IsOutcome jobs.Step file second status text = (status ≡ 0) × IsStepped file text
+IsOutcome jobs.StepTable file second status text = (status ≡ 0) × ((table : Table) × (table_of second ≡ Ok table) × IsSteppedBy table file text)
 
 -- a file that may be read
 abbrev pub IsShort : List ℕ → Type 0

@@ -5,5 +5,5 @@ pub use Rattle.claims.specs.Pattern.{Pattern}
 pub use Rattle.claims.specs.Shown.{IsShown}
 pub use Rattle.life_cli.specs.declared.plans.Form.{Form as FormValue}
 pub use Rattle.program_theorems.specs.Forms.{SameIn}
-pub use Rattle.program_theorems.specs.Jobs.{Answers, HasSecond, Holds, IsGiven, IsRefused, IsShort, WritesCanonical}
+pub use Rattle.program_theorems.specs.Jobs.{IsOutcome, HasSecond, Holds, IsGiven, IsRefused, IsShort, WritesCanonical}
 pub use Rattle.program_theorems.specs.Layers.{LayersAgree}

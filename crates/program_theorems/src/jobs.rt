@@ -1,7 +1,7 @@
 //! The work of a job.
 
 ghost use Rattle.std.specs.Prelude.{◌≡◌, ◌⊎◌, ◌<◌, ◌++◌, ℕ, List, [], take, true, false, Some, IfSome, IsSomeAnd};
-ghost use Rattle.program_theorems.specs.Words.{HasSecond, IsGiven, Answers, IsShort, IsRefused, Holds};
+ghost use Rattle.program_theorems.specs.Words.{HasSecond, IsGiven, IsOutcome, IsShort, IsRefused, Holds};
 
 use crate::laws::layers_agree;
 use crate::runs::Run;
@@ -21,7 +21,7 @@ pub fn does_its_job<A: Source, B: Source, O: Sink, E: Sink>(
         (E.failures run.old.err) (E.stalled run.old.err) }
     ensures done { (file other : List ℕ) → A.remaining run.old.first ≡ Some file
         → IfSome run.old.second (λ b. B.remaining b ≡ Some other) → result < 2
-        → (text : List ℕ) × Answers run.old.job file other result text
+        → (text : List ℕ) × IsOutcome run.old.job file other result text
         × ((held : List ℕ) → O.contents run.old.out ≡ Some held
         → O.contents run.new.out ≡ Some (held ++ text)) }
     ensures flushed { result < 2 → O.flushed run.new.out ≡ true }
@@ -45,7 +45,7 @@ pub fn does_its_job<A: Source, B: Source, O: Sink, E: Sink>(
         → IfSome run.old.second (λ b. B.remaining b ≡ Some other)
         → (O.failures run.new.out ≡ 1) ⊎ (O.stalled run.new.out ≡ true)
         → (result ≡ 3) × ((status : ℕ) × (text : List ℕ)
-        × Answers run.old.job file other status text
+        × IsOutcome run.old.job file other status text
         × ((held : List ℕ) → O.contents run.old.out ≡ Some held
         → (n : ℕ) × (O.contents run.new.out ≡ Some (held ++ take n text)))) }
     ensures unread { (A.failures run.new.first ≡ 1)

@@ -112,7 +112,7 @@ module _ (decide : TablesDecide) (layer : LayerTable) (table : Table) (is : IsTa
           rule = p.rule ∙ ap rule_in step.rule ∙ ap named (sym is.name);
           same_rule = q.rule ∙ ap rule_in step.same_rule ∙ sym p.rule;
           generation = q.generation ∙ step.generation ∙ ap (λ g. g + 1) (sym p.generation);
-          room = λ e. room.0 (sym p.generation ∙ e);
+          not_last = λ e. room.0 (sym p.generation ∙ e);
           few = λ m. few.0 (m.0, same_cells p.pattern.cell u.cell m.0 cells m.1, m.2);
           known = λ x y. subst (λ (o : Option ℕ). p.pattern.cell x y < unwrap_or o 0) (sym is.n_states)
               (below (p.pattern.cell x y) layer.n_states (λ l. known.0 (x, y, subst (λ n. layer.n_states ≤ n) (p.cells x y) l)));

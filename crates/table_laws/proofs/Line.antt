@@ -22,7 +22,7 @@ use Rattle.life_table.specs.declared.table.Transition.{Transition as LayerTransi
 use Rattle.claims.specs.Outcomes.{◌>>=◌}
 use Rattle.claims.specs.Macrocell.{is_command}
 use Rattle.claims.specs.Rules.{rule_of}
-use Rattle.claims.specs.Table.{Variable, Table, Section, ahead, named_rule, in_table, behind, is_complete, with_descriptor, with_variable, with_transition, with_text, rule_line, new_table, with_line}
+use Rattle.claims.specs.Table.{Variable, Table, Section, ahead, named_rule, in_table, after_table, is_complete, with_descriptor, with_variable, with_transition, with_text, rule_line, new_table, with_line}
 use Rattle.claims.proofs.RuleLaw.{rule_in, rule_of_is}
 use Rattle.table_laws.specs.Tables.{transition_in, AreVariables}
 use Rattle.table_laws.proofs.Named.{Parsed, Place, Directive, before_table, in_the_table, behind_table}
@@ -46,7 +46,7 @@ pub data Stands (parsed : Parsed) : Section → Type 0 where
   is_open : (name : List ℕ) (variables : List Variable) → parsed.name ≡ Some name → parsed.section ≡ in_the_table → AreVariables parsed.vars variables
       → Stands parsed (in_table (table_in parsed name variables))
   is_behind : (name : List ℕ) (variables : List Variable) → parsed.name ≡ Some name → parsed.section ≡ behind_table → is_described parsed ≡ true
-      → AreVariables parsed.vars variables → Stands parsed (behind (table_in parsed name variables))
+      → AreVariables parsed.vars variables → Stands parsed (after_table (table_in parsed name variables))
 
 -- both go on, or have the same fault
 pub data Steps : Result Parsed Kind → Result Section Kind → Type 0 where
@@ -260,7 +260,7 @@ module _ (parsed : Parsed) (name : List ℕ) (variables : List Variable) (same :
 
   open_fits : (number : ℕ) (line : List ℕ)
       → StepsAfter parsed (parse_in_table parsed (told number) line)
-      (cond (begins_with line (codes "@")) (cond (is_complete table) (Ok (behind table)) (Err kinds.BadDescriptor))
+      (cond (begins_with line (codes "@")) (cond (is_complete table) (Ok (after_table table)) (Err kinds.BadDescriptor))
       (with_text table number (content line) >>= λ next. Ok (in_table next)))
   open_fits number line = elim (cases_Bool (begins_with line (codes "@"))) [
     | inl s ↦ elim (cases_Bool (is_described parsed)) [
@@ -275,7 +275,7 @@ module _ (parsed : Parsed) (name : List ℕ) (variables : List Variable) (same :
           (cond (is_descriptor text) (with_descriptor table (key_of text) (setting_of text)) (undescribed number text) >>= λ next. Ok (in_table next))
           (let k : parse_in_table parsed (told number) line
           ≡ cond (is_descriptor text) (parse_descriptor parsed.n_states parsed.neighborhood parsed.symmetry text) (rest number text) = rw (s, e) refl in k)
-          (ap (λ v. cond v (cond (is_complete table) (Ok (behind table)) (Err kinds.BadDescriptor))
+          (ap (λ v. cond v (cond (is_complete table) (Ok (after_table table)) (Err kinds.BadDescriptor))
           (with_text table number text >>= λ next. Ok (in_table next))) s
           ∙ ap (λ v. cond v (Ok table) (cond (is_descriptor text) (with_descriptor table (key_of text) (setting_of text)) (undescribed number text)) >>=
           λ next. Ok (in_table next)) e)
@@ -308,21 +308,21 @@ section_fits parsed section (is_open name variables e at same) good number line 
   | inl l ↦ rw l (halts kinds.LineTooLong)
   | inr l ↦ put parsed _ (parse_in_table parsed (min number (2 ^ 64 - 1)) line) _
       (cond (begins_with line (codes "@"))
-      (cond (is_complete (table_in parsed name variables)) (Ok (behind (table_in parsed name variables))) (Err kinds.BadDescriptor))
+      (cond (is_complete (table_in parsed name variables)) (Ok (after_table (table_in parsed name variables))) (Err kinds.BadDescriptor))
       (with_text (table_in parsed name variables) number (content line) >>= λ next. Ok (in_table next)))
       (ap (λ v. cond v (Err kinds.LineTooLong) (parse_in_section parsed.section parsed (min number (2 ^ 64 - 1)) line)) l
       ∙ ap (λ (s : Place). parse_in_section s parsed (min number (2 ^ 64 - 1)) line) at)
       (ap (λ v. cond v (Err kinds.LineTooLong)
       (cond (begins_with line (codes "@"))
-      (cond (is_complete (table_in parsed name variables)) (Ok (behind (table_in parsed name variables))) (Err kinds.BadDescriptor))
+      (cond (is_complete (table_in parsed name variables)) (Ok (after_table (table_in parsed name variables))) (Err kinds.BadDescriptor))
       (with_text (table_in parsed name variables) number (content line) >>= λ next. Ok (in_table next)))) l)
       (open_fits parsed name variables same good e at number line)
 ]
 section_fits parsed section (is_behind name variables e at d same) good number line = elim (cases_Bool (is_too_long line)) [
   | inl l ↦ rw l (halts kinds.LineTooLong)
-  | inr l ↦ put parsed _ (parse_in_section behind_table parsed (min number (2 ^ 64 - 1)) line) _ (Ok (behind (table_in parsed name variables)))
+  | inr l ↦ put parsed _ (parse_in_section behind_table parsed (min number (2 ^ 64 - 1)) line) _ (Ok (after_table (table_in parsed name variables)))
       (ap (λ v. cond v (Err kinds.LineTooLong) (parse_in_section parsed.section parsed (min number (2 ^ 64 - 1)) line)) l
       ∙ ap (λ (s : Place). parse_in_section s parsed (min number (2 ^ 64 - 1)) line) at)
-      (ap (λ v. cond v (Err kinds.LineTooLong) (Ok (behind (table_in parsed name variables)))) l)
+      (ap (λ v. cond v (Err kinds.LineTooLong) (Ok (after_table (table_in parsed name variables)))) l)
       (steps _ _ (is_behind name variables e at d same))
 ]

@@ -8,10 +8,10 @@ pub returns-clause-done : goal.returns-clause-done
 returns-clause-done g c =
     λ bytes held e f. map_on c.run_canon.result
     (λ ran. let h = has_run _ _ _ bytes held ran e f in (
-    h.text,
-    h.written,
-    text_is_file c.texts_keep_patterns.ensures bytes h.text h.canonical,
-    text_of_file c.files_are_on_plane.ensures bytes h.text h.canonical,
+      h.text,
+      h.written,
+      text_is_file c.texts_keep_patterns.ensures bytes h.text h.canonical,
+      text_of_file c.files_are_on_plane.ensures bytes h.text h.canonical,
     ))
     c.run_canon.ensures.runs.ok
 
