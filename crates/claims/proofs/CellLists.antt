@@ -22,14 +22,14 @@ first_before c cells h d (k, l, e) = subst (λ (x : Cell). Before c x) e (h 0 (s
 rest_in_order : (c : Cell) (cells : List Cell) → AllPairs Before (c ∷ cells) → AllPairs Before cells
 rest_in_order c cells h = λ i j d l m. h (suc i) (suc j) d (omega arith) (omega arith)
 
-split : (c : Cell) (cells : List Cell) (d : Cell) → Contains (c ∷ cells) d → (c ≡ d) ⊎ Contains cells d
+pub split : (c : Cell) (cells : List Cell) (d : Cell) → Contains (c ∷ cells) d → (c ≡ d) ⊎ Contains cells d
 split c cells d (zero, l, e) = inl e
 split c cells d (suc k, l, e) = inr (k, omega arith, e)
 
-here : (c : Cell) (cells : List Cell) → Contains (c ∷ cells) c
+pub here : (c : Cell) (cells : List Cell) → Contains (c ∷ cells) c
 here c cells = (0, omega arith, refl)
 
-later : (c : Cell) (cells : List Cell) (d : Cell) → Contains cells d → Contains (c ∷ cells) d
+pub later : (c : Cell) (cells : List Cell) (d : Cell) → Contains cells d → Contains (c ∷ cells) d
 later c cells d (k, l, e) = (suc k, omega arith, e)
 
 pub one_list : (ones others : List Cell) → AllPairs Before ones → AllPairs Before others → ((d : Cell) → Contains ones d → Contains others d)

@@ -1,9 +1,11 @@
 -- The definitions at worked examples, by computation.
-use Rattle.std.proofs.Common.{◌≡◌, ℕ, ℤ, ◌+◌, ◌^◌, ◌<◌, List, [], ◌∷◌, ◌++◌, length, map, refl, pos, neg_ℤ, Bool, true, false, cond, arith}
+use Rattle.std.proofs.Common.{◌≡◌, ℕ, zero, suc, ℤ, ◌+◌, ◌^◌, ◌<◌, List, [], ◌∷◌, ◌++◌, length, map, refl, pos, neg_ℤ, Bool, true, false, cond, arith}
 use Rattle.std.specs.Fmt.{digits}
 use Rattle.std.specs.Prelude.{codes, replicate, ◌==◌, Option, Some, None, Result, Ok, Err}
 use Rattle.std.proofs.lemmas.Bool.Decides.{nat_tests}
 use Rattle.life_base.specs.Text.{is_too_long}
+use Rattle.life_base.specs.declared.bounds.Bounds.{Bounds}
+use Rattle.life_base.specs.declared.cell.Cell.{Cell}
 use Rattle.life_base.specs.declared.fault.Fault.{Fault}
 use Rattle.life_base.specs.declared.kind.Kind.{Kind}
 use Rattle.life_base.specs.declared.kind.Kind.TheVariants as kinds
@@ -17,6 +19,7 @@ use Rattle.claims.specs.Files.{pattern_of, fault_at}
 use Rattle.claims.specs.Generation.{next_life}
 use Rattle.claims.specs.Shown.{box_line}
 use Rattle.claims.specs.Canonical.{middle_square, square_text}
+use Rattle.claims.specs.RleText.{box_lines}
 
 abbrev b3s23 : Rule
 b3s23 = counting 8 (3 ∷ []) (2 ∷ 3 ∷ [])
@@ -427,3 +430,53 @@ named_text = refl
 walked_text : text_at 4 (codes "[M2]\n*$\n.*$\n4 2 1 0 0\n") ≡ header ++ codes "#R B3/S23\n.*$$$$$$$$\n*$$$$$$$$\n4 1 2 0 0\n"
 unfolding pattern_of rule_of digits_of with_line digits
 walked_text = refl
+
+-- ---- texts in extended RLE
+
+-- the lines of these cells in this box, under B3/S23
+abbrev lines_in : Bounds → List Cell → List (List ℕ)
+lines_in box cells = box_lines b3s23 0 (Some box) cells
+
+abbrev live_at : ℤ → ℤ → Cell
+live_at x y = record { x = x; y = y; state = 1 }
+
+abbrev box_from : ℤ → ℤ → ℤ → ℤ → Bounds
+box_from left top right bottom = record { left = left; top = top; right = right; bottom = bottom }
+
+two_cells :
+    lines_in (box_from (neg_ℤ (pos 4)) (pos 0) (pos 4) (pos 0)) (live_at (neg_ℤ (pos 4)) (pos 0) ∷ live_at (pos 4) (pos 0) ∷ [])
+    ≡ codes "#CXRLE Pos=-4,0" ∷ codes "x = 9, y = 1, rule = B3/S23" ∷ codes "o7bo!" ∷ []
+unfolding digits
+two_cells = refl
+
+no_cells : box_lines b3s23 0 None [] ≡ codes "#CXRLE Pos=0,0" ∷ codes "x = 0, y = 0, rule = B3/S23" ∷ codes "!" ∷ []
+unfolding digits
+no_cells = refl
+
+-- cells of a name, with a generation
+named_cells :
+    box_lines (named (codes "WireWorld")) 7 (Some (box_from (neg_ℤ (pos 1)) (neg_ℤ (pos 1)) (pos 0) (neg_ℤ (pos 1))))
+    (record { x = neg_ℤ (pos 1); y = neg_ℤ (pos 1); state = 1 } ∷ record { x = pos 0; y = neg_ℤ (pos 1); state = 25 } ∷ [])
+    ≡ codes "#CXRLE Pos=-1,-1 Gen=7" ∷ codes "x = 2, y = 1, rule = WireWorld" ∷ codes "ApA!" ∷ []
+unfolding digits
+named_cells = refl
+
+-- so many live cells in every second column from this one on
+abbrev every_second : ℕ → ℕ → List Cell
+every_second zero column = []
+every_second (suc n) column = live_at (pos column) (pos 0) ∷ every_second n (column + 2)
+
+-- 36 cells, whose first line of items has 70 bytes
+long_row :
+    lines_in (box_from (pos 0) (pos 0) (pos 70) (pos 0)) (every_second 36 0)
+    ≡ codes "#CXRLE Pos=0,0" ∷ codes "x = 71, y = 1, rule = B3/S23"
+    ∷ codes "obobobobobobobobobobobobobobobobobobobobobobobobobobobobobobobobobobob" ∷ codes "o!" ∷ []
+unfolding digits
+long_row = refl
+
+-- rows that are skipped
+rows_apart :
+    lines_in (box_from (pos 1) (pos 0) (pos 3) (pos 3)) (live_at (pos 3) (pos 0) ∷ live_at (pos 1) (pos 3) ∷ live_at (pos 2) (pos 3) ∷ [])
+    ≡ codes "#CXRLE Pos=1,0" ∷ codes "x = 3, y = 4, rule = B3/S23" ∷ codes "2bo3$2o!" ∷ []
+unfolding digits
+rows_apart = refl

@@ -29,6 +29,7 @@ use Rattle.theorems.proofs.CellsLaw.{few_cells, says_more}
 use Rattle.theorems.proofs.FileLaw.{same_from, same_to, rle_format}
 use Rattle.theorems.proofs.RefusalLaw.{accepted_is_ok, refuses_agree, want_as}
 use Rattle.theorems.proofs.ShownLaw.{shown_is}
+use Rattle.theorems.proofs.TextLaw.{rle_of_file}
 use Rattle.theorems.proofs.StreamLaw.{one_text}
 use Rattle.step_theorems.proofs.StepLaw.{unstepped_is}
 use Rattle.step_theorems.proofs.StepBy.{next_by_is_fixed, stepped_is, unstepped_is as unstepped_by_is}
@@ -74,7 +75,7 @@ pub canonical_to : FilesAreOnPlane 62 → TextsAreFiles 62 → TextsKeepPatterns
 canonical_to on_plane files keep file text c = canonical_so on_plane files keep file text c.0 c.1
 
 pub rle_so : (file text : List ℕ) → LayerRle file text → IsRleText file text
-rle_so file text r = record { same = same_to file text r.1; format = rle_format file text r.0; few = few_cells file text r.0 }
+rle_so file text r = record { is = rle_of_file file text r.0; same = same_to file text r.1; format = rle_format file text r.0; few = few_cells file text r.0 }
 
 pub lines_so : CanonicalIsLeast 62 → FilesAreOnPlane 62 → FilesAreUnique 62 → TextsAreFiles 62 → TextsKeepPatterns 62 → (file text : List ℕ)
     → IsShown 62 file text → AreFiveLines file text

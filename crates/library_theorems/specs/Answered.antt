@@ -8,9 +8,12 @@ use Rattle.claims.specs.Files.{pattern_of, Same, IsWant, fault_of}
 use Rattle.claims.specs.Generation.{SaysMoreCells}
 use Rattle.claims.specs.Pattern.{Pattern}
 use Rattle.claims.specs.Shown.{IsShown}
+use Rattle.theorems.specs.Patterns.{IsRleOfFile}
 
--- the text is a file of the file's pattern and no macrocell file, and no more than 2 ^ 20 cells have a state other than 0
+-- the text is that of the file's pattern in extended RLE; it is a file of that pattern and no macrocell file, and no more than 2 ^ 20 cells have a state
+-- other than 0
 pub record IsRleText (file text : List ℕ) : Type 0 where
+  pub is : IsRleOfFile file text
   pub same : Same file text
   pub format : begins_with text (codes "[M2]") ≡ false
   pub few : SaysMoreCells (2 ^ 20) file → ⊥

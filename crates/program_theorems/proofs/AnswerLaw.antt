@@ -28,6 +28,7 @@ use Rattle.theorems.proofs.CanonicalLaw.{canonical_so}
 use Rattle.theorems.proofs.FileLaw.{files_agree, texts_are_exact, same_to, rle_format}
 use Rattle.theorems.proofs.RefusalLaw.{accepted_is_ok}
 use Rattle.theorems.proofs.ShownLaw.{shown_is}
+use Rattle.theorems.proofs.TextLaw.{rle_of_file}
 use Rattle.theorems.proofs.StreamLaw.{all_read, appended, at_end}
 use Rattle.step_theorems.proofs.StepLaw.{stepped_is}
 use Rattle.step_theorems.proofs.StepBy.{stepped_text}
@@ -102,7 +103,7 @@ answers : LayersAgree → (job : Job) (file second : List ℕ) (status : ℕ) (t
     → IsOutcome job file second status text
 answers laws (jobs.Canon form) file second status text h = (h.0, text_in laws form file text h.1)
 answers laws (jobs.Convert Rle) file second status text h =
-    (h.0, same_to file text (laws.rle (2 ^ 20) file text h.1), rle_format file text h.1, few_cells file text h.1)
+    (h.0, same_to file text (laws.rle (2 ^ 20) file text h.1), rle_format file text h.1, few_cells file text h.1, rle_of_file file text h.1)
 answers laws (jobs.Convert Mc) file second status text h = (h.0, canonical laws file text h.1)
 answers laws (jobs.Same form) file second status text h =
     let few = few_to laws.on_plane form file second h.0.0 h.1.0 h.0.1 h.1.1 h.2 in

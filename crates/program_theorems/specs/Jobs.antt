@@ -15,6 +15,7 @@ use Rattle.claims.specs.Shown.{IsShown}
 use Rattle.claims.specs.Generation.{SaysMoreCells, IsStepped, IsUnstepped}
 use Rattle.claims.specs.Table.{Table, table_of}
 use Rattle.claims.specs.ByTable.{IsSteppedBy, IsUnsteppedBy}
+use Rattle.theorems.specs.Patterns.{IsRleOfFile}
 use Rattle.program_theorems.specs.Forms.{SameIn, HasTooMany, IsTextIn}
 use Rattle.program_theorems.specs.Faults.{status_of, fault_line}
 
@@ -47,7 +48,7 @@ abbrev pub IsOutcome : Job → (file second : List ℕ) → (status : ℕ) → (
 IsOutcome (jobs.Canon form) file second status text = (status ≡ 0) × IsTextIn form file text
 IsOutcome (jobs.Convert Mc) file second status text = (status ≡ 0) × IsCanonicalText file text
 IsOutcome (jobs.Convert Rle) file second status text =
-    (status ≡ 0) × Same file text × (begins_with text (codes "[M2]") ≡ false) × (SaysMoreCells (2 ^ 20) file → ⊥)
+    (status ≡ 0) × Same file text × (begins_with text (codes "[M2]") ≡ false) × (SaysMoreCells (2 ^ 20) file → ⊥) × IsRleOfFile file text
 IsOutcome (jobs.Same form) file second status text =
     IsOk (pattern_of file) × IsOk (pattern_of second) × (HasTooMany form file second → ⊥)
     × (((status ≡ 0) × SameIn form file second × (text ≡ codes "same\n")) ⊎ ((status ≡ 1) × (SameIn form file second → ⊥) × (text ≡ codes "different\n")))

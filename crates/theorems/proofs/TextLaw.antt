@@ -11,7 +11,7 @@ use Rattle.life_mc.specs.Writing.{mc_text, node_text, generation_text}
 use Rattle.life_canon.specs.Universe.{Universe, IsOnPlane, IsWithin, IsBlankOutside, corner, centred, whole}
 use Rattle.life_canon.specs.Universe.{least_level as layer_least}
 use Rattle.life_canon.specs.Laws.{FilesAreOnPlane}
-use Rattle.life_canon.specs.Texts.{IsCanonical}
+use Rattle.life_canon.specs.Texts.{IsCanonical, IsRleOf}
 use Rattle.life_canon.specs.Listing.{walk as tree_walk}
 use Rattle.life_canon.specs.Listing.{canonical_file, canon_text, line_of, listed, square_file, with_all}
 use Rattle.life_canon.proofs.TreeWords.{trimmed_to}
@@ -21,7 +21,10 @@ use Rattle.life_canon.proofs.Content.{least-one}
 use Rattle.claims.specs.Pattern.{Pattern}
 use Rattle.claims.specs.Canonical.{Square, square_at, middle_square, is_in_middle, HoldsAllCells, least_level, walk, first_visits, square_line, square_text, IsTextOfPattern}
 use Rattle.claims.proofs.RuleLaw.{rule_in}
-use Rattle.theorems.specs.Patterns.{IsTextOfFile}
+use Rattle.claims.specs.RleText.{IsRleOfPattern}
+use Rattle.claims.proofs.RleTextLaw.{rle_of_pattern}
+use Rattle.theorems.specs.Patterns.{IsRleOfFile, IsTextOfFile}
+use Rattle.theorems.proofs.CellsLaw.{same_cells}
 use Rattle.theorems.proofs.FileLaw.{files_agree}
 use Rattle.theorems.proofs.ShownLaw.{rule_text_is}
 use Rattle.theorems.proofs.SquareLaw.{tree, HasLevel, square_is, level_at, walk_is, visits_are, walk_has, visits_have, lines_are}
@@ -152,6 +155,16 @@ pub text_of_file : FilesAreOnPlane 62 → (file text : List ℕ) → IsCanonical
 text_of_file on_plane file text c =
     let p = files_agree file c.universe c.reads in
     (p.pattern, p.is, text_of_pattern c.universe p.pattern text (on_plane file c.universe c.reads) p.rule p.generation p.cells c.is)
+
+-- the text in extended RLE that is written of a file is that of its pattern
+pub rle_of_file : (file text : List ℕ) → IsRleOf 62 (2 ^ 20) file text → IsRleOfFile file text
+rle_of_file file text h =
+    let u = h.universe in
+    let p = files_agree file u h.reads in
+    let same : record { rule = rule_in u.rule; generation = u.generation; cell = u.cell } ≡ p.pattern =
+    λ i. record { rule = sym p.rule i; generation = sym p.generation i; cell = λ x y. sym (p.cells x y) i } in
+    let own = rle_of_pattern rule_text_is u.rule u.generation u.cell h.cells (same_cells u.cell u.cell h.cells refl h.are) in
+    (p.pattern, p.is, subst (λ (t : List ℕ). IsRleOfPattern p.pattern t) (sym h.is) (subst (λ (q : Pattern). IsRleOfPattern q _) same own))
 
 -- a pattern has one text
 pub one_text_of : (pattern : Pattern) (s t : List ℕ) → IsTextOfPattern pattern s → IsTextOfPattern pattern t → s ≡ t

@@ -4,6 +4,7 @@ use Rattle.claims.specs.Rules.{rule_of, rule_text, largest_state}
 use Rattle.claims.specs.Pattern.{Pattern, is_coordinate}
 use Rattle.claims.specs.Files.{pattern_of}
 use Rattle.claims.specs.Canonical.{IsTextOfPattern}
+use Rattle.claims.specs.RleText.{IsRleOfPattern}
 
 -- the rule is that of its own text, the generation is below 2 ^ 64, the states are those of the rule, and cells outside the plane have state 0
 pub record Fits (pattern : Pattern) : Type 0 where
@@ -23,6 +24,10 @@ pub record IsFileOf (pattern : Pattern) (bytes : List ℕ) : Type 0 where
 -- the bytes are a file, and the text is the canonical text of its pattern
 abbrev pub IsTextOfFile : (file text : List ℕ) → Type 0
 IsTextOfFile file text = (pattern : Pattern) × (pattern_of file ≡ Ok pattern) × IsTextOfPattern pattern text
+
+-- the bytes are a file, and the text is that of its pattern in extended RLE
+abbrev pub IsRleOfFile : (file text : List ℕ) → Type 0
+IsRleOfFile file text = (pattern : Pattern) × (pattern_of file ≡ Ok pattern) × IsRleOfPattern pattern text
 
 -- each pattern that fits is that of some file
 abbrev pub PatternsHaveFiles : Type 0

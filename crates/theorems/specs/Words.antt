@@ -9,5 +9,5 @@ pub use Rattle.life_base.specs.declared.cell.TheConstants.{MAX_LEVEL}
 pub use Rattle.life_canon.specs.Texts.{IsCanonical}
 pub use Rattle.life_quad.specs.Store.{held}
 pub use Rattle.theorems.specs.Joined.{joined}
-pub use Rattle.theorems.specs.Patterns.{IsTextOfFile, PatternsHaveFiles, PatternsOfFilesFit}
+pub use Rattle.theorems.specs.Patterns.{IsRleOfFile, IsTextOfFile, PatternsHaveFiles, PatternsOfFilesFit}
 pub use Rattle.theorems.specs.Streams.{IsStreamFault}
