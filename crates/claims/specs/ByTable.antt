@@ -39,7 +39,7 @@ LeavesPlaneBy table cell =
 -- Why a pattern has no next one by a table: the first of six reasons that holds. That of a line that gives a cell two states is the fault of this
 -- line, and the others are the faults of none.
 pub data IsFirstReasonBy (table : Table) (now : Pattern) : Fault → Type 0 where
-  other_rule : now.rule ≢ named table.name → IsFirstReasonBy table now (fault_of RuleMismatch)
+  rule_differs : now.rule ≢ named table.name → IsFirstReasonBy table now (fault_of RuleMismatch)
   last_generation : now.rule ≡ named table.name → now.generation ≡ 2 ^ 64 - 1 → IsFirstReasonBy table now (fault_of GenerationTooLarge)
   many_cells : now.rule ≡ named table.name → now.generation ≢ 2 ^ 64 - 1 → HasMoreCells (2 ^ 20) now.cell
       → IsFirstReasonBy table now (fault_of TooManyCells)

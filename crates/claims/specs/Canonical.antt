@@ -45,10 +45,10 @@ is_blank_square (point state) = state == 0
 is_blank_square (quarters nw ne sw se) = is_blank_square nw && is_blank_square ne && is_blank_square sw && is_blank_square se
 
 -- the two squares have the same cells
-abbrev pub are_equal : Square → Square → Bool
-are_equal (point a) (point b) = a == b
-are_equal (quarters a b c d) (quarters e f g h) = are_equal a e && are_equal b f && are_equal c g && are_equal d h
-are_equal _ _ = false
+abbrev pub same_square : Square → Square → Bool
+same_square (point a) (point b) = a == b
+same_square (quarters a b c d) (quarters e f g h) = same_square a e && same_square b f && same_square c g && same_square d h
+same_square _ _ = false
 
 -- the squares that a walk visits: the quarters of a square, and then the square itself, but for blank squares and those below the least level
 abbrev pub walk : (least : ℕ) → Square → List Square
@@ -60,12 +60,12 @@ walk least (quarters nw ne sw se) =
 -- the squares that were visited, and after them the others of a list, each at its first place alone
 abbrev pub first_visits : (visited squares : List Square) → List Square
 first_visits visited [] = visited
-first_visits visited (square ∷ squares) = first_visits (if list_any (are_equal square) visited then visited else visited ++ square ∷ []) squares
+first_visits visited (square ∷ squares) = first_visits (if list_any (same_square square) visited then visited else visited ++ square ∷ []) squares
 
 -- what stands for a quarter in a line: the state of a cell, 0 for a blank square, and for any other its place in the list, counted from 1
 abbrev pub child_number : List Square → Square → ℕ
 child_number squares (point state) = state
-child_number squares square = if is_blank_square square then 0 else position_or_len (are_equal square) squares + 1
+child_number squares square = if is_blank_square square then 0 else position_or_len (same_square square) squares + 1
 
 -- the states of the cells of a square, row by row
 abbrev pub state_rows : Square → List (List ℕ)

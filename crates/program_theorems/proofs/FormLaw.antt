@@ -25,7 +25,7 @@ use Rattle.claims.proofs.RuleLaw.{rule_in}
 use Rattle.claims.proofs.RuleBack.{rules_are}
 use Rattle.theorems.proofs.CellsLaw.{says_more}
 use Rattle.theorems.proofs.FileLaw.{Agrees, files_agree, ok_of, same_from, same_to, texts_are_exact}
-use Rattle.program_theorems.specs.Forms.{AreRelated, HasTooMany, IsShift, IsTurnedShift, SameIn, reflected, image}
+use Rattle.program_theorems.specs.Forms.{AreRelated, HasTooMany, IsShift, IsTurnedShift, SameIn, mirrored, image}
 use Rattle.program_theorems.specs.Layers.{LayersAgree}
 
 -- ---- patterns
@@ -39,7 +39,7 @@ pub record Says (p : Pattern) (u : Universe) : Type 0 where
 pub said : (bytes : List ℕ) (u : Universe) (p : Agrees bytes u) → Says p.pattern u
 said bytes u p = record { rule = p.rule; generation = p.generation; cells = p.cells }
 
-counted_is : (b : Bool) (x : ℤ) → reflected b x ≡ layer.counted b x
+counted_is : (b : Bool) (x : ℤ) → mirrored b x ≡ layer.counted b x
 counted_is true (pos n) = refl
 counted_is true (negsuc n) = refl
 counted_is false x = refl

@@ -18,17 +18,17 @@ IsShift p q = (p.rule ≡ q.rule) × (p.generation ≡ q.generation)
     × ((columns : ℤ) × (rows : ℤ) × ((x y : ℤ) → q.cell (x +ℤ columns) (y +ℤ rows) ≡ p.cell x y))
 
 -- a column or row counted from the other side of the plane, -1 - x, or not
-abbrev pub reflected : Bool → ℤ → ℤ
-reflected true (pos n) = negsuc n
-reflected true (negsuc n) = pos n
-reflected false x = x
+abbrev pub mirrored : Bool → ℤ → ℤ
+mirrored true (pos n) = negsuc n
+mirrored true (negsuc n) = pos n
+mirrored false x = x
 
 -- one of the eight turns and reflections of a pattern: its columns and rows exchanged or not, and each counted from the other side or not
 abbrev pub image : (exchange columns rows : Bool) → Pattern → Pattern
 image exchange columns rows p = record {
   rule = p.rule;
   generation = p.generation;
-  cell = λ x y. p.cell (reflected columns (if exchange then y else x)) (reflected rows (if exchange then x else y));
+  cell = λ x y. p.cell (mirrored columns (if exchange then y else x)) (mirrored rows (if exchange then x else y));
 }
 
 -- a shift behind one of the eight takes the first to the second

@@ -30,7 +30,7 @@ use Rattle.life_canon.specs.Universe.{Universe}
 use Rattle.life_step.specs.Stepped.{IsSteppedBy as LayerSteppedBy}
 use Rattle.life_step.specs.Refusals.{TableRefusal}
 use Rattle.life_step.specs.Refusals.{HasMoreCells as LayerMoreCells, LeavesPlane as LayerLeaves, SomeAmbiguous, IsFirstAmbiguous as LayerFirst}
-use Rattle.claims.specs.ByTable.{IsSteppedBy, HasStateBeyond, IsFirstAmbiguous, LeavesPlaneBy, IsFirstReasonBy, other_rule, last_generation, many_cells, state_beyond, two_states, leaves_plane, IsUnsteppedBy}
+use Rattle.claims.specs.ByTable.{IsSteppedBy, HasStateBeyond, IsFirstAmbiguous, LeavesPlaneBy, IsFirstReasonBy, rule_differs, last_generation, many_cells, state_beyond, two_states, leaves_plane, IsUnsteppedBy}
 use Rattle.claims.specs.Generation.{four_around, eight_around, AreCells, HasMoreCells, decided_at}
 use Rattle.claims.specs.Rules.{named}
 use Rattle.claims.specs.Table.{Table, becomes, decided, table_of}
@@ -209,7 +209,7 @@ module _ (decide : TablesDecide) (layer : LayerTable) (table : Table) (is : IsTa
 
     first_reason : TableRefusal 62 layer u (Some fault) → Told fault
     first_reason (inl h) =
-        as_told (fault_of kinds.RuleMismatch) h.1 (other_rule (λ e. h.0 (name_of u.rule layer.name (sym p.rule ∙ e ∙ ap named is.name))))
+        as_told (fault_of kinds.RuleMismatch) h.1 (rule_differs (λ e. h.0 (name_of u.rule layer.name (sym p.rule ∙ e ∙ ap named is.name))))
     first_reason (inr a) = behind_rule (p.rule ∙ ap rule_in (named_so u.rule layer.name a.0) ∙ ap named (sym is.name)) a.1
 
     pub unstepped_is : TableRefusal 62 layer u (Some fault) → IsUnsteppedBy table bytes fault

@@ -21,7 +21,7 @@ use Rattle.life_table.specs.declared.table.Entry.TheVariants as entries
 use Rattle.life_table.specs.declared.table.Transition.{Transition as LayerTransition}
 use Rattle.life_table.specs.declared.table.Table.{Table as LayerTable}
 use Rattle.claims.specs.Table.{variable, Transition, Table, states_of, gives}
-use Rattle.table_laws.specs.ByCounts.{state_of, GivesByCounts, PermuteByCounts}
+use Rattle.table_laws.specs.ByCounts.{state_for, GivesByCounts, PermuteByCounts}
 use Rattle.table_laws.specs.Tables.{entry_in, transition_in, IsTable}
 use Rattle.table_laws.proofs.Decided.{gave, gets}
 use Rattle.table_laws.proofs.Given.{turned_about, has_state_of, is_state_of}
@@ -56,14 +56,14 @@ module _ {X Y : Type 0} (f : X → Y) where
 
 -- ---- choices, entries and counts
 
-entry_state : (value : ℕ → ℕ) (entry : LayerEntry) → state_of value (entry_in entry) ≡ layer_state_of value entry
+entry_state : (value : ℕ → ℕ) (entry : LayerEntry) → state_for value (entry_in entry) ≡ layer_state_of value entry
 entry_state value (entries.Fixed s) = refl
 entry_state value (entries.Var i) = refl
 
-entry_states : (value : ℕ → ℕ) (es : List LayerEntry) → map (state_of value) (map entry_in es) ≡ map (layer_state_of value) es
+entry_states : (value : ℕ → ℕ) (es : List LayerEntry) → map (state_for value) (map entry_in es) ≡ map (layer_state_of value) es
 entry_states value [] = refl
 entry_states value (e ∷ es) =
-    ap (λ n. n ∷ map (state_of value) (map entry_in es)) (entry_state value e) ∙ ap (λ (t : List ℕ). layer_state_of value e ∷ t) (entry_states value es)
+    ap (λ n. n ∷ map (state_for value) (map entry_in es)) (entry_state value e) ∙ ap (λ (t : List ℕ). layer_state_of value e ∷ t) (entry_states value es)
 
 take_map : (n : ℕ) (es : List LayerEntry) → take n (map entry_in es) ≡ map entry_in (take n es)
 take_map zero es = refl
@@ -94,10 +94,10 @@ module _ (layer : LayerTable) (table : Table) (is : IsTable layer table) (y : la
         value = g.choice;
         is_value = λ n l. in_any (g.choice n) (states_of table.variables (variable n))
             (is_state_of layer.vars table.variables is.variables n (g.choice n) (below n l) (g.is_choice n (below n l)));
-        first = ap (map (state_of g.choice)) (take_map 1 line.inputs) ∙ entry_states g.choice (take 1 line.inputs) ∙ g.first;
+        first = ap (map (state_for g.choice)) (take_map 1 line.inputs) ∙ entry_states g.choice (take 1 line.inputs) ∙ g.first;
         counts = λ t.
-            count_is t (map (state_of g.choice) (drop 1 (map entry_in line.inputs)))
-            ∙ ap (count_of t) (ap (map (state_of g.choice)) (drop_map 1 line.inputs) ∙ entry_states g.choice (drop 1 line.inputs))
+            count_is t (map (state_for g.choice) (drop 1 (map entry_in line.inputs)))
+            ∙ ap (count_of t) (ap (map (state_for g.choice)) (drop_map 1 line.inputs) ∙ entry_states g.choice (drop 1 line.inputs))
             ∙ g.counts t ∙ sym (count_is t around);
         output = entry_state g.choice line.output ∙ g.output;
       }
@@ -111,10 +111,10 @@ module _ (layer : LayerTable) (table : Table) (is : IsTable layer table) (y : la
         choice = g.value;
         is_choice = λ n l. has_state_of layer.vars table.variables is.variables n (g.value n)
             (any_in (g.value n) (states_of table.variables (variable n)) (g.is_value n (above n l)));
-        first = sym (ap (map (state_of g.value)) (take_map 1 line.inputs) ∙ entry_states g.value (take 1 line.inputs)) ∙ g.first;
+        first = sym (ap (map (state_for g.value)) (take_map 1 line.inputs) ∙ entry_states g.value (take 1 line.inputs)) ∙ g.first;
         counts = λ t.
-            sym (count_is t (map (state_of g.value) (drop 1 (map entry_in line.inputs)))
-            ∙ ap (count_of t) (ap (map (state_of g.value)) (drop_map 1 line.inputs) ∙ entry_states g.value (drop 1 line.inputs)))
+            sym (count_is t (map (state_for g.value) (drop 1 (map entry_in line.inputs)))
+            ∙ ap (count_of t) (ap (map (state_for g.value)) (drop_map 1 line.inputs) ∙ entry_states g.value (drop 1 line.inputs)))
             ∙ g.counts t ∙ count_is t around;
         output = sym (entry_state g.value line.output) ∙ g.output;
       } in

@@ -16,7 +16,7 @@ use Rattle.life_canon.specs.Universe.{square}
 use Rattle.life_canon.specs.Listing.{same_tree, is_in, is_small, with_new, with_all, place, number_of, rows_of, quad_line, line_of}
 use Rattle.life_canon.specs.Listing.{walk as tree_walk}
 use Rattle.life_canon.proofs.Trees.{joined}
-use Rattle.claims.specs.Canonical.{Square, point, quarters, square_at, square_level, is_blank_square, are_equal, walk, first_visits, child_number, state_rows, leaf_row, square_line}
+use Rattle.claims.specs.Canonical.{Square, point, quarters, square_at, square_level, is_blank_square, same_square, walk, first_visits, child_number, state_rows, leaf_row, square_line}
 use Rattle.claims.proofs.Bits.{all_over, all_over_at, bit}
 use Rattle.claims.proofs.RuleLaw.{rule_in}
 
@@ -57,7 +57,7 @@ blank_is (quarters a b c d) = λ i. blank_is a i && blank_is b i && blank_is c i
 swapped : (a b : ℕ) → (a == b) ≡ (b == a)
 swapped a b = grind (arith, nat_tests)
 
-equal_is : (s t : Square) → are_equal s t ≡ same_tree (tree t) (tree s)
+equal_is : (s t : Square) → same_square s t ≡ same_tree (tree t) (tree s)
 equal_is (point a) (point b) = swapped a b
 equal_is (point a) (quarters e f g h) = refl
 equal_is (quarters a b c d) (point e) = refl
@@ -90,12 +90,12 @@ walk_is m (quarters a b c d) =
     ∙ (λ i. cond (is_small m (tree (quarters a b c d))) []
     (walk_is m a i ++ (walk_is m b i ++ (walk_is m c i ++ (walk_is m d i ++ tree (quarters a b c d) ∷ [])))))
 
-known_is : (s : Square) (known : List Square) → list_any (are_equal s) known ≡ is_in (map tree known) (tree s)
+known_is : (s : Square) (known : List Square) → list_any (same_square s) known ≡ is_in (map tree known) (tree s)
 known_is s [] = refl
 known_is s (t ∷ known) = λ i. equal_is s t i || known_is s known i
 
-added_is : (s : Square) (known : List Square) → map tree (cond (list_any (are_equal s) known) known (known ++ s ∷ [])) ≡ with_new (map tree known) (tree s)
-added_is s known = map_if (list_any (are_equal s) known) ∙ (λ i. cond (known_is s known i) (map tree known) (map-append tree known (s ∷ []) i))
+added_is : (s : Square) (known : List Square) → map tree (cond (list_any (same_square s) known) known (known ++ s ∷ [])) ≡ with_new (map tree known) (tree s)
+added_is s known = map_if (list_any (same_square s) known) ∙ (λ i. cond (known_is s known i) (map tree known) (map-append tree known (s ∷ []) i))
   where
     map_if : (v : Bool) → map tree (cond v known (known ++ s ∷ [])) ≡ cond v (map tree known) (map tree (known ++ s ∷ []))
     map_if true = refl
@@ -104,12 +104,12 @@ added_is s known = map_if (list_any (are_equal s) known) ∙ (λ i. cond (known_
 pub visits_are : (known squares : List Square) → map tree (first_visits known squares) ≡ with_all (map tree known) (map tree squares)
 visits_are known [] = refl
 visits_are known (s ∷ squares) =
-    visits_are (cond (list_any (are_equal s) known) known (known ++ s ∷ [])) squares
+    visits_are (cond (list_any (same_square s) known) known (known ++ s ∷ [])) squares
     ∙ ap (λ (t : List Tree). with_all t (map tree squares)) (added_is s known)
 
-place_is : (s : Square) (all : List Square) → position_or_len (are_equal s) all ≡ place (map tree all) (tree s)
+place_is : (s : Square) (all : List Square) → position_or_len (same_square s) all ≡ place (map tree all) (tree s)
 place_is s [] = refl
-place_is s (t ∷ all) = by (are_equal s t) (position_or_len (are_equal s) all) ∙ (λ i. cond (equal_is s t i) 0 (suc (place_is s all i)))
+place_is s (t ∷ all) = by (same_square s t) (position_or_len (same_square s) all) ∙ (λ i. cond (equal_is s t i) 0 (suc (place_is s all i)))
   where
     by : (v : Bool) (n : ℕ) → cond (not v) (1 + n) 0 ≡ cond v 0 (suc n)
     by true n = refl
@@ -119,7 +119,7 @@ number_is : (all : List Square) (s : Square) → child_number all s ≡ number_o
 number_is all (point state) = refl
 number_is all (quarters a b c d) =
     let s = quarters a b c d in
-    let next : position_or_len (are_equal s) all + 1 ≡ suc (place (map tree all) (tree s)) = plus _ ∙ ap suc (place_is s all) in
+    let next : position_or_len (same_square s) all + 1 ≡ suc (place (map tree all) (tree s)) = plus _ ∙ ap suc (place_is s all) in
     λ i. cond (blank_is s i) 0 (next i)
   where
     plus : (n : ℕ) → n + 1 ≡ suc n
@@ -154,8 +154,8 @@ pub visits_have : (most : ℕ) (known squares : List Square) → AllHaveLevels m
     → AllHaveLevels most (first_visits known squares)
 visits_have most known [] h l = h
 visits_have most known (s ∷ squares) h l =
-    visits_have most (cond (list_any (are_equal s) known) known (known ++ s ∷ [])) squares
-    (either_has most (list_any (are_equal s) known) known (known ++ s ∷ []) h (both_have most known (s ∷ []) h (l.0, tt))) l.1
+    visits_have most (cond (list_any (same_square s) known) known (known ++ s ∷ [])) squares
+    (either_has most (list_any (same_square s) known) known (known ++ s ∷ []) h (both_have most known (s ∷ []) h (l.0, tt))) l.1
 
 -- ---- a leaf
 

@@ -7,6 +7,7 @@ use Rattle.life_base.specs.Tree.{Tree, depth}
 use Rattle.life_base.specs.declared.rule.Rule.{Rule as LayerRule}
 use Rattle.life_base.specs.declared.rule.Rule.TheVariants.{Life, Named}
 use Rattle.life_mc.specs.Macrocell.{largest_state}
+use Rattle.life_rle.specs.Written.{rle_text}
 use Rattle.life_mc.specs.Writing.{mc_text, node_text, generation_text}
 use Rattle.life_canon.specs.Universe.{Universe, IsOnPlane, IsWithin, IsBlankOutside, corner, centred, whole}
 use Rattle.life_canon.specs.Universe.{least_level as layer_least}
@@ -164,7 +165,7 @@ rle_of_file file text h =
     let same : record { rule = rule_in u.rule; generation = u.generation; cell = u.cell } ≡ p.pattern =
     λ i. record { rule = sym p.rule i; generation = sym p.generation i; cell = λ x y. sym (p.cells x y) i } in
     let own = rle_of_pattern rule_text_is u.rule u.generation u.cell h.cells (same_cells u.cell u.cell h.cells refl h.are) in
-    (p.pattern, p.is, subst (λ (t : List ℕ). IsRleOfPattern p.pattern t) (sym h.is) (subst (λ (q : Pattern). IsRleOfPattern q _) same own))
+    (p.pattern, p.is, subst (λ (t : List ℕ). IsRleOfPattern p.pattern t) (sym h.is) (subst (λ (q : Pattern). IsRleOfPattern q (rle_text u.rule u.generation h.cells)) same own))
 
 -- a pattern has one text
 pub one_text_of : (pattern : Pattern) (s t : List ℕ) → IsTextOfPattern pattern s → IsTextOfPattern pattern t → s ≡ t
