@@ -12,7 +12,7 @@ mod streams;
 mod texts;
 
 use forms::{MOVED_GLIDER, TURNED_GLIDER};
-use life_cli::plans::{Form, Job, Target};
+use life_cli::plans::{Form, Target, Task};
 use steps::{NEXT_LINE, SEED, SPREAD, SPREAD_TEXT};
 
 /// A glider, and its text: the rows about the middle of a leaf.
@@ -51,18 +51,18 @@ const SAME: &[u8] = b"same\n";
 const DIFFERENT: &[u8] = b"different\n";
 
 /// Jobs with their files, the status that they end with, and what they write.
-const JOBS: [(Job, &[u8], Option<&[u8]>, u8, &[u8]); 13] = [
-    (Job::Show, TWINS, None, 0, TWINS_SHOWN),
-    (Job::Canon(Form::Placed), TWINS_IN_RLE, None, 0, TWINS_TEXT),
-    (Job::Canon(Form::Moved), GLIDER, None, 0, MOVED_GLIDER),
-    (Job::Canon(Form::Turned), GLIDER, None, 0, TURNED_GLIDER),
-    (Job::Show, EAST_GLIDER, None, 0, EAST_GLIDER_SHOWN),
-    (Job::Convert(Target::Rle), TWINS, None, 0, TWINS_RUNS),
-    (Job::Convert(Target::Mc), TWINS_IN_RLE, None, 0, TWINS_TEXT),
-    (Job::Step, LINE, None, 0, NEXT_LINE),
-    (Job::Same(Form::Placed), TWINS, Some(TWINS_IN_RLE), 0, SAME),
-    (Job::Same(Form::Placed), TWINS, Some(WIRES), 1, DIFFERENT),
-    (Job::Same(Form::Moved), GLIDER, Some(EAST_GLIDER), 0, SAME),
-    (Job::Same(Form::Turned), LINE, Some(TWINS), 1, DIFFERENT),
-    (Job::StepTable, SEED, Some(SPREAD), 0, SPREAD_TEXT),
+const TASKS: [(Task, &[u8], Option<&[u8]>, u8, &[u8]); 13] = [
+    (Task::Show, TWINS, None, 0, TWINS_SHOWN),
+    (Task::Canon(Form::Placed), TWINS_IN_RLE, None, 0, TWINS_TEXT),
+    (Task::Canon(Form::Moved), GLIDER, None, 0, MOVED_GLIDER),
+    (Task::Canon(Form::Turned), GLIDER, None, 0, TURNED_GLIDER),
+    (Task::Show, EAST_GLIDER, None, 0, EAST_GLIDER_SHOWN),
+    (Task::Convert(Target::Rle), TWINS, None, 0, TWINS_RUNS),
+    (Task::Convert(Target::Mc), TWINS_IN_RLE, None, 0, TWINS_TEXT),
+    (Task::Step, LINE, None, 0, NEXT_LINE),
+    (Task::Same(Form::Placed), TWINS, Some(TWINS_IN_RLE), 0, SAME),
+    (Task::Same(Form::Placed), TWINS, Some(WIRES), 1, DIFFERENT),
+    (Task::Same(Form::Moved), GLIDER, Some(EAST_GLIDER), 0, SAME),
+    (Task::Same(Form::Turned), LINE, Some(TWINS), 1, DIFFERENT),
+    (Task::StepTable, SEED, Some(SPREAD), 0, SPREAD_TEXT),
 ];

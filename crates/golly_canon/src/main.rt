@@ -4,29 +4,34 @@
 ghost use Rattle.std.specs.Prelude.{◌↔◌, IsSome};
 ghost use Rattle.life_cli.specs.Plans.{HasSecond};
 
+mod arguments;
 mod opening;
 mod progress;
 
+use arguments::{Unreadable, arguments, report_unreadable};
+use clap::error::ErrorKind;
 use life_base::{Device, Kind};
-use life_cli::plans::{KeysPlan, Plan, Request, Usage};
-use life_cli::{Seeds, open_files, refuse, report, request, work, write_keys};
+use life_cli::plans::{KeysPlan, Request, TaskPlan, Usage};
+use life_cli::{Seeds, open_files, refuse, report, request, work_seeded, write_keys};
 use opening::{HeldStreams, hold_closed_streams, open, open_no_folder};
 use progress::{Beside, ProgressLine};
 use std::process::ExitCode;
-use std::{env, io};
 
-/// Prints the text that `clap` has for the words, reports on them, and answers the status.
+/// Prints the text that `clap` has for the words, reports on them, and answers the status. Where `clap` is out of memory it has no text.
 fn report_usage(rt: &HostRuntime, usage: &Usage) -> u8 {
     let is_printed = match usage {
-        Usage::Words(error) => error.print(rt).is_ok(),
-        Usage::TwoInputs | Usage::NoText | Usage::Memory => true,
+        Usage::Words(error) => match error.kind() {
+            ErrorKind::OutOfMemory => true,
+            _ => error.print(rt).is_ok(),
+        },
+        Usage::TwoInputs | Usage::Memory => true,
     };
     report(&mut Device::new(rt.stderr()), usage, is_printed)
 }
 
-/// Draws the random words, opens the plan's files and does its job. Without random words nothing is read.
-fn carry_out(rt: &HostRuntime, plan: &Plan) -> u8
-    requires { IsSome plan.now.second ↔ HasSecond plan.now.job }
+/// Draws the random words, opens the plan's files and does its task. Without random words nothing is read.
+fn carry_out(rt: &HostRuntime, plan: &TaskPlan) -> u8
+    requires { IsSome plan.now.second ↔ HasSecond plan.now.task }
 {
     let mut err = Device::new(rt.stderr());
     let Ok(seeds) = Seeds::drawn(rt) else {
@@ -36,10 +41,10 @@ fn carry_out(rt: &HostRuntime, plan: &Plan) -> u8
         Ok(files) => {
             let (mut first, mut second) = files;
             let mut out = Device::new(rt.stdout());
-            work(
+            work_seeded(
                 rt.alloc(),
                 &seeds,
-                &plan.job,
+                &plan.task,
                 &mut first,
                 &mut second,
                 &mut out,
@@ -100,16 +105,11 @@ fn run(rt: &HostRuntime, held: &HeldStreams, words: &[String]) -> u8 {
     }
 }
 
-/// The words of the command line, the program's own name first.
-fn words(rt: &HostRuntime) -> io::Result<Vec<String>> {
-    Ok(env::args(rt)?.collect(rt.alloc())?)
-}
-
 fn main(rt: HostRuntime) -> ExitCode {
     let held = hold_closed_streams(&rt);
-    let status = match words(&rt) {
+    let status = match arguments(&rt) {
         Ok(words) => run(&rt, &held, &words),
-        Err(error) => report_usage(&rt, &Usage::from(error)),
+        Err(error) => report_unreadable(&mut Device::new(rt.stderr()), Unreadable::from(error)),
     };
     ExitCode::from(status)
 }

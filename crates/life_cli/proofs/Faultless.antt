@@ -18,7 +18,7 @@ use Rattle.clap.specs.declared.error.kind.ErrorKind.{ErrorKind}
 use Rattle.clap.specs.declared.error.kind.ErrorKind.TheVariants.{TooManyValues}
 use Rattle.clap.specs.declared.parser.matches.ValueSource.TheVariants.{CommandLine}
 use Rattle.life_cli.specs.Plans.{AreWhole}
-use Rattle.life_cli.specs.declared.plans.Job.TheVariants.{Canon, Convert, Same, Show, Step as StepJob}
+use Rattle.life_cli.specs.declared.plans.Task.TheVariants.{Canon, Convert, Same, Show, Step as StepTask}
 use Rattle.life_cli.specs.declared.plans.Form.TheVariants.{Placed}
 use Rattle.life_cli.specs.declared.plans.Target.TheVariants.{Rle}
 use Rattle.life_cli.specs.CommandLine.{program, one_file_line, canon_line, convert_line, same_line, step_line, keys_line}
@@ -447,7 +447,7 @@ show_whole words none =
 step_whole : (words : List Text) → IsWholeAt words (leaf step_line)
 step_whole words none =
     let all : ArePlain (leaf step_line).rules = ((refl, inl (refl, omega arith)), ((refl, inl (refl, omega arith)), ((refl, inr refl), tt))) in
-    inl (StepJob, refl, one_there words (leaf step_line) all none _ (codes "FILE") refl)
+    inl (StepTask, refl, one_there words (leaf step_line) all none _ (codes "FILE") refl)
 
 convert_whole : (words : List Text) → IsWholeAt words (leaf convert_line)
 convert_whole words none =

@@ -1,4 +1,4 @@
--- From the parts of a job to what it did, or why it is refused.
+-- From the parts of a task to what it did, or why it is refused.
 use Rattle.std.proofs.Common.{◌≡◌, ◌<◌, arith, ℕ, ◌^◌, ◌⊎◌, inl, inr, List, [], Bool, true, false, Option, Some, None, IfSome, Result, Ok, Err, IfErr, IfOk, OnOk, IsErrAnd, ap, refl, IsTrue, ◌↔◌, subst, sym, ◌∙◌}
 use Rattle.std.specs.Option.{option_map_or}
 use Rattle.std.specs.Io.KnownBytes.{Appends}
@@ -27,8 +27,8 @@ use Rattle.life_table.specs.Reading.{Refuses as RefusesTable}
 use Rattle.life_table.specs.declared.table.Table.{Table}
 use Rattle.life_cli.specs.declared.plans.Form.{Form}
 use Rattle.life_cli.specs.declared.plans.Form.TheVariants.{Placed, Moved, Turned}
-use Rattle.life_cli.specs.declared.plans.Job.{Job}
-use Rattle.life_cli.specs.declared.plans.Job.TheVariants.{Canon, Convert, Same, Show, Step, StepTable}
+use Rattle.life_cli.specs.declared.plans.Task.{Task}
+use Rattle.life_cli.specs.declared.plans.Task.TheVariants.{Canon, Convert, Same, Show, Step, StepTable}
 use Rattle.life_cli.specs.declared.plans.Target.TheVariants.{Rle, Mc}
 use Rattle.life_cli.specs.declared.refusals.Refusal.{Refusal}
 use Rattle.life_cli.specs.declared.jobs.Made.{Made}
@@ -39,10 +39,10 @@ use Rattle.life_cli.specs.Plans.{HasSecond, WritesPlacedText}
 use Rattle.life_step.specs.Stepped.{IsStepped, IsSteppedBy}
 use Rattle.life_cli.specs.Jobs.{InputRefuses, by_length, by_source, HasNoText, by_input, by_file, by_want, AreUncompared}
 use Rattle.life_cli.specs.Jobs.{by_first, by_second, by_form, by_first_shortage, by_second_shortage, RefusesInForm, RefusesSame}
-use Rattle.life_cli.specs.Jobs.{IsWantFor, WantsFor, RefusesMany, Compares, made_text, made_status, HasAnswer, JobMakes, Writes, Worked, BreaksOff, HasText, FileRefuses, ComesOf}
+use Rattle.life_cli.specs.Jobs.{IsWantFor, WantsFor, RefusesMany, Compares, made_text, made_status, HasAnswer, TaskMakes, Writes, Worked, BreaksOff, HasText, FileRefuses, ComesOf}
 use Rattle.life_cli.specs.Jobs.{by_comparing, by_reading, by_writing, by_telling, HasTextByTable, HasNoTextByTable, MadeOf}
 use Rattle.life_cli.specs.Jobs.{RefusesStep, HasTable, HasNoTable, table_by_input, table_by_lines}
-use Rattle.life_cli.specs.Jobs.{table_by_memory, CanonRefuses, OfFile, JobRan, JobRefuses}
+use Rattle.life_cli.specs.Jobs.{table_by_memory, CanonRefuses, OfFile, TaskRan, TaskRefuses}
 
 -- nothing comes of an input of which a store makes no pattern
 pub no_pattern : (refuses : List ℕ → Fault → Type 0) (source : SourceRun) (store : Nodes) (fault : Fault) → store.limit ≡ 2 ^ 31
@@ -118,7 +118,7 @@ answers form a b false is = inr (refl, (λ same. let bad : false ≡ true = is.1
 
 compared_files : (form : Form) (first second : SourceRun) (a b : List ℕ) (answer : Bool) → ReadAll (2 ^ 30) first.before first.after a
     → ReadAll (2 ^ 30) second.before second.after b → Accepted MAX_LEVEL a → Accepted MAX_LEVEL b → ¬ HasTooMany form MAX_LEVEL a b
-    → IsTrue answer ↔ AreSameIn form MAX_LEVEL a b → JobMakes (Same form) first second (Comparison answer)
+    → IsTrue answer ↔ AreSameIn form MAX_LEVEL a b → TaskMakes (Same form) first second (Comparison answer)
 compared_files form first second a b answer one two first_is second_is few is = record {
   first_bytes = a;
   second_bytes = b;
@@ -133,13 +133,13 @@ module _ (form : Form) (first second : SourceRun) (store : Nodes) (a b : List �
     (others : IsRead MAX_LEVEL b store q) where
   pub compared_in : IfOk r (λ answer. (f s : List ℕ) → IsRead MAX_LEVEL f store p → IsRead MAX_LEVEL s store q → IsTrue answer ↔ AreSameIn form MAX_LEVEL f s)
       → OnOk r ((f s : List ℕ) → IsRead MAX_LEVEL f store p → IsRead MAX_LEVEL s store q → ¬ HasTooMany form MAX_LEVEL f s)
-      → IfOk r (λ answer. JobMakes (Same form) first second (Comparison answer))
+      → IfOk r (λ answer. TaskMakes (Same form) first second (Comparison answer))
   compared_in h few = go r h few
     where
       go : (r : Result Bool Fault)
           → IfOk r (λ answer. (f s : List ℕ) → IsRead MAX_LEVEL f store p → IsRead MAX_LEVEL s store q → IsTrue answer ↔ AreSameIn form MAX_LEVEL f s)
           → OnOk r ((f s : List ℕ) → IsRead MAX_LEVEL f store p → IsRead MAX_LEVEL s store q → ¬ HasTooMany form MAX_LEVEL f s)
-          → IfOk r (λ answer. JobMakes (Same form) first second (Comparison answer))
+          → IfOk r (λ answer. TaskMakes (Same form) first second (Comparison answer))
       go (Ok answer) h few =
           compared_files form first second a b answer one two (reads.universe, reads.reads) (others.universe, others.reads) (few a b reads others)
           (h a b reads others)
@@ -230,10 +230,10 @@ read_as_table source bytes (Ok table) read is = record { bytes = bytes; read = r
 read_as_table source bytes (Err fault) read is = tt
 
 -- a text that was made of the first file, and of what was read of the second one
-made_of_file : (gives : List ℕ → List ℕ → Type 0) (job : Job) (first second : SourceRun) (others text : List ℕ)
-    → HasText gives first text → (HasSecond job → ReadAll (2 ^ 30) second.before second.after others)
-    → ((bytes : List ℕ) → gives bytes text → Writes job bytes others 0 text) → HasAnswer job first second 0 text
-made_of_file gives job first second others text has read is = record {
+made_of_file : (gives : List ℕ → List ℕ → Type 0) (task : Task) (first second : SourceRun) (others text : List ℕ)
+    → HasText gives first text → (HasSecond task → ReadAll (2 ^ 30) second.before second.after others)
+    → ((bytes : List ℕ) → gives bytes text → Writes task bytes others 0 text) → HasAnswer task first second 0 text
+made_of_file gives task first second others text has read is = record {
   first_bytes = has.bytes;
   second_bytes = others;
   first_read = has.read;
@@ -246,26 +246,26 @@ pub none_failed : {B : Type 0} (failures : B → ℕ) (o : Option B) → IfSome 
 none_failed failures None works = refl
 none_failed failures (Some b) works = works
 
--- what comes of the text of a job over one file
+-- what comes of the text of a task over one file
 pub made_of_text : {X : Type 0} (make : X → Made) (items : X → List ℕ) (gives : List ℕ → List ℕ → Type 0) (refuses : List ℕ → Fault → Type 0)
-    (job : Job) (first second : SourceRun) (r : Result X Fault) (m : Result Made Refusal)
-    → ((x : X) → (made_status (make x) ≡ 0) × (made_text (make x) ≡ items x)) → second.failures ≡ 0 → ¬ HasSecond job
-    → ((bytes text : List ℕ) → gives bytes text → Writes job bytes [] 0 text)
-    → ((output : SinkRun) (refusal : Refusal) → OfFile (HasNoText refuses first) refusal → JobRefuses job first second output refusal)
-    → ComesOf items gives refuses first r → IfOk r (λ x. m ≡ Ok (make x)) → IfErr r (λ f. m ≡ Err (refusal_of f)) → MadeOf job first second m
-made_of_text make items gives refuses job first second (Ok x) m is works alone writes refused comes made failed =
-    let answer = made_of_file gives job first second [] (items x) comes.ok (λ has. absurd (alone has)) (λ bytes. writes bytes (items x)) in
-    let told = subst (HasAnswer job first second 0) (sym (is x).1) answer in
-    subst (MadeOf job first second) (sym made) (record {
-      ok = subst (λ n. HasAnswer job first second n (made_text (make x))) (sym (is x).0) told;
+    (task : Task) (first second : SourceRun) (r : Result X Fault) (m : Result Made Refusal)
+    → ((x : X) → (made_status (make x) ≡ 0) × (made_text (make x) ≡ items x)) → second.failures ≡ 0 → ¬ HasSecond task
+    → ((bytes text : List ℕ) → gives bytes text → Writes task bytes [] 0 text)
+    → ((output : SinkRun) (refusal : Refusal) → OfFile (HasNoText refuses first) refusal → TaskRefuses task first second output refusal)
+    → ComesOf items gives refuses first r → IfOk r (λ x. m ≡ Ok (make x)) → IfErr r (λ f. m ≡ Err (refusal_of f)) → MadeOf task first second m
+made_of_text make items gives refuses task first second (Ok x) m is works alone writes refused comes made failed =
+    let answer = made_of_file gives task first second [] (items x) comes.ok (λ has. absurd (alone has)) (λ bytes. writes bytes (items x)) in
+    let told = subst (HasAnswer task first second 0) (sym (is x).1) answer in
+    subst (MadeOf task first second) (sym made) (record {
+      ok = subst (λ n. HasAnswer task first second n (made_text (make x))) (sym (is x).0) told;
       err = tt;
       told = λ e. elim e [
         | inl f ↦ absurd (comes.told f)
         | inr f ↦ let bad : 0 ≡ 1 = sym works ∙ f in absurd cc
       ];
     })
-made_of_text make items gives refuses job first second (Err fault) m is works alone writes refused comes made failed =
-    subst (MadeOf job first second) (sym failed) (record {
+made_of_text make items gives refuses task first second (Err fault) m is works alone writes refused comes made failed =
+    subst (MadeOf task first second) (sym failed) (record {
       ok = tt;
       err = λ output. refused output (refusal_of fault) (refl, comes.err);
       told = λ e. elim e [
@@ -276,7 +276,7 @@ made_of_text make items gives refuses job first second (Err fault) m is works al
 
 -- of a comparison
 pub made_of_comparison : (form : Form) (first second : SourceRun) (r : Result Bool Fault) (m : Result Made Refusal)
-    → IfOk r (λ is_same. JobMakes (Same form) first second (Comparison is_same)) → IfErr r (AreUncompared form first second)
+    → IfOk r (λ is_same. TaskMakes (Same form) first second (Comparison is_same)) → IfErr r (AreUncompared form first second)
     → ((first.failures ≡ 1) ⊎ (second.failures ≡ 1) → IsErrAnd r (λ fault. fault.kind ≡ ReadFault))
     → IfOk r (λ is_same. m ≡ Ok (Comparison is_same)) → IfErr r (λ f. m ≡ Err (refusal_of f)) → MadeOf (Same form) first second m
 made_of_comparison form first second (Ok is_same) m makes refuses told made failed =
@@ -307,10 +307,10 @@ pub not_so : (answer : Bool) (P : Type 0) → IsTrue answer ↔ P → answer ≡
 not_so true P is fails holds = absurd cc
 not_so false P is fails holds = let bad : false ≡ true = is.1 holds in absurd cc
 
--- what was made is written: the job is done
-worked : (job : Job) (first second : SourceRun) (output : SinkRun) (made : Made) → JobMakes job first second made
-    → Appends output.before output.after (made_text made) → Worked job (made_status made) first second output
-worked job first second output made makes written = record { text = made_text made; answer = makes; written = written }
+-- what was made is written: the task is done
+worked : (task : Task) (first second : SourceRun) (output : SinkRun) (made : Made) → TaskMakes task first second made
+    → Appends output.before output.after (made_text made) → Worked task (made_status made) first second output
+worked task first second output made makes written = record { text = made_text made; answer = makes; written = written }
 
 -- it could not be written
 broken_text : (gives : List ℕ → List ℕ → Type 0) (refuses : List ℕ → Fault → Type 0) (source : SourceRun) (output : SinkRun) (bytes text : List ℕ)
@@ -318,8 +318,8 @@ broken_text : (gives : List ℕ → List ℕ → Type 0) (refuses : List ℕ →
     → FileRefuses gives refuses source output fault
 broken_text gives refuses source output bytes text fault read is broken = by_writing text (record { bytes = bytes; read = read; is = is }) broken
 
-unwritten : (job : Job) (first second : SourceRun) (output : SinkRun) (made : Made) (refusal : Refusal) → ¬ WritesPlacedText job
-    → JobMakes job first second made → OfFile (BreaksOff output (made_text made)) refusal → JobRefuses job first second output refusal
+unwritten : (task : Task) (first second : SourceRun) (output : SinkRun) (made : Made) (refusal : Refusal) → ¬ WritesPlacedText task
+    → TaskMakes task first second made → OfFile (BreaksOff output (made_text made)) refusal → TaskRefuses task first second output refusal
 unwritten (Canon Placed) first second output made refusal other makes broken = absurd (other tt)
 unwritten (Canon Moved) first second output made refusal other makes broken =
     (broken.0, broken_text (IsTextIn Moved MAX_LEVEL) (RefusesInForm Moved) first output _ _ refusal.fault makes.first_read makes.writes.1 broken.1)
@@ -342,14 +342,14 @@ unwritten StepTable first second output made refusal other makes broken =
 
 -- nothing comes of a pattern in a form
 pub refused_form : (form : Form) (first second : SourceRun) (output : SinkRun) (refusal : Refusal) → ¬ WritesPlacedText (Canon form)
-    → OfFile (HasNoText (RefusesInForm form) first) refusal → JobRefuses (Canon form) first second output refusal
+    → OfFile (HasNoText (RefusesInForm form) first) refusal → TaskRefuses (Canon form) first second output refusal
 refused_form Placed first second output refusal other h = absurd (other tt)
 refused_form Moved first second output refusal other h = (h.0, by_reading h.1)
 refused_form Turned first second output refusal other h = (h.0, by_reading h.1)
 
--- a job that writes the canonical text of its file's pattern as that lies
-canonical_as : (job : Job) (first second : SourceRun) (output : SinkRun) → WritesPlacedText job → Worked (Canon Placed) 0 first second output
-    → Worked job 0 first second output
+-- a task that writes the canonical text of its file's pattern as that lies
+canonical_as : (task : Task) (first second : SourceRun) (output : SinkRun) → WritesPlacedText task → Worked (Canon Placed) 0 first second output
+    → Worked task 0 first second output
 canonical_as (Canon Placed) first second output is done = done
 canonical_as (Canon Moved) first second output is done = absurd is
 canonical_as (Canon Turned) first second output is done = absurd is
@@ -370,16 +370,16 @@ canonical_as Show first second output is done = absurd is
 canonical_as Step first second output is done = absurd is
 canonical_as StepTable first second output is done = absurd is
 
-worked_canonical : (job : Job) (first second : SourceRun) (output : SinkRun) (r : Result ℕ Refusal) → WritesPlacedText job
+worked_canonical : (task : Task) (first second : SourceRun) (output : SinkRun) (r : Result ℕ Refusal) → WritesPlacedText task
     → IfOk r (λ status. status ≡ 0) → OnOk r ((second : SourceRun) → Worked (Canon Placed) 0 first second output)
-    → IfOk r (λ status. Worked job status first second output)
-worked_canonical job first second output (Ok status) is zero done =
-    let P : ℕ → Type 0 = λ n. Worked job n first second output in subst P (sym zero) (canonical_as job first second output is (done second))
-worked_canonical job first second output (Err refusal) is zero done = tt
+    → IfOk r (λ status. Worked task status first second output)
+worked_canonical task first second output (Ok status) is zero done =
+    let P : ℕ → Type 0 = λ n. Worked task n first second output in subst P (sym zero) (canonical_as task first second output is (done second))
+worked_canonical task first second output (Err refusal) is zero done = tt
 
 -- and its refusal
-canonical_refused : (job : Job) (first second : SourceRun) (output : SinkRun) (refusal : Refusal) → WritesPlacedText job
-    → OfFile (CanonRefuses first output) refusal → JobRefuses job first second output refusal
+canonical_refused : (task : Task) (first second : SourceRun) (output : SinkRun) (refusal : Refusal) → WritesPlacedText task
+    → OfFile (CanonRefuses first output) refusal → TaskRefuses task first second output refusal
 canonical_refused (Canon Placed) first second output refusal is refused = refused
 canonical_refused (Canon Moved) first second output refusal is refused = absurd is
 canonical_refused (Canon Turned) first second output refusal is refused = absurd is
@@ -395,14 +395,14 @@ small_status (Text text) = omega arith
 small_status (Comparison true) = omega arith
 small_status (Comparison false) = omega arith
 
--- what became of a job that writes that text
-pub ran_canonical : (job : Job) (first second : SourceRun) (output : SinkRun) (r : Result ℕ Refusal) → WritesPlacedText job → second.failures ≡ 0
+-- what became of a task that writes that text
+pub ran_canonical : (task : Task) (first second : SourceRun) (output : SinkRun) (r : Result ℕ Refusal) → WritesPlacedText task → second.failures ≡ 0
     → IfOk r (λ status. status ≡ 0) → OnOk r ((second : SourceRun) → Worked (Canon Placed) 0 first second output)
     → IfErr r (OfFile (CanonRefuses first output)) → (first.failures ≡ 1 → IsErrAnd r (λ refusal. refusal.fault.kind ≡ ReadFault))
     → ((output.failures ≡ 1) ⊎ (output.stalled ≡ true) → IsErrAnd r (λ refusal. refusal.fault.kind ≡ WriteFault))
-    → JobRan job first second output r
-ran_canonical job first second output (Ok status) is works zero done refused told broken = record {
-  done = (omega (arith, zero), worked_canonical job first second output (Ok status) is zero done);
+    → TaskRan task first second output r
+ran_canonical task first second output (Ok status) is works zero done refused told broken = record {
+  done = (omega (arith, zero), worked_canonical task first second output (Ok status) is zero done);
   refused = tt;
   read_told = λ e. elim e [
     | inl f ↦ absurd (told f)
@@ -410,9 +410,9 @@ ran_canonical job first second output (Ok status) is works zero done refused tol
   ];
   write_told = broken;
 }
-ran_canonical job first second output (Err refusal) is works zero done refused told broken = record {
+ran_canonical task first second output (Err refusal) is works zero done refused told broken = record {
   done = tt;
-  refused = canonical_refused job first second output refusal is refused;
+  refused = canonical_refused task first second output refusal is refused;
   read_told = λ e. elim e [
     | inl f ↦ told f
     | inr f ↦ let bad : 0 ≡ 1 = sym works ∙ f in absurd cc
@@ -421,9 +421,9 @@ ran_canonical job first second output (Err refusal) is works zero done refused t
 }
 
 -- of one that made nothing
-pub ran_unmade : (job : Job) (first second : SourceRun) (output : SinkRun) (refusal : Refusal) → MadeOf job first second (Err refusal)
-    → output.failures ≡ 0 → output.stalled ≡ false → JobRan job first second output (Err refusal)
-ran_unmade job first second output refusal makes works takes = record {
+pub ran_unmade : (task : Task) (first second : SourceRun) (output : SinkRun) (refusal : Refusal) → MadeOf task first second (Err refusal)
+    → output.failures ≡ 0 → output.stalled ≡ false → TaskRan task first second output (Err refusal)
+ran_unmade task first second output refusal makes works takes = record {
   done = tt;
   refused = makes.err output;
   read_told = makes.told;
@@ -434,21 +434,21 @@ ran_unmade job first second output refusal makes works takes = record {
 }
 
 -- of one whose text could not be written
-pub ran_unwritten : (job : Job) (first second : SourceRun) (output : SinkRun) (made : Made) (refusal : Refusal) → ¬ WritesPlacedText job
-    → MadeOf job first second (Ok made) → OfFile (BreaksOff output (made_text made)) refusal → JobRan job first second output (Err refusal)
-ran_unwritten job first second output made refusal other makes broken = record {
+pub ran_unwritten : (task : Task) (first second : SourceRun) (output : SinkRun) (made : Made) (refusal : Refusal) → ¬ WritesPlacedText task
+    → MadeOf task first second (Ok made) → OfFile (BreaksOff output (made_text made)) refusal → TaskRan task first second output (Err refusal)
+ran_unwritten task first second output made refusal other makes broken = record {
   done = tt;
-  refused = unwritten job first second output made refusal other makes.ok broken;
+  refused = unwritten task first second output made refusal other makes.ok broken;
   read_told = λ e. absurd (makes.told e);
   write_told = λ e. ap (λ (fault : Fault). fault.kind) broken.1.is;
 }
 
 -- of one that was done
-pub ran_done : (job : Job) (first second : SourceRun) (output : SinkRun) (made : Made) → MadeOf job first second (Ok made)
+pub ran_done : (task : Task) (first second : SourceRun) (output : SinkRun) (made : Made) → MadeOf task first second (Ok made)
     → Appends output.before output.after (made_text made) → ((output.failures ≡ 1) ⊎ (output.stalled ≡ true) → ⊥)
-    → JobRan job first second output (Ok (made_status made))
-ran_done job first second output made makes written works = record {
-  done = (small_status made, worked job first second output made makes.ok written);
+    → TaskRan task first second output (Ok (made_status made))
+ran_done task first second output made makes written works = record {
+  done = (small_status made, worked task first second output made makes.ok written);
   refused = tt;
   read_told = λ e. absurd (makes.told e);
   write_told = works;

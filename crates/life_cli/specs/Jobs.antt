@@ -1,4 +1,4 @@
--- What a job writes, by the bytes of its files, and why it is refused.
+-- What a task writes, by the bytes of its files, and why it is refused.
 use Rattle.std.specs.Prelude.{◌≡◌, ◌⊎◌, ◌<◌, ◌^◌, ℕ, true, false, List, Some, Result, IfOk, IfErr, IsErrAnd, codes, if◌then◌else◌}
 use Rattle.std.specs.Io.KnownBytes.{Appends}
 use Rattle.life_base.specs.DeviceRuns.{SourceRun, SinkRun}
@@ -26,8 +26,8 @@ use Rattle.life_cli.specs.Forms.{AreSameIn, HasTooMany, IsTextIn}
 use Rattle.life_cli.specs.Plans.{HasSecond}
 use Rattle.life_cli.specs.declared.plans.Form.{Form}
 use Rattle.life_cli.specs.declared.plans.Form.TheVariants.{Placed, Moved, Turned}
-use Rattle.life_cli.specs.declared.plans.Job.{Job}
-use Rattle.life_cli.specs.declared.plans.Job.TheVariants.{Canon, Convert, Same, Show, Step, StepTable}
+use Rattle.life_cli.specs.declared.plans.Task.{Task}
+use Rattle.life_cli.specs.declared.plans.Task.TheVariants.{Canon, Convert, Same, Show, Step, StepTable}
 use Rattle.life_cli.specs.declared.plans.Target.TheVariants.{Rle, Mc}
 use Rattle.life_cli.specs.declared.refusals.Refusal.{Refusal}
 use Rattle.life_cli.specs.declared.jobs.Made.{Made}
@@ -39,8 +39,8 @@ Compares form first second status text =
     ((status ≡ 0) × AreSameIn form MAX_LEVEL first second × (text ≡ codes "same\n"))
     ⊎ ((status ≡ 1) × (¬ AreSameIn form MAX_LEVEL first second) × (text ≡ codes "different\n"))
 
--- the status and the text of a job on the bytes of its files
-abbrev pub Writes : Job → List ℕ → List ℕ → ℕ → List ℕ → Type 0
+-- the status and the text of a task on the bytes of its files
+abbrev pub Writes : Task → List ℕ → List ℕ → ℕ → List ℕ → Type 0
 Writes (Canon form) first second status text = (status ≡ 0) × IsTextIn form MAX_LEVEL first text
 Writes (Convert Rle) first second status text = (status ≡ 0) × IsRleOf MAX_LEVEL (2 ^ 20) first text
 Writes (Convert Mc) first second status text = (status ≡ 0) × IsCanonical MAX_LEVEL first text
@@ -50,21 +50,21 @@ Writes Show first second status text = (status ≡ 0) × IsShown MAX_LEVEL first
 Writes Step first second status text = (status ≡ 0) × IsStepped first text
 Writes StepTable first second status text = (status ≡ 0) × ((table : Table) × IsFile (lines_of second) table × IsSteppedBy table first text)
 
--- the files were read to their ends, and these are the status and the text of the job on their bytes
-pub record HasAnswer (job : Job) (first second : SourceRun) (status : ℕ) (text : List ℕ) : Type 0 where
+-- the files were read to their ends, and these are the status and the text of the task on their bytes
+pub record HasAnswer (task : Task) (first second : SourceRun) (status : ℕ) (text : List ℕ) : Type 0 where
   pub first_bytes : List ℕ
   pub second_bytes : List ℕ
   pub first_read : ReadAll (2 ^ 30) first.before first.after first_bytes
-  pub second_read : HasSecond job → ReadAll (2 ^ 30) second.before second.after second_bytes
-  pub writes : Writes job first_bytes second_bytes status text
+  pub second_read : HasSecond task → ReadAll (2 ^ 30) second.before second.after second_bytes
+  pub writes : Writes task first_bytes second_bytes status text
 
--- the files were read to their ends, and what was written is the text of the job and nothing else
-pub record Worked (job : Job) (status : ℕ) (first second : SourceRun) (output : SinkRun) : Type 0 where
+-- the files were read to their ends, and what was written is the text of the task and nothing else
+pub record Worked (task : Task) (status : ℕ) (first second : SourceRun) (output : SinkRun) : Type 0 where
   pub text : List ℕ
-  pub answer : HasAnswer job first second status text
+  pub answer : HasAnswer task first second status text
   pub written : Appends output.before output.after text
 
--- what is written of what a job made, and its status
+-- what is written of what a task made, and its status
 abbrev pub made_text : Made → List ℕ
 made_text (Text text) = text.items
 made_text (Comparison is_same) = if is_same then codes "same\n" else codes "different\n"
@@ -73,9 +73,9 @@ abbrev pub made_status : Made → ℕ
 made_status (Text text) = 0
 made_status (Comparison is_same) = if is_same then 0 else 1
 
--- the files were read to their ends, and this is what the job makes of them
-abbrev pub JobMakes : Job → (first second : SourceRun) → Made → Type 0
-JobMakes job first second made = HasAnswer job first second (made_status made) (made_text made)
+-- the files were read to their ends, and this is what the task makes of them
+abbrev pub TaskMakes : Task → (first second : SourceRun) → Made → Type 0
+TaskMakes task first second made = HasAnswer task first second (made_status made) (made_text made)
 
 -- why an input isn't read to its end: too much came, or the source failed
 pub data InputRefuses (source : SourceRun) (fault : Fault) : Type 0 where
@@ -115,7 +115,7 @@ pub record ComesOf {A : Type 0} (items : A → List ℕ) (gives : List ℕ → L
   pub err : IfErr result (HasNoText refuses source)
   pub told : source.failures ≡ 1 → IsErrAnd result (λ fault. fault.kind ≡ ReadFault)
 
--- why a job of one file is refused: nothing comes of it, or its text could not be written
+-- why a task of one file is refused: nothing comes of it, or its text could not be written
 pub data FileRefuses (gives : List ℕ → List ℕ → Type 0) (refuses : List ℕ → Fault → Type 0) (source : SourceRun) (output : SinkRun)
     (fault : Fault) : Type 0 where
   by_reading : HasNoText refuses source fault → FileRefuses gives refuses source output fault
@@ -223,28 +223,28 @@ abbrev pub HasNoTextByTable : (first second : SourceRun) → Refusal → Type 0
 HasNoTextByTable first second refusal = (OfTable (HasNoTable second) refusal × IsUnread first)
     ⊎ OfFile (λ fault. (table : Table) × HasTable second table × HasNoText (RefusesStepBy table) first fault) refusal
 
--- why a job is refused with this fault, and what it left of its files and the output
-abbrev pub JobRefuses : Job → (first second : SourceRun) → SinkRun → Refusal → Type 0
-JobRefuses (Canon Placed) first second output refusal = OfFile (CanonRefuses first output) refusal
-JobRefuses (Canon form) first second output refusal = OfFile (FileRefuses (IsTextIn form MAX_LEVEL) (RefusesInForm form) first output) refusal
-JobRefuses (Convert Rle) first second output refusal = OfFile (FileRefuses (IsRleOf MAX_LEVEL (2 ^ 20)) RefusesMany first output) refusal
-JobRefuses (Convert Mc) first second output refusal = OfFile (CanonRefuses first output) refusal
-JobRefuses (Same form) first second output refusal = OfFile (SameRefuses form first second output) refusal
-JobRefuses Show first second output refusal = OfFile (FileRefuses (IsShown MAX_LEVEL) (Refuses MAX_LEVEL) first output) refusal
-JobRefuses Step first second output refusal = OfFile (FileRefuses IsStepped RefusesStep first output) refusal
-JobRefuses StepTable first second output refusal = HasNoTextByTable first second refusal
+-- why a task is refused with this fault, and what it left of its files and the output
+abbrev pub TaskRefuses : Task → (first second : SourceRun) → SinkRun → Refusal → Type 0
+TaskRefuses (Canon Placed) first second output refusal = OfFile (CanonRefuses first output) refusal
+TaskRefuses (Canon form) first second output refusal = OfFile (FileRefuses (IsTextIn form MAX_LEVEL) (RefusesInForm form) first output) refusal
+TaskRefuses (Convert Rle) first second output refusal = OfFile (FileRefuses (IsRleOf MAX_LEVEL (2 ^ 20)) RefusesMany first output) refusal
+TaskRefuses (Convert Mc) first second output refusal = OfFile (CanonRefuses first output) refusal
+TaskRefuses (Same form) first second output refusal = OfFile (SameRefuses form first second output) refusal
+TaskRefuses Show first second output refusal = OfFile (FileRefuses (IsShown MAX_LEVEL) (Refuses MAX_LEVEL) first output) refusal
+TaskRefuses Step first second output refusal = OfFile (FileRefuses IsStepped RefusesStep first output) refusal
+TaskRefuses StepTable first second output refusal = HasNoTextByTable first second refusal
     ⊎ OfFile (λ fault. (text : List ℕ) × HasTextByTable first second text × BreaksOff output text fault) refusal
 
--- what comes of a job before anything is written: what it makes of its files, or why it is refused, whatever the output; and where a source
+-- what comes of a task before anything is written: what it makes of its files, or why it is refused, whatever the output; and where a source
 -- failed, that is told
-pub record MadeOf (job : Job) (first second : SourceRun) (result : Result Made Refusal) : Type 0 where
-  pub ok : IfOk result (JobMakes job first second)
-  pub err : IfErr result (λ refusal. (output : SinkRun) → JobRefuses job first second output refusal)
+pub record MadeOf (task : Task) (first second : SourceRun) (result : Result Made Refusal) : Type 0 where
+  pub ok : IfOk result (TaskMakes task first second)
+  pub err : IfErr result (λ refusal. (output : SinkRun) → TaskRefuses task first second output refusal)
   pub told : (first.failures ≡ 1) ⊎ (second.failures ≡ 1) → IsErrAnd result (λ refusal. refusal.fault.kind ≡ ReadFault)
 
--- what became of a job: it was done, with its status; or why it was refused; and a device that failed, or took no bytes, is told
-pub record JobRan (job : Job) (first second : SourceRun) (output : SinkRun) (result : Result ℕ Refusal) : Type 0 where
-  pub done : IfOk result (λ status. (status < 2) × Worked job status first second output)
-  pub refused : IfErr result (JobRefuses job first second output)
+-- what became of a task: it was done, with its status; or why it was refused; and a device that failed, or took no bytes, is told
+pub record TaskRan (task : Task) (first second : SourceRun) (output : SinkRun) (result : Result ℕ Refusal) : Type 0 where
+  pub done : IfOk result (λ status. (status < 2) × Worked task status first second output)
+  pub refused : IfErr result (TaskRefuses task first second output)
   pub read_told : (first.failures ≡ 1) ⊎ (second.failures ≡ 1) → IsErrAnd result (λ refusal. refusal.fault.kind ≡ ReadFault)
   pub write_told : (output.failures ≡ 1) ⊎ (output.stalled ≡ true) → IsErrAnd result (λ refusal. refusal.fault.kind ≡ WriteFault)

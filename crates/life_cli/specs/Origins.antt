@@ -6,7 +6,7 @@ use Rattle.life_base.specs.declared.devices.Device.{Device}
 use Rattle.life_cli.specs.declared.origins.Opened.{Opened}
 use Rattle.life_cli.specs.declared.origins.Origin.{Origin}
 use Rattle.life_cli.specs.declared.origins.Origin.TheVariants.{Standard, File}
-use Rattle.life_cli.specs.declared.plans.Plan.{Plan}
+use Rattle.life_cli.specs.declared.plans.TaskPlan.{TaskPlan}
 
 -- exactly the word `-` names standard input, and each other word the file of that name
 abbrev pub IsOriginOf : List ℕ → Origin → Type 0
@@ -32,16 +32,16 @@ module _ {F R : Type 0} (step : F → Origin → Result (Opened R) IoError → F
   OpensSecond (Some word) before (Some device) = (after : F) × Opens word before device after
   OpensSecond _ before _ = ⊥
 
-  abbrev pub second_word : Plan → Option (List ℕ)
+  abbrev pub second_word : TaskPlan → Option (List ℕ)
   second_word plan = option_map string_bytes plan.second
 
   -- the first file was opened, and then the second
-  abbrev pub OpensFiles : Plan → F → Device R × Option (Device R) → Type 0
+  abbrev pub OpensFiles : TaskPlan → F → Device R × Option (Device R) → Type 0
   OpensFiles plan opener files =
       (between : F) × Opens (string_bytes plan.first) opener files.0 between × OpensSecond (second_word plan) between files.1
 
   -- the first file could not be opened; or it could, and then the second could not
-  abbrev pub FailsToOpen : Plan → F → Type 0
+  abbrev pub FailsToOpen : TaskPlan → F → Type 0
   FailsToOpen plan opener = Fails (string_bytes plan.first) opener
       ⊎ ((device : Device R) × (between : F) × (word : List ℕ) × Opens (string_bytes plan.first) opener device between
       × (second_word plan ≡ Some word) × Fails word between)

@@ -8,15 +8,18 @@ use Rattle.clap.specs.declared.error.kind.ErrorKind.TheVariants.{InvalidSubcomma
 use Rattle.life_cli.specs.declared.plans.Form.{Form}
 use Rattle.life_cli.specs.declared.plans.Form.TheVariants.{Placed, Moved, Turned}
 use Rattle.life_cli.specs.declared.plans.Job.{Job}
-use Rattle.life_cli.specs.declared.plans.Job.TheVariants.{Canon, Convert, Same, Show, Step, StepTable}
+use Rattle.life_cli.specs.declared.plans.Job.TheVariants as jobs
+use Rattle.life_cli.specs.declared.plans.Task.{Task}
+use Rattle.life_cli.specs.declared.plans.Task.TheVariants.{Canon, Convert, Same, Show, Step, StepTable}
 use Rattle.life_cli.specs.declared.plans.Target.{Target}
 use Rattle.life_cli.specs.declared.plans.Target.TheVariants.{Rle, Mc}
 use Rattle.life_cli.specs.declared.plans.Plan.{Plan}
+use Rattle.life_cli.specs.declared.plans.TaskPlan.{TaskPlan}
 use Rattle.life_cli.specs.declared.plans.KeysPlan.{KeysPlan}
 use Rattle.life_cli.specs.declared.plans.Request.{Request}
 use Rattle.life_cli.specs.declared.plans.Request.TheVariants.{Work, Keys}
 use Rattle.life_cli.specs.declared.plans.Usage.{Usage}
-use Rattle.life_cli.specs.declared.plans.Usage.TheVariants.{Words, TwoInputs, NoText, Memory}
+use Rattle.life_cli.specs.declared.plans.Usage.TheVariants.{Words, TwoInputs, Memory}
 
 -- the word of a format
 abbrev pub target_word : Target → Text
@@ -33,8 +36,27 @@ form_word Turned = codes "turned"
 abbrev pub IsValueOf : {X : Type 0} → (X → Text) → Text → Option X → Type 0
 IsValueOf {X = X} word_of word value = MatchOption value ((x : X) → word ≢ word_of x) (λ x. word ≡ word_of x)
 
--- the command of a job
-abbrev pub command_of : Job → Text
+-- the task of a job: the job, on patterns as they lie
+abbrev pub task_of : Job → Task
+task_of jobs.Show = Show
+task_of jobs.Canon = Canon Placed
+task_of (jobs.Convert target) = Convert target
+task_of jobs.Same = Same Placed
+task_of jobs.Step = Step
+task_of jobs.StepTable = StepTable
+
+-- the same plan, with the task of its job
+abbrev pub task_plan_of : Plan → TaskPlan
+task_plan_of p = record { task = task_of p.job; first = p.first; second = p.second }
+
+-- the task takes patterns in another form than as they lie
+abbrev pub TakesOtherForm : Task → Type 0
+TakesOtherForm (Canon form) = form ≢ Placed
+TakesOtherForm (Same form) = form ≢ Placed
+TakesOtherForm _ = ⊥
+
+-- the command of a task
+abbrev pub command_of : Task → Text
 command_of (Canon form) = codes "canon"
 command_of (Convert target) = codes "convert"
 command_of (Same form) = codes "same"
@@ -42,24 +64,24 @@ command_of Show = codes "show"
 command_of Step = codes "step"
 command_of StepTable = codes "step"
 
--- the job has a second file
-abbrev pub HasSecond : Job → Type 0
+-- the task has a second file
+abbrev pub HasSecond : Task → Type 0
 HasSecond (Same form) = Unit {0}
 HasSecond StepTable = Unit {0}
 HasSecond _ = ⊥
 
--- the job writes the canonical text of its file's pattern as that lies
-abbrev pub WritesPlacedText : Job → Type 0
+-- the task writes the canonical text of its file's pattern as that lies
+abbrev pub WritesPlacedText : Task → Type 0
 WritesPlacedText (Canon Placed) = Unit {0}
 WritesPlacedText (Convert Mc) = Unit {0}
 WritesPlacedText _ = ⊥
 
 -- the only file is FILE
-abbrev pub HoldsFile : List Row → Plan → Type 0
+abbrev pub HoldsFile : List Row → TaskPlan → Type 0
 HoldsFile rows p = (first_of (codes "FILE") rows ≡ Some (string_bytes p.first)) × (p.second ≡ None)
 
 -- the files are those under these two names
-abbrev pub HoldsFiles : Text → Text → List Row → Plan → Type 0
+abbrev pub HoldsFiles : Text → Text → List Row → TaskPlan → Type 0
 HoldsFiles first second rows p = (first_of first rows ≡ Some (string_bytes p.first))
     × (first_of second rows ≡ option_map string_bytes p.second) × IsSome p.second
 
@@ -68,8 +90,8 @@ abbrev pub HoldsForm : List Row → Form → Type 0
 HoldsForm rows form =
     ((first_of (codes "form") rows ≡ None) × (form ≡ Placed)) ⊎ (first_of (codes "form") rows ≡ Some (form_word form))
 
--- the plan's files and options are those that were found for the job's command
-abbrev pub HoldsMatches : Job → List Row → Plan → Type 0
+-- the plan's files and options are those that were found for the task's command
+abbrev pub HoldsMatches : Task → List Row → TaskPlan → Type 0
 HoldsMatches (Canon form) rows p = HoldsFile rows p × HoldsForm rows form
 HoldsMatches (Convert target) rows p = HoldsFile rows p × (first_of (codes "to") rows ≡ Some (target_word target))
 HoldsMatches (Same form) rows p = HoldsFiles (codes "A") (codes "B") rows p × HoldsForm rows form
@@ -104,9 +126,13 @@ AreOfKeys None = ⊥
 AreOfKeys (Some matches) = matches.0 ≡ codes "keys"
 
 -- the plan holds the command, files and options of the matches: a command's name, and what was found for it
+abbrev pub IsTaskPlanOf : Option (Text × List Row) → TaskPlan → Type 0
+IsTaskPlanOf None p = ⊥
+IsTaskPlanOf (Some matches) p = (matches.0 ≡ command_of p.task) × HoldsMatches p.task matches.1 p
+
+-- the same of a plan for a job: the form of the matches is that of the pattern as it lies
 abbrev pub IsPlanOf : Option (Text × List Row) → Plan → Type 0
-IsPlanOf None p = ⊥
-IsPlanOf (Some matches) p = (matches.0 ≡ command_of p.job) × HoldsMatches p.job matches.1 p
+IsPlanOf matches p = IsTaskPlanOf matches (task_plan_of p)
 
 -- the same of the command `keys`
 abbrev pub IsKeysPlanOf : Option (Text × List Row) → KeysPlan → Type 0
@@ -115,11 +141,11 @@ IsKeysPlanOf (Some matches) p = (matches.0 ≡ codes "keys") × HoldsKeys matche
 
 -- the same of what the words ask for
 abbrev pub IsRequestOf : Option (Text × List Row) → Request → Type 0
-IsRequestOf matches (Work p) = IsPlanOf matches p
+IsRequestOf matches (Work p) = IsTaskPlanOf matches p
 IsRequestOf matches (Keys p) = IsKeysPlanOf matches p
 
--- this holds of a plan for a job, if the words ask for one
-abbrev pub IfWork : (Plan → Type 0) → Request → Type 0
+-- this holds of a plan for a task, if the words ask for one
+abbrev pub IfWork : (TaskPlan → Type 0) → Request → Type 0
 IfWork Holds (Work p) = Holds p
 IfWork Holds (Keys p) = Unit {0}
 
@@ -127,20 +153,20 @@ IfWork Holds (Keys p) = Unit {0}
 abbrev pub IsFound : Text → List Row → Type 0
 IsFound id rows = IsSome (first_of id rows)
 
--- the files and options were found without which the job can't be done
-abbrev pub HasWanted : Job → List Row → Type 0
+-- the files and options were found without which the task can't be done
+abbrev pub HasWanted : Task → List Row → Type 0
 HasWanted (Convert target) rows = IsFound (codes "FILE") rows × IsFound (codes "to") rows
 HasWanted (Same form) rows = IsFound (codes "A") rows × IsFound (codes "B") rows
 HasWanted _ rows = IsFound (codes "FILE") rows
 
--- the matches are those of a job's command, with what the job wants
-abbrev pub AreOfJob : Option (Text × List Row) → Type 0
-AreOfJob None = ⊥
-AreOfJob (Some matches) = (job : Job) × (matches.0 ≡ command_of job) × HasWanted job matches.1
+-- the matches are those of a task's command, with what the task wants
+abbrev pub AreOfTask : Option (Text × List Row) → Type 0
+AreOfTask None = ⊥
+AreOfTask (Some matches) = (task : Task) × (matches.0 ≡ command_of task) × HasWanted task matches.1
 
 -- the same, or those of the command `keys`, in which `clap` wants nothing
 abbrev pub AreWhole : Option (Text × List Row) → Type 0
-AreWhole matches = AreOfJob matches ⊎ AreOfKeys matches
+AreWhole matches = AreOfTask matches ⊎ AreOfKeys matches
 
 -- the word behind --to is that of no format
 abbrev pub HasNoFormat : List Row → Type 0
@@ -150,14 +176,13 @@ HasNoFormat rows = (word : Text) × (first_of (codes "to") rows ≡ Some word) �
 abbrev pub HasNoForm : List Row → Type 0
 HasNoForm rows = (word : Text) × (first_of (codes "form") rows ≡ Some word) × ((f : Form) → word ≢ form_word f)
 
--- the refusal of words of which this holds, as this kind, or for want of memory
+-- the refusal of words of which this holds, as this kind; or where `clap` was out of memory, as an OutOfMemory
 abbrev pub RefusesAs : ErrorKind → Type 0 → Usage → Type 0
-RefusesAs kind is_such (Words error) = is_such × (kind_of error ≡ kind)
+RefusesAs kind is_such (Words error) = (is_such × (kind_of error ≡ kind)) ⊎ (kind_of error ≡ OutOfMemory)
 RefusesAs kind is_such TwoInputs = ⊥
-RefusesAs kind is_such NoText = ⊥
-RefusesAs kind is_such Memory = Unit {0}
+RefusesAs kind is_such Memory = ⊥
 
--- the refusal of such a word, or for want of memory
+-- the same of such a word
 abbrev pub RefusesWord : Type 0 → Usage → Type 0
 RefusesWord is_such usage = RefusesAs InvalidValue is_such usage
 
@@ -180,6 +205,12 @@ abbrev pub NamesNoFiles : Option (Text × List Row) → Type 0
 NamesNoFiles None = ⊥
 NamesNoFiles (Some matches) = (matches.0 ≡ codes "keys") × LacksFiles matches.1
 
+-- the matches are those of `canon` or `same` with the word of another form than that of a pattern as it lies
+abbrev pub NamesOtherForm : Option (Text × List Row) → Type 0
+NamesOtherForm None = ⊥
+NamesOtherForm (Some matches) = ((matches.0 ≡ codes "canon") ⊎ (matches.0 ≡ codes "same"))
+    × ((form : Form) × (form ≢ Placed) × (first_of (codes "form") matches.1 ≡ Some (form_word form)))
+
 -- how many of the values under this name are standard input
 abbrev pub input_count_under : Text → List Row → ℕ
 input_count_under id rows = count_by (λ text. bytes_eq text (codes "-")) (values_of id rows)
@@ -194,21 +225,22 @@ abbrev pub NamesInputTwice : Option (Text × List Row) → Type 0
 NamesInputTwice None = ⊥
 NamesInputTwice (Some matches) = 1 < input_count matches.1
 
--- Why words are refused in which `clap` finds these faults and these matches: by the kind of a fault; in words without a fault, since the word
--- behind --to is that of no format or the one behind --form that of no form, since `keys` is given neither a file nor a list, or since standard
--- input is named twice, which is told before these; or for want of memory.
+-- Why words are refused in which `clap` finds these faults and these matches: since `clap` is out of memory; by the kind of a fault; in words
+-- without a fault, since the word behind --to is that of no format or the one behind --form that of no form, since `keys` is given neither a file
+-- nor a list, or since standard input is named twice, which is told before these. Memory comes only where none of that is so, and the words ask for
+-- a task: all that is left to do is to copy the names of its files.
 abbrev pub Explains : Kinds → Option (Text × List Row) → Usage → Type 0
-Explains faults matches (Words error) = IsAmong (kind_of error) faults
+Explains faults matches (Words error) = (kind_of error ≡ OutOfMemory)
+    ⊎ (IsAmong (kind_of error) faults
     ⊎ ((faults ≡ []) × (NamesNoFormat matches ⊎ NamesNoForm matches) × ¬ NamesInputTwice matches × (kind_of error ≡ InvalidValue))
-    ⊎ ((faults ≡ []) × NamesNoFiles matches × ¬ NamesInputTwice matches × (kind_of error ≡ MissingRequiredArgument))
+    ⊎ ((faults ≡ []) × NamesNoFiles matches × ¬ NamesInputTwice matches × (kind_of error ≡ MissingRequiredArgument)))
 Explains faults matches TwoInputs = (faults ≡ []) × NamesInputTwice matches
-Explains faults matches NoText = ⊥
-Explains faults matches Memory = Unit {0}
+Explains faults matches Memory =
+    (faults ≡ []) × AreOfTask matches × (¬ NamesNoFormat matches) × (¬ NamesNoForm matches) × (¬ NamesInputTwice matches)
 
--- why words have no plan for a job over one file or two: the same, or since they ask for keys, as an InvalidSubcommand
+-- why words have no plan for a job: the same; or words without a fault that name standard input once at most ask for keys, as an
+-- InvalidSubcommand, or for another form than that of a pattern as it lies, as an InvalidValue
 abbrev pub ExplainsPlan : Kinds → Option (Text × List Row) → Usage → Type 0
-ExplainsPlan faults matches usage = Explains faults matches usage ⊎ RefusesAs InvalidSubcommand (AreOfKeys matches) usage
-
--- what an error of `clap` says: that memory is wanted, or what is wrong with the words
-abbrev pub Says : Error → Usage → Type 0
-Says error usage = ((kind_of error ≡ OutOfMemory) × (usage ≡ Memory)) ⊎ ((kind_of error ≢ OutOfMemory) × (usage ≡ Words error))
+ExplainsPlan faults matches usage = Explains faults matches usage
+    ⊎ ((faults ≡ []) × (¬ NamesInputTwice matches)
+    × (RefusesAs InvalidSubcommand (AreOfKeys matches) usage ⊎ RefusesWord (NamesOtherForm matches) usage))

@@ -14,18 +14,18 @@ pub use Rattle.life_cli.specs.CommandLine.{program, ReadsAs, required_file, requ
 pub use Rattle.life_cli.specs.Faults.{fault_line, is_of_table, line_word, refusal_of, status_of, Tells}
 pub use Rattle.life_cli.specs.Forms.{AreSameIn, HasTooMany, IsMovedText, IsTextIn}
 pub use Rattle.life_cli.specs.Jobs.{AreUncompared, BreaksOff, CanonRefuses, ComesOf, HasNoTable, HasNoTextByTable, HasTable, HasTextByTable, InputRefuses}
-pub use Rattle.life_cli.specs.Jobs.{IsPatternIn, IsWantFor, JobRan, JobRefuses, made_status, made_text, MadeOf, JobMakes, OfFile, OfTable, RefusesInForm}
+pub use Rattle.life_cli.specs.Jobs.{IsPatternIn, IsWantFor, TaskRan, TaskRefuses, made_status, made_text, MadeOf, TaskMakes, OfFile, OfTable, RefusesInForm}
 pub use Rattle.life_cli.specs.Jobs.{RefusesMany, RefusesSame, RefusesStep, RefusesStepBy, Worked}
 pub use Rattle.life_cli.specs.KeyRuns.{CanTake, Comes, error_line, IsToldAs, LacksList, Listed, names_among, names_in, outcome_status, output_line, Ran, ReadsList}
 pub use Rattle.life_cli.specs.KeyRuns.{Takes, TakesNames, TellsOn, Word, Writes}
 pub use Rattle.life_cli.specs.Keys.{end_of, escaped, escaped_byte, fault_text, is_special, IsKeyIn, IsStatus, key_line, name_mark, pieces_of, reason_of}
 pub use Rattle.life_cli.specs.Keys.{refused_line, unopened_line}
 pub use Rattle.life_cli.specs.Origins.{FailsToOpen, IsOriginOf, OpensFiles}
-pub use Rattle.life_cli.specs.Plans.{AreOfJob, AreWhole, Explains, ExplainsPlan, form_word, HasNoForm, HasNoFormat, HasSecond, HoldsFile, HoldsFiles}
-pub use Rattle.life_cli.specs.Plans.{HoldsFlag, HoldsForm, HoldsKeys, IfWork, input_count, input_count_under, IsFound, IsPlanOf, IsRequestOf, IsValueOf}
-pub use Rattle.life_cli.specs.Plans.{NamesInputTwice, RefusesAs, RefusesKeys, RefusesWord, target_word, values_of, WritesPlacedText}
+pub use Rattle.life_cli.specs.Plans.{AreOfTask, AreWhole, Explains, ExplainsPlan, form_word, HasNoForm, HasNoFormat, HasSecond, HoldsFile, HoldsFiles}
+pub use Rattle.life_cli.specs.Plans.{HoldsFlag, HoldsForm, HoldsKeys, IfWork, input_count, input_count_under, IsFound, IsPlanOf, IsRequestOf, IsTaskPlanOf, IsValueOf}
+pub use Rattle.life_cli.specs.Plans.{NamesInputTwice, RefusesAs, RefusesKeys, RefusesWord, TakesOtherForm, target_word, task_of, task_plan_of, values_of, WritesPlacedText}
 pub use Rattle.life_cli.specs.Sentences.{sentence_of}
-pub use Rattle.life_cli.specs.Usages.{is_asked, usage_line, usage_status, words_line, words_status}
+pub use Rattle.life_cli.specs.Usages.{is_asked, is_out_of_memory, text_line, text_status, usage_line, usage_status, words_line, words_status}
 pub use Rattle.life_cli.specs.declared.refusals.Refusal.{Refusal}
 pub use Rattle.life_forms.specs.Needed.{LacksForMoved}
 pub use Rattle.life_quad.specs.Cells.{population}

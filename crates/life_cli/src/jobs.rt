@@ -1,10 +1,10 @@
-//! The work of a job.
+//! The work of a task.
 
 ghost use Rattle.std.specs.Prelude.{◌≡◌, ◌≢◌, ◌⊎◌, ◌<◌, ◌↔◌, ◌^◌, IsSome, IfSome, IfOk, IfErr, OnOk, IsErrAnd, IsTrue, Ok, Err, true, false};
-ghost use Rattle.life_cli.specs.Words.{Appends, SourceRun, source_run, optional_source_run, sink_run, Refusal, Refuses, Keeps, IsRleOf, IsShown, fault_line, refusal_of, status_of, Tells, made_status, made_text, MadeOf, JobMakes, Worked, OfFile, InputRefuses, BreaksOff, ComesOf, AreUncompared, CanonRefuses, IsPatternIn, IsWantFor, JobRan, JobRefuses, RefusesMany, HasSecond, WritesPlacedText};
+ghost use Rattle.life_cli.specs.Words.{Appends, SourceRun, source_run, optional_source_run, sink_run, Refusal, Refuses, Keeps, IsRleOf, IsShown, fault_line, refusal_of, status_of, Tells, made_status, made_text, MadeOf, TaskMakes, Worked, OfFile, InputRefuses, BreaksOff, ComesOf, AreUncompared, CanonRefuses, IsPatternIn, IsWantFor, TaskRan, TaskRefuses, RefusesMany, HasSecond, WritesPlacedText, task_of};
 
 use crate::forms::{are_same_in, text_of_source};
-use crate::plans::{Form, Job, Target};
+use crate::plans::{Form, Job, Target, Task};
 use crate::refusals::{Refusal, status, tell};
 use crate::seeds::Seeds;
 use crate::steps::{next_by_table_of, next_of};
@@ -17,7 +17,7 @@ use std::alloc::Global;
 /// How many different squares a store of the program holds at most.
 pub(crate) const MOST_SQUARES: u64 = 1 << 31;
 
-/// What a job made of its files, before any of it is written.
+/// What a task made of its files, before any of it is written.
 #[derive(Drop)]
 pub enum Made {
     /// A text.
@@ -38,7 +38,7 @@ impl Made {
         }
     }
 
-    /// The status of the job.
+    /// The status of the task.
     fn status(&self) -> u8
         ensures { result ≡ made_status self.now }
     {
@@ -137,7 +137,7 @@ fn compared<A: Source, B: Source>(
 ) -> Result<bool, Fault>
     requires one { A.failures one.old ≡ 0 }
     requires other { B.failures other.old ≡ 0 }
-    ensures ok { IfOk result (λ is_same. JobMakes (Job.Same form)
+    ensures ok { IfOk result (λ is_same. TaskMakes (Task.Same form)
         (source_run A.remaining A.failures one.old one.new)
         (source_run B.remaining B.failures other.old other.new) (Made.Comparison is_same)) }
     ensures err { IfErr result (AreUncompared form
@@ -186,42 +186,42 @@ fn made_from_step(text: Result<Vec<u8>, Refusal>) -> Result<Made, Refusal>
     }
 }
 
-/// What is written for a job, of those that don't write the canonical text of a file's pattern as that lies.
+/// What is written for a task, of those that don't write the canonical text of a file's pattern as that lies.
 fn make<A: Source, B: Source>(
     alloc: Global,
     seeds: &Seeds,
-    job: &Job,
+    task: &Task,
     first: &mut A,
     second: &mut Option<B>,
 ) -> Result<Made, Refusal>
     requires first_reads { A.failures first.old ≡ 0 }
     requires second_reads { IfSome second.old (λ b. B.failures b ≡ 0) }
-    requires second_given { IsSome second.old ↔ HasSecond job.now }
-    requires other { ¬ WritesPlacedText job.now }
-    ensures { MadeOf job.now (source_run A.remaining A.failures first.old first.new)
+    requires second_given { IsSome second.old ↔ HasSecond task.now }
+    requires other { ¬ WritesPlacedText task.now }
+    ensures { MadeOf task.now (source_run A.remaining A.failures first.old first.new)
         (optional_source_run B.remaining B.failures second.old second.new) result }
 {
-    match (job, second) {
-        (Job::Canon(form), _) => made_from_text(text_of_source(alloc, seeds, *form, first)),
-        (Job::Convert(Target::Rle), _) => made_from_text(rle_of_source(alloc, seeds, first)),
-        (Job::Same(form), Some(second)) => {
+    match (task, second) {
+        (Task::Canon(form), _) => made_from_text(text_of_source(alloc, seeds, *form, first)),
+        (Task::Convert(Target::Rle), _) => made_from_text(rle_of_source(alloc, seeds, first)),
+        (Task::Same(form), Some(second)) => {
             made_from_comparison(compared(alloc, seeds, *form, first, second))
         }
-        (Job::Show, _) => made_from_text(five_lines_of_source(alloc, seeds, first)),
-        (Job::Step, _) => made_from_text(next_of(alloc, seeds, first)),
-        (Job::StepTable, Some(second)) => {
+        (Task::Show, _) => made_from_text(five_lines_of_source(alloc, seeds, first)),
+        (Task::Step, _) => made_from_text(next_of(alloc, seeds, first)),
+        (Task::StepTable, Some(second)) => {
             made_from_step(next_by_table_of(alloc, seeds, first, second))
         }
-        (Job::Same(_), None) | (Job::StepTable, None) => unreachable!(),
-        (Job::Convert(Target::Mc), _) => unreachable!(),
+        (Task::Same(_), None) | (Task::StepTable, None) => unreachable!(),
+        (Task::Convert(Target::Mc), _) => unreachable!(),
     }
 }
 
-/// Whether the job writes the canonical text of its file's pattern as that lies.
-fn writes_placed_text(job: &Job) -> bool
-    ensures { IsTrue result ↔ WritesPlacedText job.now }
+/// Whether the task writes the canonical text of its file's pattern as that lies.
+fn writes_placed_text(task: &Task) -> bool
+    ensures { IsTrue result ↔ WritesPlacedText task.now }
 {
-    matches!(job, Job::Canon(Form::Placed) | Job::Convert(Target::Mc))
+    matches!(task, Task::Canon(Form::Placed) | Task::Convert(Target::Mc))
 }
 
 /// Writes the canonical text of the first file.
@@ -236,7 +236,7 @@ fn run_canonical<A: Source, O: Sink>(
     requires takes { O.stalled out.old ≡ false }
     ensures done { IfOk result (λ status. status ≡ 0) }
     ensures canon { OnOk result ((second : SourceRun)
-        → Worked (Job.Canon Form.Placed) 0
+        → Worked (Task.Canon Form.Placed) 0
         (source_run A.remaining A.failures first.old first.new) second
         (sink_run O.contents O.failures O.stalled out.old out.new)) }
     ensures flushed { OnOk result (O.flushed out.new ≡ true) }
@@ -255,40 +255,40 @@ fn run_canonical<A: Source, O: Sink>(
     Ok(0)
 }
 
-/// Does the job, and answers the status of one that is done.
+/// Does the task, and answers the status of one that is done.
 fn run<A: Source, B: Source, O: Sink>(
     alloc: Global,
     seeds: &Seeds,
-    job: &Job,
+    task: &Task,
     first: &mut A,
     second: &mut Option<B>,
     out: &mut O,
 ) -> Result<u8, Refusal>
     requires first_reads { A.failures first.old ≡ 0 }
     requires second_reads { IfSome second.old (λ b. B.failures b ≡ 0) }
-    requires second_given { IsSome second.old ↔ HasSecond job.now }
+    requires second_given { IsSome second.old ↔ HasSecond task.now }
     requires writes { O.failures out.old ≡ 0 }
     requires takes { O.stalled out.old ≡ false }
-    ensures ran { JobRan job.now (source_run A.remaining A.failures first.old first.new)
+    ensures ran { TaskRan task.now (source_run A.remaining A.failures first.old first.new)
         (optional_source_run B.remaining B.failures second.old second.new)
         (sink_run O.contents O.failures O.stalled out.old out.new) result }
     ensures flushed { OnOk result (O.flushed out.new ≡ true) }
     ensures unwritten { IfErr result
         (λ refusal. refusal.fault.kind ≢ Kind.WriteFault → out.new ≡ out.old) }
 {
-    if writes_placed_text(job) {
+    if writes_placed_text(task) {
         return run_canonical(alloc, seeds, first, out);
     }
-    let made = make(alloc, seeds, job, first, second)?;
+    let made = make(alloc, seeds, task, first, second)?;
     write_whole(out, made.text())?;
     Ok(made.status())
 }
 
-/// Does the job, and answers the status that the program ends with. `second` is the second file of a job that has one. The seeds decide time alone.
-pub fn work<A: Source, B: Source, O: Sink, E: Sink>(
+/// Does the task, and answers the status that the program ends with. `second` is the second file of a task that has one. The seeds decide time alone.
+pub fn work_seeded<A: Source, B: Source, O: Sink, E: Sink>(
     alloc: Global,
     seeds: &Seeds,
-    job: &Job,
+    task: &Task,
     first: &mut A,
     second: &mut Option<B>,
     out: &mut O,
@@ -296,19 +296,19 @@ pub fn work<A: Source, B: Source, O: Sink, E: Sink>(
 ) -> u8
     requires first_reads { A.failures first.old ≡ 0 }
     requires second_reads { IfSome second.old (λ b. B.failures b ≡ 0) }
-    requires second_given { IsSome second.old ↔ HasSecond job.now }
+    requires second_given { IsSome second.old ↔ HasSecond task.now }
     requires writes { O.failures out.old ≡ 0 }
     requires takes { O.stalled out.old ≡ false }
     requires tells { E.failures err.old ≡ 0 }
     requires hears { E.stalled err.old ≡ false }
-    ensures done { result < 2 → Worked job.now result
+    ensures done { result < 2 → Worked task.now result
         (source_run A.remaining A.failures first.old first.new)
         (optional_source_run B.remaining B.failures second.old second.new)
         (sink_run O.contents O.failures O.stalled out.old out.new) }
     ensures flushed { result < 2 → O.flushed out.new ≡ true }
     ensures quiet { result < 2 → err.new ≡ err.old }
     ensures refused { 1 < result → (refusal : Refusal) × (result ≡ status_of refusal.fault.kind)
-        × JobRefuses job.now (source_run A.remaining A.failures first.old first.new)
+        × TaskRefuses task.now (source_run A.remaining A.failures first.old first.new)
         (optional_source_run B.remaining B.failures second.old second.new)
         (sink_run O.contents O.failures O.stalled out.old out.new) refusal
         × (refusal.fault.kind ≢ Kind.WriteFault → out.new ≡ out.old)
@@ -323,11 +323,54 @@ pub fn work<A: Source, B: Source, O: Sink, E: Sink>(
     ensures write_told { (O.failures out.new ≡ 1) ⊎ (O.stalled out.new ≡ true)
         → result ≡ status_of Kind.WriteFault }
 {
-    match run(alloc, seeds, job, first, second, out) {
+    match run(alloc, seeds, task, first, second, out) {
         Ok(status) => status,
         Err(refusal) => {
             tell(err, &refusal);
             status(refusal.fault.kind)
         }
     }
+}
+
+/// Does the job as `work_seeded` does its task, with fixed seeds, for input that you trust: whoever knows the seeds can choose files whose squares, or
+/// whose tables' names, collide, and then each look-up takes time in proportion to their number.
+pub fn work<A: Source, B: Source, O: Sink, E: Sink>(
+    alloc: Global,
+    job: &Job,
+    first: &mut A,
+    second: &mut Option<B>,
+    out: &mut O,
+    err: &mut E,
+) -> u8
+    requires first_reads { A.failures first.old ≡ 0 }
+    requires second_reads { IfSome second.old (λ b. B.failures b ≡ 0) }
+    requires second_given { IsSome second.old ↔ HasSecond (task_of job.now) }
+    requires writes { O.failures out.old ≡ 0 }
+    requires takes { O.stalled out.old ≡ false }
+    requires tells { E.failures err.old ≡ 0 }
+    requires hears { E.stalled err.old ≡ false }
+    ensures done { result < 2 → Worked (task_of job.now) result
+        (source_run A.remaining A.failures first.old first.new)
+        (optional_source_run B.remaining B.failures second.old second.new)
+        (sink_run O.contents O.failures O.stalled out.old out.new) }
+    ensures flushed { result < 2 → O.flushed out.new ≡ true }
+    ensures quiet { result < 2 → err.new ≡ err.old }
+    ensures refused { 1 < result → (refusal : Refusal) × (result ≡ status_of refusal.fault.kind)
+        × TaskRefuses (task_of job.now) (source_run A.remaining A.failures first.old first.new)
+        (optional_source_run B.remaining B.failures second.old second.new)
+        (sink_run O.contents O.failures O.stalled out.old out.new) refusal
+        × (refusal.fault.kind ≢ Kind.WriteFault → out.new ≡ out.old)
+        × (A.failures first.new ≡ 1 → refusal.fault.kind ≡ Kind.ReadFault)
+        × IfSome second.new (λ b. B.failures b ≡ 1 → refusal.fault.kind ≡ Kind.ReadFault)
+        × ((O.failures out.new ≡ 1) ⊎ (O.stalled out.new ≡ true)
+        → refusal.fault.kind ≡ Kind.WriteFault)
+        × Tells (sink_run E.contents E.failures E.stalled err.old err.new) (fault_line refusal) }
+    ensures first_told { A.failures first.new ≡ 1 → result ≡ status_of Kind.ReadFault }
+    ensures second_told { IfSome second.new
+        (λ b. B.failures b ≡ 1 → result ≡ status_of Kind.ReadFault) }
+    ensures write_told { (O.failures out.new ≡ 1) ⊎ (O.stalled out.new ≡ true)
+        → result ≡ status_of Kind.WriteFault }
+{
+    let task = Task::from(*job);
+    work_seeded(alloc, &Seeds::fixed(), &task, first, second, out, err)
 }

@@ -12,11 +12,11 @@ mod seeds;
 mod sentences;
 mod steps;
 
-pub use jobs::work;
+pub use jobs::{work, work_seeded};
 pub use keys::write_keys;
 pub use origins::{Opened, Origin, open_files};
 pub use plans::requests::{plan, request};
-pub use plans::{Job, Plan, Target, Usage};
+pub use plans::{Form, Job, Plan, Target, Task, TaskPlan, Usage};
 pub use refusals::{Refusal, status, tell};
 pub use reports::{refuse, report};
 pub use seeds::Seeds;

@@ -3,7 +3,7 @@
 ghost use Rattle.std.specs.Prelude.{◌≡◌, ◌↔◌, IsSome, IfOk, IfErr, IfSome, OnErr, false};
 ghost use Rattle.life_cli.specs.Words.{has_failed, IsOriginOf, OpensFiles, FailsToOpen};
 
-use crate::plans::Plan;
+use crate::plans::TaskPlan;
 use life_base::{Device, Kind};
 use std::io::{Read, Result as IoResult};
 
@@ -40,7 +40,7 @@ pub(crate) fn origin_of(word: &str) -> Origin<'_>
 ///
 /// `ReadFault` where one can't be opened. Where that is the first, `opener` isn't called again.
 pub fn open_files<R: Read + Drop, F: FnMut(Origin<'_>) -> IoResult<Opened<R>> + Drop>(
-    plan: &Plan,
+    plan: &TaskPlan,
     mut opener: F,
 ) -> Result<(Device<R>, Option<Device<R>>), Kind>
     requires { F.IsAlwaysCallable opener }

@@ -1,18 +1,33 @@
 //! What the words of the command line ask for.
 
 use clap::Error;
-use clap::error::ErrorKind;
 use std::alloc::AllocError;
-use std::io;
 
-/// What a run is asked to do.
+/// What a run can do with patterns as they lie.
 #[derive(Clone, Copy, PartialEq, Eq, Debug)]
 pub enum Job {
+    /// Write what the pattern is, in five lines.
+    Show,
+    /// Write the canonical text of the pattern.
+    Canon,
+    /// Write the pattern in a format.
+    Convert(Target),
+    /// Report whether two files are the same pattern.
+    Same,
+    /// Write the next generation, under the pattern's own B/S rule.
+    Step,
+    /// Write the next generation, by the rule table that is the second file.
+    StepTable,
+}
+
+/// What a run can do with patterns: a job, with the form that it takes them in.
+#[derive(Clone, Copy, PartialEq, Eq, Debug)]
+pub enum Task {
     /// Write the canonical text of the pattern, in a form.
     Canon(Form),
     /// Write the pattern in a format.
     Convert(Target),
-    /// Tell whether two files are the same pattern, in a form.
+    /// Report whether two files are the same pattern, in a form.
     Same(Form),
     /// Write what the pattern is, in five lines.
     Show,
@@ -20,6 +35,25 @@ pub enum Job {
     Step,
     /// Write the next generation, by the rule table that is the second file.
     StepTable,
+}
+
+impl From<Job> for Task {
+    ghost use Rattle.std.specs.Prelude.{◌≡◌};
+    ghost use Rattle.life_cli.specs.Plans.{task_of};
+
+    ghost from_gives = { λ job task. task ≡ task_of job };
+
+    /// The job, on patterns as they lie.
+    fn from(job: Job) -> Task {
+        match job {
+            Job::Show => Task::Show,
+            Job::Canon => Task::Canon(Form::Placed),
+            Job::Convert(target) => Task::Convert(target),
+            Job::Same => Task::Same(Form::Placed),
+            Job::Step => Task::Step,
+            Job::StepTable => Task::StepTable,
+        }
+    }
 }
 
 /// The form that a pattern is taken in.
@@ -50,6 +84,14 @@ pub struct Plan {
     pub second: Option<String>,
 }
 
+/// A task and its files. A file named `-` is standard input.
+#[derive(Drop)]
+pub struct TaskPlan {
+    pub task: Task,
+    pub first: String,
+    pub second: Option<String>,
+}
+
 /// The command `keys`: what it takes, and how it writes.
 #[derive(Drop)]
 pub struct KeysPlan<'a> {
@@ -64,20 +106,20 @@ pub struct KeysPlan<'a> {
 /// What the words ask for.
 #[derive(Drop)]
 pub enum Request<'a> {
-    /// A job over one file or two.
-    Work(Plan),
+    /// A task over one file or two.
+    Work(TaskPlan),
     /// The keys of any number of files.
     Keys(KeysPlan<'a>),
 }
 
-/// Why the words ask for nothing that can be done. `Words` also holds the text of `--help` and `--version`, and no error for want of
-/// memory.
+/// Why the words ask for nothing that can be done.
 #[derive(Drop)]
 pub enum Usage {
+    /// What `clap` says: what is wrong with the words, the text of `--help` or `--version`, or that it is out of memory.
     Words(Error),
+    /// The words name `-` for two files.
     TwoInputs,
-    /// A word is no UTF-8 text.
-    NoText,
+    /// The words are right, but there was no memory for the copy of a file's name.
     Memory,
 }
 
@@ -94,30 +136,14 @@ impl From<AllocError> for Usage {
 }
 
 impl From<Error> for Usage {
-    ghost use Rattle.life_cli.specs.Plans.{Says};
+    ghost use Rattle.std.specs.Prelude.{◌≡◌};
+    ghost use Rattle.life_cli.specs.declared.plans.Usage.TheVariants.{Words};
 
-    ghost from_gives = { λ error usage. Says error usage };
+    ghost from_gives = { λ error usage. usage ≡ Words error };
 
-    /// The words are at fault, or memory is wanted.
+    /// `Words`.
     fn from(error: Error) -> Usage {
-        match error.kind() {
-            ErrorKind::OutOfMemory => Usage::Memory,
-            _ => Usage::Words(error),
-        }
-    }
-}
-
-impl From<io::Error> for Usage {
-    ghost use Rattle.life_cli.specs.Usages.{SaysOfReading};
-
-    ghost from_gives = { λ error usage. SaysOfReading error usage };
-
-    /// Why the words of the command line can't be read: a word is no text, or memory is wanted.
-    fn from(error: io::Error) -> Usage {
-        match error.kind() {
-            io::ErrorKind::OutOfMemory => Usage::Memory,
-            _ => Usage::NoText,
-        }
+        Usage::Words(error)
     }
 }
 

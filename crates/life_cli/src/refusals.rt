@@ -6,7 +6,7 @@ ghost use Rattle.life_cli.specs.Words.{sink_run, WritesText, fault_line, is_of_t
 use itoa::Buffer;
 use life_base::{Fault, Kind, Sink, write_texts};
 
-/// Why a job is refused.
+/// Why a task is refused.
 #[derive(Clone, Copy, Debug, PartialEq, Eq, Drop)]
 pub struct Refusal {
     pub fault: Fault,

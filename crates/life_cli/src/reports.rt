@@ -1,7 +1,7 @@
 //! What is said of words that ask for nothing that can be done.
 
 ghost use Rattle.std.specs.Prelude.{◌≡◌};
-ghost use Rattle.life_cli.specs.Words.{sink_run, fault_of, fault_line, refusal_of, status_of, Tells, is_asked, usage_line, usage_status, words_line, words_status};
+ghost use Rattle.life_cli.specs.Words.{sink_run, fault_of, fault_line, refusal_of, status_of, Tells, is_asked, is_out_of_memory, text_line, text_status, usage_line, usage_status, words_line, words_status};
 
 use crate::plans::Usage;
 use crate::refusals::{Refusal, status, tell};
@@ -39,12 +39,22 @@ fn is_asked(kind: ErrorKind) -> bool
     }
 }
 
-/// Writes what is to be told behind the text of `clap`, and answers the status.
-fn report_words<E: Sink>(err: &mut E, kind: ErrorKind, is_printed: bool) -> u8
+/// Whether `clap` was out of memory.
+fn is_out_of_memory(kind: ErrorKind) -> bool
+    ensures { result ≡ is_out_of_memory kind }
+{
+    match kind {
+        ErrorKind::OutOfMemory => true,
+        _ => false,
+    }
+}
+
+/// Writes the line that comes after a text of `clap`, and returns the status.
+fn report_text<E: Sink>(err: &mut E, kind: ErrorKind, is_printed: bool) -> u8
     requires { E.failures err.old ≡ 0 }
     ensures told { Tells (sink_run E.contents E.failures E.stalled err.old err.new)
-        (words_line kind is_printed) }
-    ensures status { result ≡ words_status kind is_printed }
+        (text_line kind is_printed) }
+    ensures status { result ≡ text_status kind is_printed }
 {
     if !is_asked(kind) {
         return 5;
@@ -55,8 +65,22 @@ fn report_words<E: Sink>(err: &mut E, kind: ErrorKind, is_printed: bool) -> u8
     refuse(err, Kind::WriteFault)
 }
 
-/// Writes what standard error gets of words that ask for nothing that can be done, besides the text that `clap` has for them, and answers
-/// the status that the program ends with. `is_printed` tells whether all of that text was printed, where it has one.
+/// Writes the line that an error of `clap` gets besides its text, and returns the status.
+fn report_words<E: Sink>(err: &mut E, kind: ErrorKind, is_printed: bool) -> u8
+    requires { E.failures err.old ≡ 0 }
+    ensures told { Tells (sink_run E.contents E.failures E.stalled err.old err.new)
+        (words_line kind is_printed) }
+    ensures status { result ≡ words_status kind is_printed }
+{
+    if is_out_of_memory(kind) {
+        return refuse(err, Kind::Memory);
+    }
+    report_text(err, kind, is_printed)
+}
+
+/// Writes what standard error gets of words that ask for nothing that can be done, besides the text that `clap` has for them, and returns
+/// the status that the program ends with. `is_printed` says whether all of that text was printed, where there is one: an `OutOfMemory` has none, and
+/// gets the line `Memory` instead.
 pub fn report<E: Sink>(err: &mut E, usage: &Usage, is_printed: bool) -> u8
     requires { E.failures err.old ≡ 0 }
     ensures told { Tells (sink_run E.contents E.failures E.stalled err.old err.new)
@@ -66,7 +90,6 @@ pub fn report<E: Sink>(err: &mut E, usage: &Usage, is_printed: bool) -> u8
     match usage {
         Usage::Words(error) => report_words(err, error.kind(), is_printed),
         Usage::TwoInputs => misuse(err, b"TwoInputs\n"),
-        Usage::NoText => misuse(err, b"error: a word of the command line is no UTF-8 text\n"),
         Usage::Memory => refuse(err, Kind::Memory),
     }
 }

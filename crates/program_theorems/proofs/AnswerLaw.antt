@@ -1,4 +1,4 @@
--- What a job writes is what the bytes of its files ask for in the words of the claims.
+-- What a task writes is what the bytes of its files ask for in the words of the claims.
 use Rattle.std.proofs.Common.{◌≡◌, ℕ, ◌^◌, List, [], ◌++◌, refl, sym, subst, ◌⊎◌, inl, inr, ◌↔◌}
 use Rattle.std.specs.Prelude.{codes, Option, Some, None, Ok, IsSome, IfSome, IsSomeAnd, option_and_then}
 use Rattle.std.specs.Io.KnownBytes.{Appends}
@@ -16,8 +16,8 @@ use Rattle.life_cli.specs.Jobs.{Compares, Writes, HasAnswer}
 use Rattle.life_cli.specs.Plans.{HasSecond as LayerSecond}
 use Rattle.life_cli.specs.declared.plans.Form.{Form}
 use Rattle.life_cli.specs.declared.plans.Form.TheVariants.{Placed, Moved, Turned}
-use Rattle.life_cli.specs.declared.plans.Job.{Job}
-use Rattle.life_cli.specs.declared.plans.Job.TheVariants as jobs
+use Rattle.life_cli.specs.declared.plans.Task.{Task}
+use Rattle.life_cli.specs.declared.plans.Task.TheVariants as tasks
 use Rattle.life_cli.specs.declared.plans.Target.TheVariants.{Rle, Mc}
 use Rattle.claims.specs.Counting.{node_lines, IsCanonicalText}
 use Rattle.claims.specs.Files.{pattern_of, Same}
@@ -40,19 +40,19 @@ use Rattle.program_theorems.proofs.FormLaw.{few_to, moved_text_is, own_moved, ow
 
 -- ---- second files
 
-to_layer : (job : Job) → HasSecond job → LayerSecond job
-to_layer (jobs.Same form) h = tt
-to_layer jobs.StepTable h = tt
+to_layer : (task : Task) → HasSecond task → LayerSecond task
+to_layer (tasks.Same form) h = tt
+to_layer tasks.StepTable h = tt
 to_layer _ h = h
 
-from_layer : (job : Job) → LayerSecond job → HasSecond job
-from_layer (jobs.Same form) h = tt
-from_layer jobs.StepTable h = tt
+from_layer : (task : Task) → LayerSecond task → HasSecond task
+from_layer (tasks.Same form) h = tt
+from_layer tasks.StepTable h = tt
 from_layer _ h = h
 
--- a second file is given where the job has one
-pub given_second : {P : Type 0} (job : Job) → P ↔ HasSecond job → P ↔ LayerSecond job
-given_second job given = (λ is. to_layer job (given.0 is), λ has. given.1 (from_layer job has))
+-- a second file is given where the task has one
+pub given_second : {P : Type 0} (task : Task) → P ↔ HasSecond task → P ↔ LayerSecond task
+given_second task given = (λ is. to_layer task (given.0 is), λ has. given.1 (from_layer task has))
 
 pub second_before : {B : Type 0} (remaining : B → Option (List ℕ)) (old : Option B) (other : List ℕ) → IfSome old (λ b. remaining b ≡ Some other) → IsSome old
     → option_and_then remaining old ≡ Some other
@@ -99,44 +99,44 @@ text_in laws Turned file text h =
     let p = files_agree file h.universe h.reads in
     (is.0, canonical laws text text (own_turned laws file text h), is.1, (p.pattern, p.is, turned_exact laws file text h))
 
-answers : LayersAgree → (job : Job) (file second : List ℕ) (status : ℕ) (text : List ℕ) → Writes job file second status text
-    → IsOutcome job file second status text
-answers laws (jobs.Canon form) file second status text h = (h.0, text_in laws form file text h.1)
-answers laws (jobs.Convert Rle) file second status text h =
+answers : LayersAgree → (task : Task) (file second : List ℕ) (status : ℕ) (text : List ℕ) → Writes task file second status text
+    → IsOutcome task file second status text
+answers laws (tasks.Canon form) file second status text h = (h.0, text_in laws form file text h.1)
+answers laws (tasks.Convert Rle) file second status text h =
     (h.0, same_to file text (laws.rle (2 ^ 20) file text h.1), rle_format file text h.1, few_cells file text h.1, rle_of_file file text h.1)
-answers laws (jobs.Convert Mc) file second status text h = (h.0, canonical laws file text h.1)
-answers laws (jobs.Same form) file second status text h =
+answers laws (tasks.Convert Mc) file second status text h = (h.0, canonical laws file text h.1)
+answers laws (tasks.Same form) file second status text h =
     let few = few_to laws.on_plane form file second h.0.0 h.1.0 h.0.1 h.1.1 h.2 in
     (accepted_is_ok file h.0, accepted_is_ok second h.1, few, compares laws form file second status text h.0 h.1 h.3)
-answers laws jobs.Show file second status text h =
+answers laws tasks.Show file second status text h =
     let told = canon_text 62 h.1.universe in
     let c : IsCanonical 62 file told = record { universe = h.1.universe; reads = h.1.reads; is = refl } in
     let s = shown_is laws.on_plane laws.unique laws.files file text told h.1 c in
     (h.0, (s.0, s.1, (told, canonical laws file told c, s.2)))
-answers laws jobs.Step file second status text h = (h.0, stepped_is laws.on_plane file text h.1)
-answers laws jobs.StepTable file second status text h =
+answers laws tasks.Step file second status text h = (h.0, stepped_is laws.on_plane file text h.1)
+answers laws tasks.StepTable file second status text h =
     (h.0, stepped_text laws.on_plane laws.read laws.decide second file text h.1.0 ((laws.grammars (lines_of second) h.1.0).0 h.1.1) h.1.2)
 
--- a job without a second file asks for nothing of one
-second_free : (job : Job) (file a b : List ℕ) (status : ℕ) (text : List ℕ) → (HasSecond job → a ≡ b) → IsOutcome job file a status text
-    → IsOutcome job file b status text
-second_free (jobs.Canon form) file a b status text e h = h
-second_free (jobs.Convert Rle) file a b status text e h = h
-second_free (jobs.Convert Mc) file a b status text e h = h
-second_free (jobs.Same form) file a b status text e h = subst (λ (s : List ℕ). IsOutcome (jobs.Same form) file s status text) (e tt) h
-second_free jobs.Show file a b status text e h = h
-second_free jobs.Step file a b status text e h = h
-second_free jobs.StepTable file a b status text e h = subst (λ (s : List ℕ). IsOutcome jobs.StepTable file s status text) (e tt) h
+-- a task without a second file asks for nothing of one
+second_free : (task : Task) (file a b : List ℕ) (status : ℕ) (text : List ℕ) → (HasSecond task → a ≡ b) → IsOutcome task file a status text
+    → IsOutcome task file b status text
+second_free (tasks.Canon form) file a b status text e h = h
+second_free (tasks.Convert Rle) file a b status text e h = h
+second_free (tasks.Convert Mc) file a b status text e h = h
+second_free (tasks.Same form) file a b status text e h = subst (λ (s : List ℕ). IsOutcome (tasks.Same form) file s status text) (e tt) h
+second_free tasks.Show file a b status text e h = h
+second_free tasks.Step file a b status text e h = h
+second_free tasks.StepTable file a b status text e h = subst (λ (s : List ℕ). IsOutcome tasks.StepTable file s status text) (e tt) h
 
-module _ (laws : LayersAgree) (job : Job) (first second : SourceRun) (status : ℕ) (text : List ℕ) (h : HasAnswer job first second status text) where
+module _ (laws : LayersAgree) (task : Task) (first second : SourceRun) (status : ℕ) (text : List ℕ) (h : HasAnswer task first second status text) where
   -- what was made of the files is what their bytes ask for
-  pub answered : (file other : List ℕ) → first.before ≡ Some file → (HasSecond job → second.before ≡ Some other) → IsOutcome job file other status text
+  pub answered : (file other : List ℕ) → first.before ≡ Some file → (HasSecond task → second.before ≡ Some other) → IsOutcome task file other status text
   answered file other e f =
       let one = all_read (2 ^ 30) first.before first.after file h.first_bytes h.first_read e in
-      let given = answers laws job h.first_bytes h.second_bytes status text h.writes in
-      second_free job file h.second_bytes other status text
-      (λ has. all_read (2 ^ 30) second.before second.after other h.second_bytes (h.second_read (to_layer job has)) (f has))
-      (subst (λ (b : List ℕ). IsOutcome job b h.second_bytes status text) one given)
+      let given = answers laws task h.first_bytes h.second_bytes status text h.writes in
+      second_free task file h.second_bytes other status text
+      (λ has. all_read (2 ^ 30) second.before second.after other h.second_bytes (h.second_read (to_layer task has)) (f has))
+      (subst (λ (b : List ℕ). IsOutcome task b h.second_bytes status text) one given)
 
 ended : (source : SourceRun) (bytes read : List ℕ) → ReadAll (2 ^ 30) source.before source.after read → source.before ≡ Some bytes
     → (source.after ≡ Some []) × IsShort bytes
@@ -146,13 +146,13 @@ ended source bytes read r e = (
 )
 
 -- each file was read to its end
-pub first_ended : (job : Job) (first second : SourceRun) (status : ℕ) (text : List ℕ) → HasAnswer job first second status text → (file : List ℕ)
+pub first_ended : (task : Task) (first second : SourceRun) (status : ℕ) (text : List ℕ) → HasAnswer task first second status text → (file : List ℕ)
     → first.before ≡ Some file → (first.after ≡ Some []) × IsShort file
-first_ended job first second status text h file e = ended first file h.first_bytes h.first_read e
+first_ended task first second status text h file e = ended first file h.first_bytes h.first_read e
 
-pub second_ended : (job : Job) (first second : SourceRun) (status : ℕ) (text : List ℕ) → HasAnswer job first second status text → (other : List ℕ)
-    → HasSecond job → second.before ≡ Some other → (second.after ≡ Some []) × IsShort other
-second_ended job first second status text h other has e = ended second other h.second_bytes (h.second_read (to_layer job has)) e
+pub second_ended : (task : Task) (first second : SourceRun) (status : ℕ) (text : List ℕ) → HasAnswer task first second status text → (other : List ℕ)
+    → HasSecond task → second.before ≡ Some other → (second.after ≡ Some []) × IsShort other
+second_ended task first second status text h other has e = ended second other h.second_bytes (h.second_read (to_layer task has)) e
 
 -- ---- the texts of two runs
 
@@ -167,64 +167,64 @@ two_written old new other_old other_new held kept text other one two e f related
 own_canonical : LayersAgree → (bytes text : List ℕ) → IsCanonical 62 bytes text → IsCanonical 62 text text
 own_canonical laws bytes text c = own_text_of laws c.universe text (laws.on_plane bytes c.universe c.reads) c.is
 
-own_text : LayersAgree → (job : Job) (file second : List ℕ) (status : ℕ) (text : List ℕ) → WritesCanonical job → Writes job file second status text
+own_text : LayersAgree → (task : Task) (file second : List ℕ) (status : ℕ) (text : List ℕ) → WritesCanonical task → Writes task file second status text
     → IsCanonical 62 text text
-own_text laws (jobs.Canon Placed) file second status text w h = own_canonical laws file text h.1
-own_text laws (jobs.Canon Moved) file second status text w h = own_moved laws file text h.1
-own_text laws (jobs.Canon Turned) file second status text w h = own_turned laws file text h.1
-own_text laws (jobs.Convert Rle) file second status text w h = absurd w
-own_text laws (jobs.Convert Mc) file second status text w h = own_canonical laws file text h.1
-own_text laws (jobs.Same form) file second status text w h = absurd w
-own_text laws jobs.Show file second status text w h = absurd w
-own_text laws jobs.Step file second status text w h = let t = h.1.3 in record { universe = t.universe; reads = t.reads; is = t.canonical }
-own_text laws jobs.StepTable file second status text w h = let t = h.1.2.3 in record { universe = t.universe; reads = t.reads; is = t.canonical }
+own_text laws (tasks.Canon Placed) file second status text w h = own_canonical laws file text h.1
+own_text laws (tasks.Canon Moved) file second status text w h = own_moved laws file text h.1
+own_text laws (tasks.Canon Turned) file second status text w h = own_turned laws file text h.1
+own_text laws (tasks.Convert Rle) file second status text w h = absurd w
+own_text laws (tasks.Convert Mc) file second status text w h = own_canonical laws file text h.1
+own_text laws (tasks.Same form) file second status text w h = absurd w
+own_text laws tasks.Show file second status text w h = absurd w
+own_text laws tasks.Step file second status text w h = let t = h.1.3 in record { universe = t.universe; reads = t.reads; is = t.canonical }
+own_text laws tasks.StepTable file second status text w h = let t = h.1.2.3 in record { universe = t.universe; reads = t.reads; is = t.canonical }
 
-pub equal_outputs : LayersAgree → (job other_job : Job) (first second other_first other_second : SourceRun) (status other_status : ℕ) (text other : List ℕ)
-    → HasAnswer job first second status text → HasAnswer other_job other_first other_second other_status other
-    → WritesCanonical job → WritesCanonical other_job → (text ≡ other) ↔ Same text other
-equal_outputs laws job other_job first second other_first other_second status other_status text other h k w v =
-    texts_are_exact laws.tell laws.on_plane text other text other (own_text laws job h.first_bytes h.second_bytes status text w h.writes)
-    (own_text laws other_job k.first_bytes k.second_bytes other_status other v k.writes)
+pub equal_outputs : LayersAgree → (task other_task : Task) (first second other_first other_second : SourceRun) (status other_status : ℕ) (text other : List ℕ)
+    → HasAnswer task first second status text → HasAnswer other_task other_first other_second other_status other
+    → WritesCanonical task → WritesCanonical other_task → (text ≡ other) ↔ Same text other
+equal_outputs laws task other_task first second other_first other_second status other_status text other h k w v =
+    texts_are_exact laws.tell laws.on_plane text other text other (own_text laws task h.first_bytes h.second_bytes status text w h.writes)
+    (own_text laws other_task k.first_bytes k.second_bytes other_status other v k.writes)
 
 -- what `canon` writes of two files in one form
-pub form_outputs : LayersAgree → (form : Form) (job other_job : Job) (first second other_first other_second : SourceRun) (status other_status : ℕ)
-    (text other file other_file : List ℕ) → HasAnswer job first second status text → HasAnswer other_job other_first other_second other_status other
-    → job ≡ jobs.Canon form → other_job ≡ jobs.Canon form → first.before ≡ Some file → other_first.before ≡ Some other_file
+pub form_outputs : LayersAgree → (form : Form) (task other_task : Task) (first second other_first other_second : SourceRun) (status other_status : ℕ)
+    (text other file other_file : List ℕ) → HasAnswer task first second status text → HasAnswer other_task other_first other_second other_status other
+    → task ≡ tasks.Canon form → other_task ≡ tasks.Canon form → first.before ≡ Some file → other_first.before ≡ Some other_file
     → (text ≡ other) ↔ SameIn form file other_file
-form_outputs laws form job other_job first second other_first other_second status other_status text other file other_file h k is other_is e f =
+form_outputs laws form task other_task first second other_first other_second status other_status text other file other_file h k is other_is e f =
     texts_tell_in laws form file other_file text other
     (subst (λ (b : List ℕ). LayerTextIn form 62 b text) (all_read (2 ^ 30) first.before first.after file h.first_bytes h.first_read e) one.1)
     (subst (λ (b : List ℕ). LayerTextIn form 62 b other)
     (all_read (2 ^ 30) other_first.before other_first.after other_file k.first_bytes k.first_read f) two.1)
   where
-    one : Writes (jobs.Canon form) h.first_bytes h.second_bytes status text
-    one = subst (λ (j : Job). Writes j h.first_bytes h.second_bytes status text) is h.writes
+    one : Writes (tasks.Canon form) h.first_bytes h.second_bytes status text
+    one = subst (λ (j : Task). Writes j h.first_bytes h.second_bytes status text) is h.writes
 
-    two : Writes (jobs.Canon form) k.first_bytes k.second_bytes other_status other
-    two = subst (λ (j : Job). Writes j k.first_bytes k.second_bytes other_status other) other_is k.writes
+    two : Writes (tasks.Canon form) k.first_bytes k.second_bytes other_status other
+    two = subst (λ (j : Task). Writes j k.first_bytes k.second_bytes other_status other) other_is k.writes
 
 -- what `show` and `canon` write of the same bytes
-pub shown_outputs : LayersAgree → (job other_job : Job) (first second other_first other_second : SourceRun) (status other_status : ℕ) (text lines file : List ℕ)
-    → HasAnswer job first second status text → HasAnswer other_job other_first other_second other_status lines → job ≡ jobs.Canon Placed → other_job ≡ jobs.Show
+pub shown_outputs : LayersAgree → (task other_task : Task) (first second other_first other_second : SourceRun) (status other_status : ℕ) (text lines file : List ℕ)
+    → HasAnswer task first second status text → HasAnswer other_task other_first other_second other_status lines → task ≡ tasks.Canon Placed → other_task ≡ tasks.Show
     → first.before ≡ Some file → other_first.before ≡ Some file
     → (pattern : Pattern) × (pattern_of file ≡ Ok pattern) × IsShown pattern (node_lines text) lines
-shown_outputs laws job other_job first second other_first other_second status other_status text lines file h k is other_is e f =
+shown_outputs laws task other_task first second other_first other_second status other_status text lines file h k is other_is e f =
     shown_is laws.on_plane laws.unique laws.files file lines text
     (subst (λ (b : List ℕ). LayerShown 62 b lines) (all_read (2 ^ 30) other_first.before other_first.after file k.first_bytes k.first_read f) shown.1)
     (subst (λ (b : List ℕ). IsCanonical 62 b text) (all_read (2 ^ 30) first.before first.after file h.first_bytes h.first_read e) canonical.1)
   where
-    canonical : Writes (jobs.Canon Placed) h.first_bytes h.second_bytes status text
-    canonical = subst (λ (j : Job). Writes j h.first_bytes h.second_bytes status text) is h.writes
+    canonical : Writes (tasks.Canon Placed) h.first_bytes h.second_bytes status text
+    canonical = subst (λ (j : Task). Writes j h.first_bytes h.second_bytes status text) is h.writes
 
-    shown : Writes jobs.Show k.first_bytes k.second_bytes other_status lines
-    shown = subst (λ (j : Job). Writes j k.first_bytes k.second_bytes other_status lines) other_is k.writes
+    shown : Writes tasks.Show k.first_bytes k.second_bytes other_status lines
+    shown = subst (λ (j : Task). Writes j k.first_bytes k.second_bytes other_status lines) other_is k.writes
 
--- what a job for the canonical text of a file writes is that of the file's bytes
-pub written_canonical : (job : Job) (first second : SourceRun) (status : ℕ) (text file : List ℕ) → HasAnswer job first second status text
-    → first.before ≡ Some file → (job ≡ jobs.Canon Placed) ⊎ (job ≡ jobs.Convert Mc) → IsCanonical 62 file text
-written_canonical job first second status text file h e is =
+-- what a task for the canonical text of a file writes is that of the file's bytes
+pub written_canonical : (task : Task) (first second : SourceRun) (status : ℕ) (text file : List ℕ) → HasAnswer task first second status text
+    → first.before ≡ Some file → (task ≡ tasks.Canon Placed) ⊎ (task ≡ tasks.Convert Mc) → IsCanonical 62 file text
+written_canonical task first second status text file h e is =
     subst (λ (b : List ℕ). IsCanonical 62 b text) (all_read (2 ^ 30) first.before first.after file h.first_bytes h.first_read e) (of_job is)
   where
-    of_job : (job ≡ jobs.Canon Placed) ⊎ (job ≡ jobs.Convert Mc) → IsCanonical 62 h.first_bytes text
-    of_job (inl canon) = (subst (λ (j : Job). Writes j h.first_bytes h.second_bytes status text) canon h.writes).1
-    of_job (inr convert) = (subst (λ (j : Job). Writes j h.first_bytes h.second_bytes status text) convert h.writes).1
+    of_job : (task ≡ tasks.Canon Placed) ⊎ (task ≡ tasks.Convert Mc) → IsCanonical 62 h.first_bytes text
+    of_job (inl canon) = (subst (λ (j : Task). Writes j h.first_bytes h.second_bytes status text) canon h.writes).1
+    of_job (inr convert) = (subst (λ (j : Task). Writes j h.first_bytes h.second_bytes status text) convert h.writes).1

@@ -1,4 +1,4 @@
--- Why a job is refused, in the words of the claims.
+-- Why a task is refused, in the words of the claims.
 use Rattle.std.proofs.Common.{◌≡◌, ℕ, ◌^◌, List, [], ◌++◌, take, Bool, true, false, refl, ap, ◌∙◌, sym, subst, subst₂, ◌⊎◌, inl, inr}
 use Rattle.std.specs.Prelude.{codes, Option, Some, None, Ok, Err, IsOk, IfSome, IsSomeAnd}
 use Rattle.std.specs.Option.{option_map_or}
@@ -26,8 +26,8 @@ use Rattle.life_cli.specs.Plans.{HasSecond as LayerSecond}
 use Rattle.life_cli.specs.Forms.{HasTooMany as LayerTooMany, IsTextIn as LayerTextIn}
 use Rattle.life_cli.specs.declared.plans.Form.{Form}
 use Rattle.life_cli.specs.declared.plans.Form.TheVariants.{Placed, Moved, Turned}
-use Rattle.life_cli.specs.declared.plans.Job.{Job}
-use Rattle.life_cli.specs.declared.plans.Job.TheVariants as jobs
+use Rattle.life_cli.specs.declared.plans.Task.{Task}
+use Rattle.life_cli.specs.declared.plans.Task.TheVariants as tasks
 use Rattle.life_cli.specs.declared.plans.Target.TheVariants.{Rle, Mc}
 use Rattle.life_cli.specs.declared.refusals.Refusal.{Refusal}
 use Rattle.claims.specs.Pattern.{Pattern}
@@ -115,17 +115,17 @@ line_of_none refusal of_table e =
 
 -- ---- where a refusal comes from
 
-pub data Origin (job : Job) (first second : SourceRun) (output : SinkRun) (refusal : Refusal) : Type 0 where
+pub data Origin (task : Task) (first second : SourceRun) (output : SinkRun) (refusal : Refusal) : Type 0 where
   from_files : (of_table : Bool)
-      → ((file other : List ℕ) → first.before ≡ Some file → (HasSecond job → second.before ≡ Some other) → Refuses job file other of_table refusal.fault)
-      → (refusal.fault.kind ≡ kinds.WriteFault → ⊥) → layer_line refusal ≡ fault_line of_table refusal.fault → Origin job first second output refusal
-  from_want : IsWant refusal.fault → Origin job first second output refusal
+      → ((file other : List ℕ) → first.before ≡ Some file → (HasSecond task → second.before ≡ Some other) → Refuses task file other of_table refusal.fault)
+      → (refusal.fault.kind ≡ kinds.WriteFault → ⊥) → layer_line refusal ≡ fault_line of_table refusal.fault → Origin task first second output refusal
+  from_want : IsWant refusal.fault → Origin task first second output refusal
   from_length : refusal.fault ≡ fault_of kinds.InputTooLong
-      → CameBeyond (2 ^ 30) first.before first.after ⊎ (HasSecond job × CameBeyond (2 ^ 30) second.before second.after)
-      → Origin job first second output refusal
-  from_source : refusal.fault ≡ fault_of kinds.ReadFault → (first.failures ≡ 1) ⊎ (second.failures ≡ 1) → Origin job first second output refusal
-  from_sink : refusal.fault ≡ fault_of kinds.WriteFault → (status : ℕ) (text : List ℕ) → layer.HasAnswer job first second status text
-      → WritesPrefix output.before output.after text → (output.failures ≡ 1) ⊎ (output.stalled ≡ true) → Origin job first second output refusal
+      → CameBeyond (2 ^ 30) first.before first.after ⊎ (HasSecond task × CameBeyond (2 ^ 30) second.before second.after)
+      → Origin task first second output refusal
+  from_source : refusal.fault ≡ fault_of kinds.ReadFault → (first.failures ≡ 1) ⊎ (second.failures ≡ 1) → Origin task first second output refusal
+  from_sink : refusal.fault ≡ fault_of kinds.WriteFault → (status : ℕ) (text : List ℕ) → layer.HasAnswer task first second status text
+      → WritesPrefix output.before output.after text → (output.failures ≡ 1) ⊎ (output.stalled ≡ true) → Origin task first second output refusal
 
 wanted : (source : SourceRun) (fault : Fault) → layer.Wants source fault → IsWant fault
 wanted source fault (inl e) = inr e
@@ -141,19 +141,19 @@ read_as before after bytes file fault read e h =
 short : (before after : Option (List ℕ)) (bytes file : List ℕ) → ReadAll (2 ^ 30) before after bytes → before ≡ Some file → IsShort file
 short before after bytes file read e = subst IsShort (all_read (2 ^ 30) before after file bytes read e) read.within
 
-module _ (laws : LayersAgree) (job : Job) (first second : SourceRun) (output : SinkRun) (refusal : Refusal) where
+module _ (laws : LayersAgree) (task : Task) (first second : SourceRun) (output : SinkRun) (refusal : Refusal) where
   abbrev Comes : Type 0
-  Comes = Origin job first second output refusal
+  Comes = Origin task first second output refusal
 
   abbrev Told : Bool → Type 0
   Told of_table =
-      (file other : List ℕ) → first.before ≡ Some file → (HasSecond job → second.before ≡ Some other) → Refuses job file other of_table refusal.fault
+      (file other : List ℕ) → first.before ≡ Some file → (HasSecond task → second.before ≡ Some other) → Refuses task file other of_table refusal.fault
 
   of_first_input : layer.InputRefuses first refusal.fault → Comes
   of_first_input (layer.by_length is came) = from_length is (inl came)
   of_first_input (layer.by_source is failed) = from_source is (inl failed)
 
-  of_second_input : HasSecond job → layer.InputRefuses second refusal.fault → Comes
+  of_second_input : HasSecond task → layer.InputRefuses second refusal.fault → Comes
   of_second_input has (layer.by_length is came) = from_length is (inr (has, came))
   of_second_input has (layer.by_source is failed) = from_source is (inr failed)
 
@@ -169,9 +169,9 @@ module _ (laws : LayersAgree) (job : Job) (first second : SourceRun) (output : S
   of_none of_table none told = from_files of_table told none.kind (line_of_none refusal of_table none.line)
 
   -- the canonical text of a file
-  module _ (writes : (bytes other text : List ℕ) → IsCanonical 62 bytes text → layer.Writes job bytes other 0 text) (alone : LayerSecond job → ⊥)
+  module _ (writes : (bytes other text : List ℕ) → IsCanonical 62 bytes text → layer.Writes task bytes other 0 text) (alone : LayerSecond task → ⊥)
       (e : refusal.in_table ≡ false)
-      (told : (file other : List ℕ) → IsShort file × (pattern_of file ≡ Err refusal.fault) → Refuses job file other false refusal.fault)
+      (told : (file other : List ℕ) → IsShort file × (pattern_of file ≡ Err refusal.fault) → Refuses task file other false refusal.fault)
       (store : Nodes) where
     of_reading : ReadRefuses 62 (2 ^ 30) store first refusal.fault → Comes
     of_reading (running.by_file bytes read h) = of_pattern e bytes h (λ file other f g. told file other (read_as _ _ bytes file _ read f h))
@@ -194,7 +194,7 @@ module _ (laws : LayersAgree) (job : Job) (first second : SourceRun) (output : S
 
   -- another text of a file
   module _ (gives : List ℕ → List ℕ → Type 0) (refuses : List ℕ → Fault → Type 0)
-      (writes : (bytes other text : List ℕ) → gives bytes text → layer.Writes job bytes other 0 text) (alone : LayerSecond job → ⊥)
+      (writes : (bytes other text : List ℕ) → gives bytes text → layer.Writes task bytes other 0 text) (alone : LayerSecond task → ⊥)
       (by : (bytes : List ℕ) → ReadAll (2 ^ 30) first.before first.after bytes → refuses bytes refusal.fault → Comes) where
     of_no_text : layer.HasNoText refuses first refusal.fault → Comes
     of_no_text (layer.by_input h) = of_first_input h
@@ -214,21 +214,21 @@ module _ (laws : LayersAgree) (job : Job) (first second : SourceRun) (output : S
         })
         breaks.written breaks.cause
 
--- ---- each job
+-- ---- each task
 
 module _ (laws : LayersAgree) (first second : SourceRun) (output : SinkRun) (refusal : Refusal) where
   too_many : refusal.fault ≡ fault_of kinds.TooManyCells → IsPlaceless refusal.fault
   too_many is = record { line = ap (λ (f : Fault). f.place.line) is; kind = other_kind refusal.fault kinds.TooManyCells is (λ n. cc) }
 
   -- a file whose cells are listed
-  of_many : (job : Job) → ((file other : List ℕ) → RefusesMany file false refusal.fault → Refuses job file other false refusal.fault)
+  of_many : (task : Task) → ((file other : List ℕ) → RefusesMany file false refusal.fault → Refuses task file other false refusal.fault)
       → refusal.in_table ≡ false → (bytes : List ℕ) → ReadAll (2 ^ 30) first.before first.after bytes → layer.RefusesMany bytes refusal.fault
-      → Origin job first second output refusal
-  of_many job to e bytes read (inl h) =
-      of_pattern laws job first second output refusal e bytes h
+      → Origin task first second output refusal
+  of_many task to e bytes read (inl h) =
+      of_pattern laws task first second output refusal e bytes h
       (λ file other f g. let r = read_as _ _ bytes file _ read f h in to file other (r.0, refl, inl r.1))
-  of_many job to e bytes read (inr m) =
-      of_none laws job first second output refusal false (too_many m.0)
+  of_many task to e bytes read (inr m) =
+      of_none laws task first second output refusal false (too_many m.0)
       (λ file other f g. to file other (
         short _ _ bytes file read f,
         refl,
@@ -236,19 +236,19 @@ module _ (laws : LayersAgree) (first second : SourceRun) (output : SinkRun) (ref
       ))
 
   of_moved : refusal.in_table ≡ false → (bytes : List ℕ) → ReadAll (2 ^ 30) first.before first.after bytes → layer.RefusesInForm Moved bytes refusal.fault
-      → Origin (jobs.Canon Moved) first second output refusal
-  of_moved e bytes read (inl h) = of_many (jobs.Canon Moved) (λ file other h. h) e bytes read h
+      → Origin (tasks.Canon Moved) first second output refusal
+  of_moved e bytes read (inl h) = of_many (tasks.Canon Moved) (λ file other h. h) e bytes read h
   of_moved e bytes read (inr want) = from_want (want_as want.0 refusal.fault want.2)
 
   of_step : refusal.in_table ≡ false → (bytes : List ℕ) → ReadAll (2 ^ 30) first.before first.after bytes → layer.RefusesStep bytes refusal.fault
-      → Origin jobs.Step first second output refusal
+      → Origin tasks.Step first second output refusal
   of_step e bytes read (inl h) =
-      of_pattern laws jobs.Step first second output refusal e bytes h
+      of_pattern laws tasks.Step first second output refusal e bytes h
       (λ file other f g. let r = read_as _ _ bytes file _ read f h in (r.0, refl, inl r.1))
   of_step e bytes read (inr (inl want)) = from_want (want_as want.0 refusal.fault want.2)
   of_step e bytes read (inr (inr h)) =
       let un = unstepped_is laws.on_plane bytes h.0 refusal.fault h.1 h.2 in
-      of_none laws jobs.Step first second output refusal false (placeless_reason un.0 refusal.fault un.2)
+      of_none laws tasks.Step first second output refusal false (placeless_reason un.0 refusal.fault un.2)
       (λ file other f g. (
         short _ _ bytes file read f,
         refl,
@@ -258,9 +258,9 @@ module _ (laws : LayersAgree) (first second : SourceRun) (output : SinkRun) (ref
   -- two files
   module _ (form : Form) (a b : List ℕ) (one : ReadAll (2 ^ 30) first.before first.after a) (two : ReadAll (2 ^ 30) second.before second.after b)
       (p : Accepted 62 a) (q : Accepted 62 b) where
-    both_many : (refusal.fault ≡ fault_of kinds.TooManyCells) × LayerTooMany form 62 a b → Origin (jobs.Same form) first second output refusal
+    both_many : (refusal.fault ≡ fault_of kinds.TooManyCells) × LayerTooMany form 62 a b → Origin (tasks.Same form) first second output refusal
     both_many m =
-        of_none laws (jobs.Same form) first second output refusal false (too_many m.0)
+        of_none laws (tasks.Same form) first second output refusal false (too_many m.0)
         (λ file other f g.
         let e = all_read (2 ^ 30) first.before first.after file a one f in
         let k = all_read (2 ^ 30) second.before second.after other b two (g tt) in (
@@ -276,22 +276,22 @@ module _ (laws : LayersAgree) (first second : SourceRun) (output : SinkRun) (ref
         ))
 
   of_form : (form : Form) (a b : List ℕ) → ReadAll (2 ^ 30) first.before first.after a → ReadAll (2 ^ 30) second.before second.after b
-      → Accepted 62 a → Accepted 62 b → layer.RefusesSame form a b refusal.fault → Origin (jobs.Same form) first second output refusal
+      → Accepted 62 a → Accepted 62 b → layer.RefusesSame form a b refusal.fault → Origin (tasks.Same form) first second output refusal
   of_form Placed a b one two p q h = absurd h
   of_form Moved a b one two p q (inl m) = both_many Moved a b one two p q m
   of_form Moved a b one two p q (inr want) = from_want (want_as want.0 refusal.fault want.2)
   of_form Turned a b one two p q m = both_many Turned a b one two p q m
 
   of_files_compared : (form : Form) → refusal.in_table ≡ false → layer.AreUncompared form first second refusal.fault
-      → Origin (jobs.Same form) first second output refusal
-  of_files_compared form e (layer.by_first h) = of_first_input laws (jobs.Same form) first second output refusal h
-  of_files_compared form e (layer.by_second a read h) = of_second_input laws (jobs.Same form) first second output refusal tt h
+      → Origin (tasks.Same form) first second output refusal
+  of_files_compared form e (layer.by_first h) = of_first_input laws (tasks.Same form) first second output refusal h
+  of_files_compared form e (layer.by_second a read h) = of_second_input laws (tasks.Same form) first second output refusal tt h
   of_files_compared form e (layer.by_form a b one two p q h) = of_form form a b one two p q h
   of_files_compared form e (layer.by_files a b one two (inl h)) =
-      of_pattern laws (jobs.Same form) first second output refusal e a h
+      of_pattern laws (tasks.Same form) first second output refusal e a h
       (λ file other f g. let r = read_as _ _ a file _ one f h in (r.0, short _ _ b other two (g tt), refl, inl r.1))
   of_files_compared form e (layer.by_files a b one two (inr h)) =
-      of_pattern laws (jobs.Same form) first second output refusal e b h.1
+      of_pattern laws (tasks.Same form) first second output refusal e b h.1
       (λ file other f g. let r = read_as _ _ b other _ two (g tt) h.1 in (
         short _ _ a file one f,
         r.0,
@@ -305,13 +305,13 @@ module _ (laws : LayersAgree) (first second : SourceRun) (output : SinkRun) (ref
   of_files_compared form e (layer.by_second_shortage a read want) = from_want (wanted second refusal.fault want)
 
   of_same : (form : Form) → refusal.in_table ≡ false → layer.SameRefuses form first second output refusal.fault
-      → Origin (jobs.Same form) first second output refusal
+      → Origin (tasks.Same form) first second output refusal
   of_same form e (layer.by_comparing h) = of_files_compared form e h
   of_same form e (layer.by_telling status text answer breaks) = from_sink breaks.is status text answer breaks.written breaks.cause
 
   -- a file and a rule table
-  of_no_table : refusal.in_table ≡ true → layer.HasNoTable second refusal.fault → Origin jobs.StepTable first second output refusal
-  of_no_table e (layer.table_by_input h) = of_second_input laws jobs.StepTable first second output refusal tt h
+  of_no_table : refusal.in_table ≡ true → layer.HasNoTable second refusal.fault → Origin tasks.StepTable first second output refusal
+  of_no_table e (layer.table_by_input h) = of_second_input laws tasks.StepTable first second output refusal tt h
   of_no_table e (layer.table_by_lines bytes read h) =
       let kind = laws.table_kinds (lines_of bytes) refusal.fault h in
       from_files true
@@ -333,9 +333,9 @@ module _ (laws : LayersAgree) (first second : SourceRun) (output : SinkRun) (ref
         subst (λ (b : List ℕ). table_of b ≡ Ok found.0) (all_read (2 ^ 30) second.before second.after other has.bytes has.read g) found.1
 
     of_step_by : (bytes : List ℕ) → ReadAll (2 ^ 30) first.before first.after bytes → layer.RefusesStepBy table bytes refusal.fault
-        → Origin jobs.StepTable first second output refusal
+        → Origin tasks.StepTable first second output refusal
     of_step_by bytes read (inl h) =
-        of_pattern laws jobs.StepTable first second output refusal e bytes h
+        of_pattern laws tasks.StepTable first second output refusal e bytes h
         (λ file other f g. let r = read_as _ _ bytes file _ read f h in (
           short _ _ has.bytes other has.read (g tt),
           inr (r.0, (found.0, second_is other (g tt), inl (refl, r.1))),
@@ -362,15 +362,15 @@ module _ (laws : LayersAgree) (first second : SourceRun) (output : SinkRun) (ref
           | inr none ↦ line_of_none refusal true none
         ])
 
-    of_table_text : layer.HasNoText (layer.RefusesStepBy table) first refusal.fault → Origin jobs.StepTable first second output refusal
-    of_table_text (layer.by_input h) = of_first_input laws jobs.StepTable first second output refusal h
+    of_table_text : layer.HasNoText (layer.RefusesStepBy table) first refusal.fault → Origin tasks.StepTable first second output refusal
+    of_table_text (layer.by_input h) = of_first_input laws tasks.StepTable first second output refusal h
     of_table_text (layer.by_file bytes read h) = of_step_by bytes read h
     of_table_text (layer.by_want want) = from_want (wanted first refusal.fault want)
 
-  of_table_job : layer.JobRefuses jobs.StepTable first second output refusal → Origin jobs.StepTable first second output refusal
-  of_table_job (inl (inl h)) = of_no_table h.0.0 h.0.1
-  of_table_job (inl (inr h)) = of_table_text h.0 h.1.0 h.1.1 h.1.2
-  of_table_job (inr h) =
+  of_table_task : layer.TaskRefuses tasks.StepTable first second output refusal → Origin tasks.StepTable first second output refusal
+  of_table_task (inl (inl h)) = of_no_table h.0.0 h.0.1
+  of_table_task (inl (inr h)) = of_table_text h.0 h.1.0 h.1.1 h.1.2
+  of_table_task (inr h) =
       let made = h.1.1 in
       let breaks = h.1.2 in
       from_sink breaks.is 0 h.1.0
@@ -383,51 +383,51 @@ module _ (laws : LayersAgree) (first second : SourceRun) (output : SinkRun) (ref
       })
       breaks.written breaks.cause
 
-pub origin_of : LayersAgree → (job : Job) (first second : SourceRun) (output : SinkRun) (refusal : Refusal) → layer.JobRefuses job first second output refusal
-    → Origin job first second output refusal
-origin_of laws (jobs.Canon Placed) first second output refusal h =
-    of_canon laws (jobs.Canon Placed) first second output refusal (λ bytes other text c. (refl, c)) (λ has. has) h.0
+pub origin_of : LayersAgree → (task : Task) (first second : SourceRun) (output : SinkRun) (refusal : Refusal) → layer.TaskRefuses task first second output refusal
+    → Origin task first second output refusal
+origin_of laws (tasks.Canon Placed) first second output refusal h =
+    of_canon laws (tasks.Canon Placed) first second output refusal (λ bytes other text c. (refl, c)) (λ has. has) h.0
     (λ file other r. (r.0, refl, r.1)) h.1.0 h.1.2
-origin_of laws (jobs.Convert Mc) first second output refusal h =
-    of_canon laws (jobs.Convert Mc) first second output refusal (λ bytes other text c. (refl, c)) (λ has. has) h.0 (λ file other r. (r.0, refl, r.1)) h.1.0
+origin_of laws (tasks.Convert Mc) first second output refusal h =
+    of_canon laws (tasks.Convert Mc) first second output refusal (λ bytes other text c. (refl, c)) (λ has. has) h.0 (λ file other r. (r.0, refl, r.1)) h.1.0
     h.1.2
-origin_of laws (jobs.Canon Moved) first second output refusal h =
-    of_file laws (jobs.Canon Moved) first second output refusal (LayerTextIn Moved 62) (layer.RefusesInForm Moved) (λ bytes other text is. (refl, is))
+origin_of laws (tasks.Canon Moved) first second output refusal h =
+    of_file laws (tasks.Canon Moved) first second output refusal (LayerTextIn Moved 62) (layer.RefusesInForm Moved) (λ bytes other text is. (refl, is))
     (λ has. has) (of_moved laws first second output refusal h.0) h.1
-origin_of laws (jobs.Canon Turned) first second output refusal h =
-    of_file laws (jobs.Canon Turned) first second output refusal (LayerTextIn Turned 62) (layer.RefusesInForm Turned) (λ bytes other text is. (refl, is))
-    (λ has. has) (of_many laws first second output refusal (jobs.Canon Turned) (λ file other h. h) h.0) h.1
-origin_of laws (jobs.Convert Rle) first second output refusal h =
-    of_file laws (jobs.Convert Rle) first second output refusal (IsRleOf 62 (2 ^ 20)) layer.RefusesMany (λ bytes other text is. (refl, is)) (λ has. has)
-    (of_many laws first second output refusal (jobs.Convert Rle) (λ file other h. h) h.0) h.1
-origin_of laws (jobs.Same form) first second output refusal h = of_same laws first second output refusal form h.0 h.1
-origin_of laws jobs.Show first second output refusal h =
-    of_file laws jobs.Show first second output refusal (LayerShown 62) (LayerRefuses 62) (λ bytes other text is. (refl, is)) (λ has. has)
-    (λ bytes read r. of_pattern laws jobs.Show first second output refusal h.0 bytes r
+origin_of laws (tasks.Canon Turned) first second output refusal h =
+    of_file laws (tasks.Canon Turned) first second output refusal (LayerTextIn Turned 62) (layer.RefusesInForm Turned) (λ bytes other text is. (refl, is))
+    (λ has. has) (of_many laws first second output refusal (tasks.Canon Turned) (λ file other h. h) h.0) h.1
+origin_of laws (tasks.Convert Rle) first second output refusal h =
+    of_file laws (tasks.Convert Rle) first second output refusal (IsRleOf 62 (2 ^ 20)) layer.RefusesMany (λ bytes other text is. (refl, is)) (λ has. has)
+    (of_many laws first second output refusal (tasks.Convert Rle) (λ file other h. h) h.0) h.1
+origin_of laws (tasks.Same form) first second output refusal h = of_same laws first second output refusal form h.0 h.1
+origin_of laws tasks.Show first second output refusal h =
+    of_file laws tasks.Show first second output refusal (LayerShown 62) (LayerRefuses 62) (λ bytes other text is. (refl, is)) (λ has. has)
+    (λ bytes read r. of_pattern laws tasks.Show first second output refusal h.0 bytes r
     (λ file other f g. let k = read_as _ _ bytes file _ read f r in (k.0, refl, k.1))) h.1
-origin_of laws jobs.Step first second output refusal h =
-    of_file laws jobs.Step first second output refusal LayerStepped layer.RefusesStep (λ bytes other text is. (refl, is)) (λ has. has)
+origin_of laws tasks.Step first second output refusal h =
+    of_file laws tasks.Step first second output refusal LayerStepped layer.RefusesStep (λ bytes other text is. (refl, is)) (λ has. has)
     (of_step laws first second output refusal h.0) h.1
-origin_of laws jobs.StepTable first second output refusal h = of_table_job laws first second output refusal h
+origin_of laws tasks.StepTable first second output refusal h = of_table_task laws first second output refusal h
 
 -- ---- what the origin tells
 
 -- the reason, and the line that tells it
-pub record Reason (job : Job) (file other : List ℕ) (is_unread is_unwritten : Type 0) (refusal : Refusal) : Type 0 where
+pub record Reason (task : Task) (file other : List ℕ) (is_unread is_unwritten : Type 0) (refusal : Refusal) : Type 0 where
   pub of_table : Bool
-  pub reason : IsReason job file other is_unread is_unwritten of_table refusal.fault
+  pub reason : IsReason task file other is_unread is_unwritten of_table refusal.fault
   pub line : layer_line refusal ≡ fault_line of_table refusal.fault
 
-module _ (job : Job) (first second : SourceRun) (output : SinkRun) (refusal : Refusal) (file other : List ℕ) (e : first.before ≡ Some file)
-    (f : HasSecond job → second.before ≡ Some other) (is_unread : Type 0) (unread : (first.failures ≡ 1) ⊎ (second.failures ≡ 1) → is_unread) where
+module _ (task : Task) (first second : SourceRun) (output : SinkRun) (refusal : Refusal) (file other : List ℕ) (e : first.before ≡ Some file)
+    (f : HasSecond task → second.before ≡ Some other) (is_unread : Type 0) (unread : (first.failures ≡ 1) ⊎ (second.failures ≡ 1) → is_unread) where
   abbrev Unwritten : Type 0
   Unwritten = (output.failures ≡ 1) ⊎ (output.stalled ≡ true)
 
-  of_no_file : (fault : Fault) → refusal.fault ≡ fault → fault.place.line ≡ 0 → IsReason job file other is_unread Unwritten false fault
-      → Reason job file other is_unread Unwritten refusal
+  of_no_file : (fault : Fault) → refusal.fault ≡ fault → fault.place.line ≡ 0 → IsReason task file other is_unread Unwritten false fault
+      → Reason task file other is_unread Unwritten refusal
   of_no_file fault is line reason = record {
     of_table = false;
-    reason = subst (IsReason job file other is_unread Unwritten false) (sym is) reason;
+    reason = subst (IsReason task file other is_unread Unwritten false) (sym is) reason;
     line = line_of_none refusal false (ap (λ (f : Fault). f.place.line) is ∙ line);
   }
 
@@ -435,7 +435,7 @@ module _ (job : Job) (first second : SourceRun) (output : SinkRun) (refusal : Re
   want_line fault (inl is) = ap (λ (f : Fault). f.place.line) is
   want_line fault (inr is) = ap (λ (f : Fault). f.place.line) is
 
-  pub reason_of : Origin job first second output refusal → Reason job file other is_unread Unwritten refusal
+  pub reason_of : Origin task first second output refusal → Reason task file other is_unread Unwritten refusal
   reason_of (from_files of_table told kind line) = record { of_table = of_table; reason = of_files of_table refusal.fault (told file other e f); line = line }
   reason_of (from_want want) = of_no_file refusal.fault refl (want_line refusal.fault want) (of_want refusal.fault want)
   reason_of (from_length is (inl came)) =
@@ -446,10 +446,10 @@ module _ (job : Job) (first second : SourceRun) (output : SinkRun) (refusal : Re
   reason_of (from_sink is status text answer written cause) = of_no_file (fault_of kinds.WriteFault) is refl (of_sink cause)
 
 -- the only refusal whose kind is that of a sink comes from one
-pub record IsCut (job : Job) (first second : SourceRun) (output : SinkRun) : Type 0 where
+pub record IsCut (task : Task) (first second : SourceRun) (output : SinkRun) : Type 0 where
   pub status : ℕ
   pub text : List ℕ
-  pub answer : layer.HasAnswer job first second status text
+  pub answer : layer.HasAnswer task first second status text
   pub written : WritesPrefix output.before output.after text
   pub cause : (output.failures ≡ 1) ⊎ (output.stalled ≡ true)
 
@@ -457,13 +457,13 @@ no_want : (fault : Fault) → IsWant fault → fault.kind ≡ kinds.WriteFault �
 no_want fault (inl is) e = other_kind fault kinds.Full is (λ n. cc) e
 no_want fault (inr is) e = other_kind fault kinds.Memory is (λ n. cc) e
 
-pub cut_of : (job : Job) (first second : SourceRun) (output : SinkRun) (refusal : Refusal) → Origin job first second output refusal
-    → refusal.fault.kind ≡ kinds.WriteFault → IsCut job first second output
-cut_of job first second output refusal (from_files of_table told kind line) e = absurd (kind e)
-cut_of job first second output refusal (from_want want) e = absurd (no_want refusal.fault want e)
-cut_of job first second output refusal (from_length is h) e = absurd (other_kind refusal.fault kinds.InputTooLong is (λ n. cc) e)
-cut_of job first second output refusal (from_source is h) e = absurd (other_kind refusal.fault kinds.ReadFault is (λ n. cc) e)
-cut_of job first second output refusal (from_sink is status text answer written cause) e =
+pub cut_of : (task : Task) (first second : SourceRun) (output : SinkRun) (refusal : Refusal) → Origin task first second output refusal
+    → refusal.fault.kind ≡ kinds.WriteFault → IsCut task first second output
+cut_of task first second output refusal (from_files of_table told kind line) e = absurd (kind e)
+cut_of task first second output refusal (from_want want) e = absurd (no_want refusal.fault want e)
+cut_of task first second output refusal (from_length is h) e = absurd (other_kind refusal.fault kinds.InputTooLong is (λ n. cc) e)
+cut_of task first second output refusal (from_source is h) e = absurd (other_kind refusal.fault kinds.ReadFault is (λ n. cc) e)
+cut_of task first second output refusal (from_sink is status text answer written cause) e =
     record { status = status; text = text; answer = answer; written = written; cause = cause }
 
 -- a sink that works has neither failed nor stalled

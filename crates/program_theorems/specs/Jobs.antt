@@ -5,8 +5,8 @@ use Rattle.life_base.specs.declared.fault.Fault.{Fault}
 use Rattle.life_base.specs.declared.kind.Kind.TheVariants.{ReadFault, WriteFault, InputTooLong, TooManyCells}
 use Rattle.life_cli.specs.declared.plans.Form.{Form}
 use Rattle.life_cli.specs.declared.plans.Form.TheVariants.{Placed, Moved, Turned}
-use Rattle.life_cli.specs.declared.plans.Job.{Job}
-use Rattle.life_cli.specs.declared.plans.Job.TheVariants as jobs
+use Rattle.life_cli.specs.declared.plans.Task.{Task}
+use Rattle.life_cli.specs.declared.plans.Task.TheVariants as tasks
 use Rattle.life_cli.specs.declared.plans.Target.TheVariants.{Rle, Mc}
 use Rattle.claims.specs.Pattern.{Pattern}
 use Rattle.claims.specs.Files.{pattern_of, fault_of, Same, IsWant}
@@ -19,44 +19,44 @@ use Rattle.theorems.specs.Patterns.{IsRleOfFile}
 use Rattle.program_theorems.specs.Forms.{SameIn, HasTooMany, IsTextIn}
 use Rattle.program_theorems.specs.Faults.{status_of, fault_line}
 
--- the job has a second file: the one that the first is compared with, or a rule table
-abbrev pub HasSecond : Job → Type 0
-HasSecond (jobs.Same form) = Unit {0}
-HasSecond jobs.StepTable = Unit {0}
+-- the task has a second file: the one that the first is compared with, or a rule table
+abbrev pub HasSecond : Task → Type 0
+HasSecond (tasks.Same form) = Unit {0}
+HasSecond tasks.StepTable = Unit {0}
 HasSecond _ = ⊥
 
--- what a job is given: sources and sinks that have not failed, sinks that take bytes, and a second file exactly if the job has one
-pub record IsGiven {B : Type 0} (job : Job) (first : ℕ) (failures : B → ℕ) (second : Option B) (output : ℕ) (output_stalled : Bool)
+-- what a task is given: sources and sinks that have not failed, sinks that take bytes, and a second file exactly if the task has one
+pub record IsGiven {B : Type 0} (task : Task) (first : ℕ) (failures : B → ℕ) (second : Option B) (output : ℕ) (output_stalled : Bool)
     (error : ℕ) (error_stalled : Bool) : Type 0 where
   pub first_reads : first ≡ 0
   pub second_reads : IfSome second (λ b. failures b ≡ 0)
-  pub second_given : IsSome second ↔ HasSecond job
+  pub second_given : IsSome second ↔ HasSecond task
   pub writes : output ≡ 0
   pub takes : output_stalled ≡ false
   pub tells : error ≡ 0
   pub hears : error_stalled ≡ false
 
--- the job writes the canonical text of a pattern: of the file, in a form, or of its next one
-abbrev pub WritesCanonical : Job → Type 0
-WritesCanonical (jobs.Same form) = ⊥
-WritesCanonical jobs.Show = ⊥
-WritesCanonical (jobs.Convert Rle) = ⊥
+-- the task writes the canonical text of a pattern: of the file, in a form, or of its next one
+abbrev pub WritesCanonical : Task → Type 0
+WritesCanonical (tasks.Same form) = ⊥
+WritesCanonical tasks.Show = ⊥
+WritesCanonical (tasks.Convert Rle) = ⊥
 WritesCanonical _ = Unit {0}
 
--- the status and the text of a job on the bytes of its files
-abbrev pub IsOutcome : Job → (file second : List ℕ) → (status : ℕ) → (text : List ℕ) → Type 0
-IsOutcome (jobs.Canon form) file second status text = (status ≡ 0) × IsTextIn form file text
-IsOutcome (jobs.Convert Mc) file second status text = (status ≡ 0) × IsCanonicalText file text
-IsOutcome (jobs.Convert Rle) file second status text =
+-- the status and the text of a task on the bytes of its files
+abbrev pub IsOutcome : Task → (file second : List ℕ) → (status : ℕ) → (text : List ℕ) → Type 0
+IsOutcome (tasks.Canon form) file second status text = (status ≡ 0) × IsTextIn form file text
+IsOutcome (tasks.Convert Mc) file second status text = (status ≡ 0) × IsCanonicalText file text
+IsOutcome (tasks.Convert Rle) file second status text =
     (status ≡ 0) × Same file text × (begins_with text (codes "[M2]") ≡ false) × (SaysMoreCells (2 ^ 20) file → ⊥) × IsRleOfFile file text
-IsOutcome (jobs.Same form) file second status text =
+IsOutcome (tasks.Same form) file second status text =
     IsOk (pattern_of file) × IsOk (pattern_of second) × (HasTooMany form file second → ⊥)
     × (((status ≡ 0) × SameIn form file second × (text ≡ codes "same\n")) ⊎ ((status ≡ 1) × (SameIn form file second → ⊥) × (text ≡ codes "different\n")))
-IsOutcome jobs.Show file second status text =
+IsOutcome tasks.Show file second status text =
     (status ≡ 0) × ((pattern : Pattern) × (pattern_of file ≡ Ok pattern)
     × ((canonical : List ℕ) × IsCanonicalText file canonical × IsShown pattern (node_lines canonical) text))
-IsOutcome jobs.Step file second status text = (status ≡ 0) × IsStepped file text
-IsOutcome jobs.StepTable file second status text = (status ≡ 0) × ((table : Table) × (table_of second ≡ Ok table) × IsSteppedBy table file text)
+IsOutcome tasks.Step file second status text = (status ≡ 0) × IsStepped file text
+IsOutcome tasks.StepTable file second status text = (status ≡ 0) × ((table : Table) × (table_of second ≡ Ok table) × IsSteppedBy table file text)
 
 -- a file that may be read
 abbrev pub IsShort : List ℕ → Type 0
@@ -72,35 +72,35 @@ abbrev pub RefusesSame : Form → (file second : List ℕ) → Fault → Type 0
 RefusesSame form file second fault =
     IsOk (pattern_of file) × IsOk (pattern_of second) × (fault ≡ fault_of TooManyCells) × HasTooMany form file second
 
--- the fault for which a job refuses its files, and whether its line is one of a rule table
-abbrev pub Refuses : Job → (file second : List ℕ) → (of_table : Bool) → Fault → Type 0
-Refuses (jobs.Canon Moved) file second of_table fault = RefusesMany file of_table fault
-Refuses (jobs.Canon Turned) file second of_table fault = RefusesMany file of_table fault
-Refuses (jobs.Convert Rle) file second of_table fault = RefusesMany file of_table fault
-Refuses (jobs.Same form) file second of_table fault =
+-- the fault for which a task refuses its files, and whether its line is one of a rule table
+abbrev pub Refuses : Task → (file second : List ℕ) → (of_table : Bool) → Fault → Type 0
+Refuses (tasks.Canon Moved) file second of_table fault = RefusesMany file of_table fault
+Refuses (tasks.Canon Turned) file second of_table fault = RefusesMany file of_table fault
+Refuses (tasks.Convert Rle) file second of_table fault = RefusesMany file of_table fault
+Refuses (tasks.Same form) file second of_table fault =
     IsShort file × IsShort second × (of_table ≡ false)
     × ((pattern_of file ≡ Err fault) ⊎ ((IsOk (pattern_of file) × (pattern_of second ≡ Err fault)) ⊎ RefusesSame form file second fault))
-Refuses jobs.Step file second of_table fault = IsShort file × (of_table ≡ false) × ((pattern_of file ≡ Err fault) ⊎ IsUnstepped file fault)
-Refuses jobs.StepTable file second of_table fault =
+Refuses tasks.Step file second of_table fault = IsShort file × (of_table ≡ false) × ((pattern_of file ≡ Err fault) ⊎ IsUnstepped file fault)
+Refuses tasks.StepTable file second of_table fault =
     IsShort second × (((of_table ≡ true) × (table_of second ≡ Err fault)) ⊎ (IsShort file × ((table : Table) × (table_of second ≡ Ok table)
     × (((of_table ≡ false) × (pattern_of file ≡ Err fault)) ⊎ ((of_table ≡ true) × IsUnsteppedBy table file fault)))))
 Refuses _ file second of_table fault = IsShort file × (of_table ≡ false) × (pattern_of file ≡ Err fault)
 
 -- Why a run has no answer: what its files say; room or memory was wanted; a file is too long; a file could not be read; or the text could not be
 -- written.
-pub data IsReason (job : Job) (file second : List ℕ) (is_unread is_unwritten : Type 0) : Bool → Fault → Type 0 where
-  of_files : (of_table : Bool) (fault : Fault) → Refuses job file second of_table fault → IsReason job file second is_unread is_unwritten of_table fault
-  of_want : (fault : Fault) → IsWant fault → IsReason job file second is_unread is_unwritten false fault
-  of_length : (2 ^ 30 < length file) ⊎ (HasSecond job × (2 ^ 30 < length second))
-      → IsReason job file second is_unread is_unwritten false (fault_of InputTooLong)
-  of_source : is_unread → IsReason job file second is_unread is_unwritten false (fault_of ReadFault)
-  of_sink : is_unwritten → IsReason job file second is_unread is_unwritten false (fault_of WriteFault)
+pub data IsReason (task : Task) (file second : List ℕ) (is_unread is_unwritten : Type 0) : Bool → Fault → Type 0 where
+  of_files : (of_table : Bool) (fault : Fault) → Refuses task file second of_table fault → IsReason task file second is_unread is_unwritten of_table fault
+  of_want : (fault : Fault) → IsWant fault → IsReason task file second is_unread is_unwritten false fault
+  of_length : (2 ^ 30 < length file) ⊎ (HasSecond task × (2 ^ 30 < length second))
+      → IsReason task file second is_unread is_unwritten false (fault_of InputTooLong)
+  of_source : is_unread → IsReason task file second is_unread is_unwritten false (fault_of ReadFault)
+  of_sink : is_unwritten → IsReason task file second is_unread is_unwritten false (fault_of WriteFault)
 
 -- the run ends with this status and tells this line, for a reason; and where a device failed, that is the reason
-pub record IsRefused (job : Job) (file second : List ℕ) (is_unread is_unwritten : Type 0) (status : ℕ) (line : List ℕ) : Type 0 where
+pub record IsRefused (task : Task) (file second : List ℕ) (is_unread is_unwritten : Type 0) (status : ℕ) (line : List ℕ) : Type 0 where
   pub of_table : Bool
   pub fault : Fault
-  pub reason : IsReason job file second is_unread is_unwritten of_table fault
+  pub reason : IsReason task file second is_unread is_unwritten of_table fault
   pub unread : is_unread → fault.kind ≡ ReadFault
   pub unwritten : is_unwritten → fault.kind ≡ WriteFault
   pub status_is : status ≡ status_of fault.kind

@@ -1,4 +1,4 @@
-//! The work of a job.
+//! The work of a task.
 
 ghost use Rattle.std.specs.Prelude.{◌≡◌, ◌⊎◌, ◌<◌, ◌++◌, ℕ, List, [], take, true, false, Some, IfSome, IsSomeAnd};
 ghost use Rattle.program_theorems.specs.Words.{HasSecond, IsGiven, IsOutcome, IsShort, IsRefused, Holds};
@@ -6,34 +6,34 @@ ghost use Rattle.program_theorems.specs.Words.{HasSecond, IsGiven, IsOutcome, Is
 use crate::laws::layers_agree;
 use crate::runs::Run;
 use life_base::{Sink, Source};
-use life_cli::work;
+use life_cli::work_seeded;
 use std::alloc::Global;
 
-/// A job writes the text that the bytes of its files ask for to `out`, behind what that held, and ends with its status: 0 or 1.
+/// A task writes the text that the bytes of its files ask for to `out`, behind what that held, and ends with its status: 0 or 1.
 /// Or it tells on `err` why not, by the line of a fault, ends with the fault's status, and `out` is as it was, if it works.
 /// A sink that fails, or takes no bytes, has a front of the text or of the line.
 pub fn does_its_job<A: Source, B: Source, O: Sink, E: Sink>(
     alloc: Global,
     run: &mut Run<A, B, O, E>,
 ) -> u8
-    requires { IsGiven run.old.job (A.failures run.old.first) B.failures run.old.second
+    requires { IsGiven run.old.task (A.failures run.old.first) B.failures run.old.second
         (O.failures run.old.out) (O.stalled run.old.out)
         (E.failures run.old.err) (E.stalled run.old.err) }
     ensures done { (file other : List ℕ) → A.remaining run.old.first ≡ Some file
         → IfSome run.old.second (λ b. B.remaining b ≡ Some other) → result < 2
-        → (text : List ℕ) × IsOutcome run.old.job file other result text
+        → (text : List ℕ) × IsOutcome run.old.task file other result text
         × ((held : List ℕ) → O.contents run.old.out ≡ Some held
         → O.contents run.new.out ≡ Some (held ++ text)) }
     ensures flushed { result < 2 → O.flushed run.new.out ≡ true }
     ensures quiet { result < 2 → run.new.err ≡ run.old.err }
     ensures whole { (file : List ℕ) → A.remaining run.old.first ≡ Some file → result < 2
         → (A.remaining run.new.first ≡ Some []) × IsShort file }
-    ensures second_whole { (other : List ℕ) → HasSecond run.old.job
+    ensures second_whole { (other : List ℕ) → HasSecond run.old.task
         → IfSome run.old.second (λ b. B.remaining b ≡ Some other) → result < 2
         → IsSomeAnd run.new.second (λ b. B.remaining b ≡ Some []) × IsShort other }
     ensures refused { (file other : List ℕ) → A.remaining run.old.first ≡ Some file
         → IfSome run.old.second (λ b. B.remaining b ≡ Some other) → 1 < result
-        → (line : List ℕ) × IsRefused run.old.job file other
+        → (line : List ℕ) × IsRefused run.old.task file other
         ((A.failures run.new.first ≡ 1) ⊎ IsSomeAnd run.new.second (λ b. B.failures b ≡ 1))
         ((O.failures run.new.out ≡ 1) ⊎ (O.stalled run.new.out ≡ true)) result line
         × ((heard : List ℕ) → E.contents run.old.err ≡ Some heard
@@ -45,7 +45,7 @@ pub fn does_its_job<A: Source, B: Source, O: Sink, E: Sink>(
         → IfSome run.old.second (λ b. B.remaining b ≡ Some other)
         → (O.failures run.new.out ≡ 1) ⊎ (O.stalled run.new.out ≡ true)
         → (result ≡ 3) × ((status : ℕ) × (text : List ℕ)
-        × IsOutcome run.old.job file other status text
+        × IsOutcome run.old.task file other status text
         × ((held : List ℕ) → O.contents run.old.out ≡ Some held
         → (n : ℕ) × (O.contents run.new.out ≡ Some (held ++ take n text)))) }
     ensures unread { (A.failures run.new.first ≡ 1)
@@ -54,5 +54,5 @@ pub fn does_its_job<A: Source, B: Source, O: Sink, E: Sink>(
     layers_agree();
     let (first, second) = (&mut run.first, &mut run.second);
     let (out, err) = (&mut run.out, &mut run.err);
-    work(alloc, &run.seeds, &run.job, first, second, out, err)
+    work_seeded(alloc, &run.seeds, &run.task, first, second, out, err)
 }

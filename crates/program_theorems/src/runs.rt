@@ -1,12 +1,12 @@
 //! A run of the program.
 
 use life_cli::Seeds;
-use life_cli::plans::Job;
+use life_cli::plans::Task;
 
-/// A run of a job: its files, and the outputs that it writes to and tells on.
+/// A run of a task: its files, and the outputs that it writes to and tells on.
 pub struct Run<A, B, O, E> {
     pub seeds: Seeds,
-    pub job: Job,
+    pub task: Task,
     pub first: A,
     pub second: Option<B>,
     pub out: O,

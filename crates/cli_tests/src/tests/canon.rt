@@ -1,9 +1,9 @@
-//! The job `canon` over devices that fail.
+//! The task `canon` over devices that fail.
 
 use super::devices::{READ_FAULT, WIDE, assert_one, assert_refused, assert_texts, source_of};
 use super::{GLIDER, GLIDER_TEXT, TWINS, TWINS_IN_RLE, TWINS_TEXT, WIRES, WIRES_TEXT};
 use life_base::{Device, Source};
-use life_cli::plans::{Form, Job};
+use life_cli::plans::{Form, Task};
 
 #[test]
 fn writes_the_canonical_text(rt: HostRuntime) {
@@ -15,7 +15,7 @@ fn writes_the_canonical_text(rt: HostRuntime) {
         (b"[M2]\n#G 7", b"[M2] (canonical 1)\n#R B3/S23\n#G 7\n"),
         (b"[M2]\r\n#G 0\r\n", b"[M2] (canonical 1)\n#R B3/S23\n"),
     ];
-    assert_texts(&rt, rt.alloc(), &Job::Canon(Form::Placed), &rows);
+    assert_texts(&rt, rt.alloc(), &Task::Canon(Form::Placed), &rows);
 }
 
 #[test]
@@ -30,7 +30,7 @@ fn tells_what_is_wrong(rt: HostRuntime) {
         ),
         (b"[M2]\n#FRAMES 10 0 1\n#R B3/S23\n", b"line 2: Timeline\n"),
     ];
-    assert_refused(&rt, rt.alloc(), &Job::Canon(Form::Placed), &rows);
+    assert_refused(&rt, rt.alloc(), &Task::Canon(Form::Placed), &rows);
 }
 
 /// A failed read comes before what is wrong with the bytes that were read.
@@ -38,8 +38,8 @@ fn tells_what_is_wrong(rt: HostRuntime) {
 fn failing_source(rt: HostRuntime) {
     for input in [GLIDER, b"o!\n".as_slice()] {
         let mut reader = source_of(input, 3);
-        let job = Job::Canon(Form::Placed);
-        assert_one(&rt, rt.alloc(), &job, &mut reader, WIDE, READ_FAULT);
+        let task = Task::Canon(Form::Placed);
+        assert_one(&rt, rt.alloc(), &task, &mut reader, WIDE, READ_FAULT);
         assert!(rt; reader.failed());
     }
 }
@@ -55,7 +55,7 @@ fn failing_sink(rt: HostRuntime) {
         assert_one(
             &rt,
             rt.alloc(),
-            &Job::Canon(Form::Placed),
+            &Task::Canon(Form::Placed),
             &mut reader,
             (room, piece),
             wanted,

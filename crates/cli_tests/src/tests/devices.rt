@@ -1,4 +1,4 @@
-//! Readers, writers and devices that fail, and what a job leaves in them.
+//! Readers, writers and devices that fail, and what a task leaves in them.
 
 ghost use Rattle.std.specs.Prelude.{◌≡◌, ◌≤◌, ◌↔◌, Some, IsSome, IfSome, true, false};
 ghost use Rattle.std.proofs.Common.{rules};
@@ -6,10 +6,10 @@ ghost use Rattle.life_base.specs.DeviceState.{has_failed};
 ghost use Rattle.life_base.specs.Devices.{count_of};
 ghost use Rattle.life_cli.specs.Plans.{HasSecond};
 
-use super::JOBS;
+use super::TASKS;
 use life_base::{Device, Kind, Sink, Source};
-use life_cli::plans::{Form, Job};
-use life_cli::{Seeds, work};
+use life_cli::plans::{Form, Task};
+use life_cli::{Seeds, work_seeded};
 use std::alloc::Global;
 use std::io::{self, Read, Write};
 use std::process::Abort;
@@ -135,7 +135,7 @@ impl Sink for Limited {
 /// Room for every text that a test writes, in pieces of seven bytes.
 pub(super) const WIDE: (usize, usize) = (9999, 7);
 
-/// What a job leaves whose source fails: it is told so, and writes nothing.
+/// What a task leaves whose source fails: it is told so, and writes nothing.
 pub(super) const READ_FAULT: (u8, &[u8], &[u8]) = (3, b"", b"ReadFault\n");
 
 /// A sink with room for `room` bytes that takes `piece` bytes at a time.
@@ -153,7 +153,7 @@ pub(super) fn sink_with(alloc: Global, room: usize, piece: usize) -> Limited
     }
 }
 
-/// A job left this. Its status tells a failed output.
+/// A task left this. Its status tells a failed output.
 pub(super) fn assert_left(
     rt: &impl Abort,
     (status, out, err): (u8, Limited, Limited),
@@ -165,10 +165,10 @@ pub(super) fn assert_left(
     assert!(rt; !out.failed || status == 3);
 }
 
-/// The status of a job, and what standard error took, which has room for `heard.0` bytes and takes `heard.1` at a time.
+/// The status of a task, and what standard error took, which has room for `heard.0` bytes and takes `heard.1` at a time.
 pub(super) fn told<A: Source, B: Source, O: Sink>(
     alloc: Global,
-    job: &Job,
+    task: &Task,
     first: &mut A,
     second: &mut Option<B>,
     out: &mut O,
@@ -176,22 +176,22 @@ pub(super) fn told<A: Source, B: Source, O: Sink>(
 ) -> (u8, Limited)
     requires first_reads { A.failures first.old ≡ 0 }
     requires second_reads { IfSome second.old (λ b. B.failures b ≡ 0) }
-    requires second_given { IsSome second.old ↔ HasSecond job.now }
+    requires second_given { IsSome second.old ↔ HasSecond task.now }
     requires writes { O.failures out.old ≡ 0 }
     requires takes { O.stalled out.old ≡ false }
 {
     let seeds = Seeds::fixed();
     let mut err = sink_with(alloc, heard.0, heard.1);
-    let status = work(alloc, &seeds, job, first, second, out, &mut err);
+    let status = work_seeded(alloc, &seeds, task, first, second, out, &mut err);
     (status, err)
 }
 
-/// A job, where standard output has room for `sink.0` bytes and takes `sink.1` at a time, leaves this: its status, what standard output took, and
+/// A task, where standard output has room for `sink.0` bytes and takes `sink.1` at a time, leaves this: its status, what standard output took, and
 /// what standard error took.
-pub(super) fn assert_job<A: Source, B: Source + Drop>(
+pub(super) fn assert_task<A: Source, B: Source + Drop>(
     rt: &impl Abort,
     alloc: Global,
-    job: &Job,
+    task: &Task,
     first: &mut A,
     second: Option<B>,
     sink: (usize, usize),
@@ -199,55 +199,55 @@ pub(super) fn assert_job<A: Source, B: Source + Drop>(
 )
     requires first_reads { A.failures first.old ≡ 0 }
     requires second_reads { IfSome second (λ b. B.failures b ≡ 0) }
-    requires second_given { IsSome second ↔ HasSecond job.now }
+    requires second_given { IsSome second ↔ HasSecond task.now }
 {
     let mut second = second;
     let mut out = sink_with(alloc, sink.0, sink.1);
-    let (status, err) = told(alloc, job, first, &mut second, &mut out, (99, 3));
+    let (status, err) = told(alloc, task, first, &mut second, &mut out, (99, 3));
     assert_left(rt, (status, out, err), wanted);
 }
 
 /// Each of the jobs writes its text, where sources give `piece` bytes at a time.
-pub(super) fn assert_jobs(rt: &impl Abort, alloc: Global, piece: usize, sink: (usize, usize)) {
-    for (job, first, second, status, text) in JOBS {
+pub(super) fn assert_tasks(rt: &impl Abort, alloc: Global, piece: usize, sink: (usize, usize)) {
+    for (task, first, second, status, text) in TASKS {
         let mut first = source_in_pieces(first, piece, 999);
         let second = second.map(|bytes| source_in_pieces(bytes, piece, 999));
         let wanted = (status, text, b"".as_slice());
-        assert_job(rt, alloc, &job, &mut first, second, sink, wanted);
+        assert_task(rt, alloc, &task, &mut first, second, sink, wanted);
     }
 }
 
-/// A job of one file leaves this.
+/// A task of one file leaves this.
 pub(super) fn assert_one<A: Source>(
     rt: &impl Abort,
     alloc: Global,
-    job: &Job,
+    task: &Task,
     first: &mut A,
     sink: (usize, usize),
     wanted: (u8, &[u8], &[u8]),
 )
-    requires alone { ¬ HasSecond job.now }
+    requires alone { ¬ HasSecond task.now }
     requires reads { A.failures first.old ≡ 0 }
 {
     let second = None::<Device<&[u8]>>;
-    assert_job(rt, alloc, job, first, second, sink, wanted);
+    assert_task(rt, alloc, task, first, second, sink, wanted);
 }
 
-/// A job of two files leaves this.
+/// A task of two files leaves this.
 pub(super) fn assert_two<A: Source, B: Source + Drop>(
     rt: &impl Abort,
     alloc: Global,
-    job: &Job,
+    task: &Task,
     first: &mut A,
     second: B,
     sink: (usize, usize),
     wanted: (u8, &[u8], &[u8]),
 )
-    requires two { HasSecond job.now }
+    requires two { HasSecond task.now }
     requires first_reads { A.failures first.old ≡ 0 }
     requires second_reads { B.failures second ≡ 0 }
 {
-    assert_job(rt, alloc, job, first, Some(second), sink, wanted);
+    assert_task(rt, alloc, task, first, Some(second), sink, wanted);
 }
 
 /// Two files that are compared as they lie leave this.
@@ -262,42 +262,42 @@ pub(super) fn assert_compared<A: Source, B: Source + Drop>(
     requires first_reads { A.failures first.old ≡ 0 }
     requires second_reads { B.failures second ≡ 0 }
 {
-    let job = Job::Same(Form::Placed);
-    assert_two(rt, alloc, &job, first, second, sink, wanted);
+    let task = Task::Same(Form::Placed);
+    assert_two(rt, alloc, &task, first, second, sink, wanted);
 }
 
-/// A job of two files that are given whole leaves this.
+/// A task of two files that are given whole leaves this.
 pub(super) fn assert_files(
     rt: &impl Abort,
     alloc: Global,
-    job: &Job,
+    task: &Task,
     files: (&[u8], &[u8]),
     wanted: (u8, &[u8], &[u8]),
 )
-    requires { HasSecond job.now }
+    requires { HasSecond task.now }
 {
     let (a, b) = files;
     let mut first = Device::new(a);
-    assert_two(rt, alloc, job, &mut first, Device::new(b), WIDE, wanted);
+    assert_two(rt, alloc, task, &mut first, Device::new(b), WIDE, wanted);
 }
 
-/// A job of one file writes these texts, each for its input.
-pub(super) fn assert_texts(rt: &impl Abort, alloc: Global, job: &Job, rows: &[(&[u8], &[u8])])
-    requires { ¬ HasSecond job.now }
+/// A task of one file writes these texts, each for its input.
+pub(super) fn assert_texts(rt: &impl Abort, alloc: Global, task: &Task, rows: &[(&[u8], &[u8])])
+    requires { ¬ HasSecond task.now }
 {
     for (input, text) in rows {
         let mut first = Device::new(*input);
-        assert_one(rt, alloc, job, &mut first, WIDE, (0, text, b""));
+        assert_one(rt, alloc, task, &mut first, WIDE, (0, text, b""));
         assert!(rt; !first.failed());
     }
 }
 
-/// A job of one file tells these faults, each of its input.
-pub(super) fn assert_refused(rt: &impl Abort, alloc: Global, job: &Job, rows: &[(&[u8], &[u8])])
-    requires { ¬ HasSecond job.now }
+/// A task of one file tells these faults, each of its input.
+pub(super) fn assert_refused(rt: &impl Abort, alloc: Global, task: &Task, rows: &[(&[u8], &[u8])])
+    requires { ¬ HasSecond task.now }
 {
     for (input, line) in rows {
         let mut first = Device::new(*input);
-        assert_one(rt, alloc, job, &mut first, WIDE, (2, b"", line));
+        assert_one(rt, alloc, task, &mut first, WIDE, (2, b"", line));
     }
 }

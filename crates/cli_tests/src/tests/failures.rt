@@ -3,42 +3,48 @@
 ghost use Rattle.std.specs.Prelude.{◌≡◌, ◌↔◌, IsSome, IfSome};
 ghost use Rattle.life_cli.specs.Plans.{HasSecond};
 
-use super::JOBS;
+use super::TASKS;
 use super::devices::{
-    End, Limited, Narrow, READ_FAULT, WIDE, assert_job, assert_left, sink_with, source_of, told,
+    End, Limited, Narrow, READ_FAULT, WIDE, assert_left, assert_task, sink_with, source_of, told,
 };
 use life_base::{Device, Source};
-use life_cli::plans::{Form, Job};
+use life_cli::plans::{Form, Task};
 use std::alloc::Global;
 use std::io;
 use std::process::Abort;
 
-/// A job whose first file fails at any of its reads is told so.
-fn assert_reads_fail(rt: &impl Abort, alloc: Global, job: &Job, first: &[u8], second: Option<&[u8]>)
-    requires { IsSome second ↔ HasSecond job.now }
+/// A task whose first file fails at any of its reads is told so.
+fn assert_reads_fail(
+    rt: &impl Abort,
+    alloc: Global,
+    task: &Task,
+    first: &[u8],
+    second: Option<&[u8]>,
+)
+    requires { IsSome second ↔ HasSecond task.now }
 {
     for good in 0..=first.len() {
         let mut first = source_of(first, good);
         let second = second.map(|bytes| Device::new(bytes));
-        assert_job(rt, alloc, job, &mut first, second, WIDE, READ_FAULT);
+        assert_task(rt, alloc, task, &mut first, second, WIDE, READ_FAULT);
     }
 }
 
 #[test]
 fn each_read_fails(rt: HostRuntime) {
-    for (job, first, second, _, _) in JOBS {
-        assert_reads_fail(&rt, rt.alloc(), &job, first, second);
+    for (task, first, second, _, _) in TASKS {
+        assert_reads_fail(&rt, rt.alloc(), &task, first, second);
     }
 }
 
 #[test]
 fn each_read_of_the_second_file_fails(rt: HostRuntime) {
-    for (job, first, second, _, _) in JOBS {
+    for (task, first, second, _, _) in TASKS {
         let Some(bytes) = second else { continue };
         for good in 0..=bytes.len() {
             let second = Some(source_of(bytes, good));
             let mut first = Device::new(first);
-            assert_job(&rt, rt.alloc(), &job, &mut first, second, WIDE, READ_FAULT);
+            assert_task(&rt, rt.alloc(), &task, &mut first, second, WIDE, READ_FAULT);
         }
     }
 }
@@ -48,18 +54,18 @@ fn is_write_fault(err: &Limited) -> bool {
     err.taken.as_slice() == b"WriteFault\n".as_slice()
 }
 
-/// A job whose output takes the text only up to some byte is told so, and has written what was taken.
+/// A task whose output takes the text only up to some byte is told so, and has written what was taken.
 fn assert_front<B: Source>(
     rt: &impl Abort,
     alloc: Global,
-    job: &Job,
+    task: &Task,
     first: &[u8],
     second: &mut Option<B>,
     text: &[u8],
     end: (usize, usize, End),
 )
     requires second_reads { IfSome second.old (λ b. B.failures b ≡ 0) }
-    requires second_given { IsSome second.old ↔ HasSecond job.now }
+    requires second_given { IsSome second.old ↔ HasSecond task.now }
 {
     let (room, piece, end) = end;
     let mut taken = Vec::new(alloc);
@@ -71,7 +77,7 @@ fn assert_front<B: Source>(
         end,
     };
     let mut out = Device::new(writer);
-    let (status, err) = told(alloc, job, &mut first, second, &mut out, (99, 3));
+    let (status, err) = told(alloc, task, &mut first, second, &mut out, (99, 3));
     drop(out);
     assert!(rt; status == 3 && is_write_fault(&err), "{room}");
     assert!(rt; text.starts_with(&taken) && taken.len() == room, "{room}");
@@ -90,13 +96,13 @@ const ENDS: [(usize, End); 4] = [
 
 #[test]
 fn each_write_fails(rt: HostRuntime) {
-    for (job, first, second, _, text) in JOBS {
+    for (task, first, second, _, text) in TASKS {
         for most in ROOMS {
             let room = text.len().saturating_sub(1).min(most);
             for (piece, end) in ENDS {
                 let mut second = second.map(|bytes| Device::new(bytes));
                 let end = (room, piece, end);
-                assert_front(&rt, rt.alloc(), &job, first, &mut second, text, end);
+                assert_front(&rt, rt.alloc(), &task, first, &mut second, text, end);
             }
         }
     }
@@ -105,10 +111,10 @@ fn each_write_fails(rt: HostRuntime) {
 /// A text that is written whole and can't be flushed is told so.
 #[test]
 fn each_flush_fails(rt: HostRuntime) {
-    for (job, first, second, _, text) in JOBS {
+    for (task, first, second, _, text) in TASKS {
         let mut second = second.map(|bytes| Device::new(bytes));
         let end = (text.len(), 999, End::Unflushed(io::ErrorKind::Other));
-        assert_front(&rt, rt.alloc(), &job, first, &mut second, text, end);
+        assert_front(&rt, rt.alloc(), &task, first, &mut second, text, end);
     }
 }
 
@@ -117,9 +123,9 @@ fn assert_error_front(rt: &impl Abort, alloc: Global, room: usize, piece: usize,
     let mut first = Device::new(b"o!\n".as_slice());
     let mut second = None::<Device<&[u8]>>;
     let mut out = sink_with(alloc, 999, 7);
-    let job = Job::Canon(Form::Placed);
+    let task = Task::Canon(Form::Placed);
     let heard = (room, piece);
-    let (status, err) = told(alloc, &job, &mut first, &mut second, &mut out, heard);
+    let (status, err) = told(alloc, &task, &mut first, &mut second, &mut out, heard);
     assert_left(rt, (status, out, err), (2, b"", wanted));
 }
 

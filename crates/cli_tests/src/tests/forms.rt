@@ -3,7 +3,7 @@
 use super::devices::{READ_FAULT, WIDE, assert_files, assert_one, assert_texts, source_of};
 use super::{DIFFERENT, EAST_GLIDER, GLIDER, SAME, TWINS, TWINS_IN_RLE};
 use life_base::Device;
-use life_cli::plans::{Form, Job};
+use life_cli::plans::{Form, Task};
 use std::alloc::Global;
 use std::process::Abort;
 
@@ -41,13 +41,13 @@ fn assert_form<'a>(rt: &impl Abort, alloc: Global, form: Form, glider: &'a [u8],
         (BLANK_WIRES, BLANK_WIRES_TEXT),
         (STATES, states),
     ];
-    assert_texts(rt, alloc, &Job::Canon(form), &rows);
+    assert_texts(rt, alloc, &Task::Canon(form), &rows);
 }
 
 #[test]
 fn moved_texts(rt: HostRuntime) {
     let rows = [(EAST_GLIDER, MOVED_GLIDER), (GLIDER, MOVED_GLIDER)];
-    assert_texts(&rt, rt.alloc(), &Job::Canon(Form::Moved), &rows);
+    assert_texts(&rt, rt.alloc(), &Task::Canon(Form::Moved), &rows);
     assert_form(&rt, rt.alloc(), Form::Moved, MOVED_GLIDER, MOVED_STATES);
 }
 
@@ -66,10 +66,10 @@ fn turned_texts(rt: HostRuntime) {
     ];
     for image in images {
         let rows = [(image, TURNED_GLIDER)];
-        assert_texts(&rt, rt.alloc(), &Job::Canon(Form::Turned), &rows);
+        assert_texts(&rt, rt.alloc(), &Task::Canon(Form::Turned), &rows);
         let wanted = (0, SAME, b"".as_slice());
         let files = (image, SOUTH_EAST);
-        assert_files(&rt, rt.alloc(), &Job::Same(Form::Turned), files, wanted);
+        assert_files(&rt, rt.alloc(), &Task::Same(Form::Turned), files, wanted);
     }
     assert_form(&rt, rt.alloc(), Form::Turned, TURNED_GLIDER, TURNED_STATES);
 }
@@ -91,7 +91,7 @@ fn same_in_a_form(rt: HostRuntime) {
     for (form, a, b, status) in rows {
         let line = if status == 0 { SAME } else { DIFFERENT };
         let wanted = (status, line, b"".as_slice());
-        assert_files(&rt, rt.alloc(), &Job::Same(form), (a, b), wanted);
+        assert_files(&rt, rt.alloc(), &Task::Same(form), (a, b), wanted);
     }
 }
 
@@ -103,8 +103,8 @@ fn refused_in_a_form(rt: HostRuntime) {
     let line = b"TooManyCells\n".as_slice();
     for form in [Form::Moved, Form::Turned] {
         let mut first = Device::new(many);
-        let job = Job::Canon(form);
-        assert_one(&rt, rt.alloc(), &job, &mut first, WIDE, (2, b"", line));
+        let task = Task::Canon(form);
+        assert_one(&rt, rt.alloc(), &task, &mut first, WIDE, (2, b"", line));
         let rows: [(&[u8], &[u8], &[u8]); 4] = [
             (many, TWINS, line),
             (TWINS, many, line),
@@ -112,14 +112,14 @@ fn refused_in_a_form(rt: HostRuntime) {
             (b"x = 1, y = 1\n0o!\n", many, b"line 2: ZeroCount\n"),
         ];
         for (a, b, line) in rows {
-            assert_files(&rt, rt.alloc(), &Job::Same(form), (a, b), (2, b"", line));
+            assert_files(&rt, rt.alloc(), &Task::Same(form), (a, b), (2, b"", line));
         }
     }
     let wanted = (0, SAME, b"".as_slice());
     assert_files(
         &rt,
         rt.alloc(),
-        &Job::Same(Form::Moved),
+        &Task::Same(Form::Moved),
         (most, most),
         wanted,
     );
@@ -130,11 +130,11 @@ fn refused_in_a_form(rt: HostRuntime) {
 fn failing_devices(rt: HostRuntime) {
     let alloc = rt.alloc();
     for form in [Form::Moved, Form::Turned] {
-        let job = Job::Canon(form);
+        let task = Task::Canon(form);
         let mut first = source_of(TWINS_IN_RLE, 3);
-        assert_one(&rt, alloc, &job, &mut first, WIDE, READ_FAULT);
+        assert_one(&rt, alloc, &task, &mut first, WIDE, READ_FAULT);
         let mut first = Device::new(GLIDER);
         let taken = (3, b"[M2] ".as_slice(), b"WriteFault\n".as_slice());
-        assert_one(&rt, alloc, &job, &mut first, (5, 2), taken);
+        assert_one(&rt, alloc, &task, &mut first, (5, 2), taken);
     }
 }

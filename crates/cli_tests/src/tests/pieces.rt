@@ -2,20 +2,20 @@
 
 use super::TWINS;
 use super::devices::{
-    READ_FAULT, WIDE, assert_compared, assert_jobs, assert_one, assert_two, source_of,
+    READ_FAULT, WIDE, assert_compared, assert_one, assert_tasks, assert_two, source_of,
 };
 use super::steps::SPREAD;
 use life_base::Device;
-use life_cli::plans::{Form, Job, Target};
+use life_cli::plans::{Form, Target, Task};
 
 #[test]
 fn byte_after_byte(rt: HostRuntime) {
-    assert_jobs(&rt, rt.alloc(), 1, WIDE);
+    assert_tasks(&rt, rt.alloc(), 1, WIDE);
 }
 
 #[test]
 fn taken_byte_after_byte(rt: HostRuntime) {
-    assert_jobs(&rt, rt.alloc(), 9999, (9999, 1));
+    assert_tasks(&rt, rt.alloc(), 9999, (9999, 1));
 }
 
 /// A failure behind the last byte is told, also in place of a fault of the file.
@@ -24,13 +24,13 @@ fn failing_behind_the_last_byte(rt: HostRuntime) {
     let alloc = rt.alloc();
     for input in [TWINS, b"o!\n".as_slice()] {
         let good = input.len();
-        for job in [Job::Show, Job::Convert(Target::Rle), Job::Step] {
+        for task in [Task::Show, Task::Convert(Target::Rle), Task::Step] {
             let mut first = source_of(input, good);
-            assert_one(&rt, alloc, &job, &mut first, WIDE, READ_FAULT);
+            assert_one(&rt, alloc, &task, &mut first, WIDE, READ_FAULT);
         }
-        for (job, whole) in [(Job::Same(Form::Placed), TWINS), (Job::StepTable, SPREAD)] {
+        for (task, whole) in [(Task::Same(Form::Placed), TWINS), (Task::StepTable, SPREAD)] {
             let (mut first, second) = (source_of(input, good), Device::new(whole));
-            assert_two(&rt, alloc, &job, &mut first, second, WIDE, READ_FAULT);
+            assert_two(&rt, alloc, &task, &mut first, second, WIDE, READ_FAULT);
         }
         let (mut first, second) = (Device::new(TWINS), source_of(input, good));
         assert_compared(&rt, alloc, &mut first, second, WIDE, READ_FAULT);

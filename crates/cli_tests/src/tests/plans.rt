@@ -1,13 +1,21 @@
 //! What the words of a command line ask for.
 
 use clap::error::ErrorKind;
-use life_cli::plan;
-use life_cli::plans::{Form, Job, Target, Usage};
+use life_cli::plans::{Form, Request, Task};
+use life_cli::{Job, Target, Usage, plan, request};
 use std::alloc::Global;
 use std::process::Abort;
 use std::test::Fail;
 
 const NAME: &str = "golly_canon";
+
+/// The text of a name, if there is one.
+fn text_of(name: &Option<String>) -> Option<&str> {
+    match name {
+        Some(name) => Some(name.as_str()),
+        None => None,
+    }
+}
 
 /// The words ask for this job of these files.
 fn assert_plan(
@@ -21,29 +29,31 @@ fn assert_plan(
     let Ok(found) = plan(alloc, words) else {
         panic!(rt; "refused");
     };
-    let found_second = match &found.second {
-        Some(name) => Some(name.as_str()),
-        None => None,
-    };
+    let found_second = text_of(&found.second);
     assert!(rt; found.job == job && found.first.as_str() == first && found_second == second);
+}
+
+/// The words ask for this task of these files.
+fn assert_request(
+    rt: &impl Abort,
+    alloc: Global,
+    words: &[&str],
+    task: Task,
+    first: &str,
+    second: Option<&str>,
+) {
+    let Ok(Request::Work(found)) = request(alloc, words) else {
+        panic!(rt; "no task");
+    };
+    let found_second = text_of(&found.second);
+    assert!(rt; found.task == task && found.first.as_str() == first && found_second == second);
 }
 
 #[test]
 fn plans_of_one_file(rt: HostRuntime) {
-    let rows: [(&[&str], Job); 10] = [
-        (&[NAME, "canon", "-"], Job::Canon(Form::Placed)),
-        (
-            &[NAME, "canon", "-", "--form", "placed"],
-            Job::Canon(Form::Placed),
-        ),
-        (
-            &[NAME, "canon", "--form=moved", "-"],
-            Job::Canon(Form::Moved),
-        ),
-        (
-            &[NAME, "canon", "--form", "turned", "--", "-"],
-            Job::Canon(Form::Turned),
-        ),
+    let rows: [(&[&str], Job); 8] = [
+        (&[NAME, "canon", "-"], Job::Canon),
+        (&[NAME, "canon", "-", "--form", "placed"], Job::Canon),
         (&[NAME, "show", "-"], Job::Show),
         (
             &[NAME, "convert", "-", "--to", "rle"],
@@ -59,6 +69,7 @@ fn plans_of_one_file(rt: HostRuntime) {
     ];
     for (words, job) in rows {
         assert_plan(&rt, rt.alloc(), words, job, "-", None);
+        assert_request(&rt, rt.alloc(), words, Task::from(job), "-", None);
     }
 }
 
@@ -66,11 +77,9 @@ fn plans_of_one_file(rt: HostRuntime) {
 fn plans_of_two_files(rt: HostRuntime) {
     for (a, b) in [("a.mc", "-"), ("-", "b.rle"), ("same", "same")] {
         let words = [NAME, "same", a, b];
-        assert_plan(&rt, rt.alloc(), &words, Job::Same(Form::Placed), a, Some(b));
-        let words = [NAME, "same", "--form", "moved", a, b];
-        assert_plan(&rt, rt.alloc(), &words, Job::Same(Form::Moved), a, Some(b));
-        let words = [NAME, "same", a, b, "--form=turned"];
-        assert_plan(&rt, rt.alloc(), &words, Job::Same(Form::Turned), a, Some(b));
+        assert_plan(&rt, rt.alloc(), &words, Job::Same, a, Some(b));
+        let task = Task::Same(Form::Placed);
+        assert_request(&rt, rt.alloc(), &words, task, a, Some(b));
     }
 }
 
@@ -87,14 +96,55 @@ fn plans_with_a_table(rt: HostRuntime) {
     }
 }
 
+/// Words that ask for another form than that of a pattern as it lies have a request and no plan.
+#[test]
+fn requests_in_forms(rt: HostRuntime) {
+    let rows: [(&[&str], Task, Option<&str>); 4] = [
+        (
+            &[NAME, "canon", "--form=moved", "-"],
+            Task::Canon(Form::Moved),
+            None,
+        ),
+        (
+            &[NAME, "canon", "--form", "turned", "--", "-"],
+            Task::Canon(Form::Turned),
+            None,
+        ),
+        (
+            &[NAME, "same", "--form", "moved", "-", "b"],
+            Task::Same(Form::Moved),
+            Some("b"),
+        ),
+        (
+            &[NAME, "same", "-", "b", "--form=turned"],
+            Task::Same(Form::Turned),
+            Some("b"),
+        ),
+    ];
+    for (words, task, second) in rows {
+        assert_request(&rt, rt.alloc(), words, task, "-", second);
+        assert!(rt; refusal_of(rt.alloc(), words) == Some(ErrorKind::InvalidValue));
+    }
+}
+
+/// So have words that ask for keys.
+#[test]
+fn keys_have_no_plan(rt: HostRuntime) -> Result<(), Fail> {
+    let words = [NAME, "keys", "a"];
+    assert!(rt; refusal_of(rt.alloc(), &words) == Some(ErrorKind::InvalidSubcommand));
+    match request(rt.alloc(), &words) {
+        Ok(Request::Keys(_)) => Ok(()),
+        _ => Err("no keys")?,
+    }
+}
+
 /// The kind of `clap`'s refusal of the words.
 fn refusal_of<'a>(alloc: Global, words: &'a [&'a str]) -> Option<ErrorKind> {
     match plan(alloc, words) {
         Ok(_plan) => None,
         Err(usage) => match usage {
             Usage::Words(error) => Some(error.kind()),
-            Usage::TwoInputs | Usage::NoText => None,
-            Usage::Memory => None,
+            Usage::TwoInputs | Usage::Memory => None,
         },
     }
 }

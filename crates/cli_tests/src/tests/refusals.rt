@@ -3,7 +3,7 @@
 use super::TWINS;
 use super::devices::{READ_FAULT, WIDE, assert_compared, assert_files, assert_one, source_of};
 use life_base::Device;
-use life_cli::plans::{Form, Job, Target};
+use life_cli::plans::{Form, Target, Task};
 
 #[test]
 fn first_refusal_of_two(rt: HostRuntime) {
@@ -17,7 +17,7 @@ fn first_refusal_of_two(rt: HostRuntime) {
         assert_files(
             &rt,
             rt.alloc(),
-            &Job::Same(Form::Placed),
+            &Task::Same(Form::Placed),
             (a, b),
             (2, b"", line),
         );
@@ -26,22 +26,22 @@ fn first_refusal_of_two(rt: HostRuntime) {
 
 #[test]
 fn refused_texts(rt: HostRuntime) {
-    let rows: [(Job, &[u8], &[u8]); 3] = [
-        (Job::Show, b"o!\n", b"line 1: NoHeader\n"),
+    let rows: [(Task, &[u8], &[u8]); 3] = [
+        (Task::Show, b"o!\n", b"line 1: NoHeader\n"),
         (
-            Job::Convert(Target::Mc),
+            Task::Convert(Target::Mc),
             b"[M2]\n#FRAMES 10 0 1\n",
             b"line 2: Timeline\n",
         ),
         (
-            Job::Convert(Target::Rle),
+            Task::Convert(Target::Rle),
             b"x = 1, y = 1\n1048577o!\n",
             b"TooManyCells\n",
         ),
     ];
-    for (job, input, line) in rows {
+    for (task, input, line) in rows {
         let mut first = Device::new(input);
-        assert_one(&rt, rt.alloc(), &job, &mut first, WIDE, (2, b"", line));
+        assert_one(&rt, rt.alloc(), &task, &mut first, WIDE, (2, b"", line));
     }
 }
 
@@ -49,9 +49,9 @@ fn refused_texts(rt: HostRuntime) {
 #[test]
 fn failing_sources(rt: HostRuntime) {
     let alloc = rt.alloc();
-    for job in [Job::Show, Job::Convert(Target::Rle)] {
+    for task in [Task::Show, Task::Convert(Target::Rle)] {
         let mut first = source_of(TWINS, 2);
-        assert_one(&rt, alloc, &job, &mut first, WIDE, READ_FAULT);
+        assert_one(&rt, alloc, &task, &mut first, WIDE, READ_FAULT);
     }
     let (mut first, second) = (source_of(TWINS, 2), Device::new(TWINS));
     assert_compared(&rt, alloc, &mut first, second, WIDE, READ_FAULT);
@@ -71,11 +71,11 @@ fn failing_sinks(rt: HostRuntime) {
         let wanted = (3, taken, fault);
         assert_compared(&rt, alloc, &mut first, second, (room, piece), wanted);
     }
-    for (job, room, taken) in [
-        (Job::Show, 13, b"rule B3/S23\ng".as_slice()),
-        (Job::Convert(Target::Rle), 6, b"#CXRLE"),
+    for (task, room, taken) in [
+        (Task::Show, 13, b"rule B3/S23\ng".as_slice()),
+        (Task::Convert(Target::Rle), 6, b"#CXRLE"),
     ] {
         let mut first = Device::new(TWINS);
-        assert_one(&rt, alloc, &job, &mut first, (room, 5), (3, taken, fault));
+        assert_one(&rt, alloc, &task, &mut first, (room, 5), (3, taken, fault));
     }
 }

@@ -3,7 +3,7 @@
 use super::devices::{WIDE, assert_files, assert_refused, assert_texts, assert_two, source_of};
 use super::{LINE, WIRES};
 use life_base::Source;
-use life_cli::plans::Job;
+use life_cli::plans::Task;
 use std::alloc::{AllocError, Global};
 
 /// The next generation of `LINE`.
@@ -37,7 +37,7 @@ fn next_generations(rt: HostRuntime) {
             b"[M2] (canonical 1)\n#R B3/S23\n#G 1\n",
         ),
     ];
-    assert_texts(&rt, rt.alloc(), &Job::Step, &rows);
+    assert_texts(&rt, rt.alloc(), &Task::Step, &rows);
 }
 
 #[test]
@@ -62,7 +62,7 @@ fn refused_steps(rt: HostRuntime) {
         (WIRES, b"NeedsTable\n"),
         (b"o!\n", b"line 1: NoHeader\n"),
     ];
-    assert_refused(&rt, rt.alloc(), &Job::Step, &rows);
+    assert_refused(&rt, rt.alloc(), &Task::Step, &rows);
 }
 
 #[test]
@@ -90,7 +90,7 @@ fn refused_steps_by_a_table(rt: HostRuntime) {
     ];
     for (input, table, line) in rows {
         let files = (input, table);
-        assert_files(&rt, rt.alloc(), &Job::StepTable, files, (2, b"", line));
+        assert_files(&rt, rt.alloc(), &Task::StepTable, files, (2, b"", line));
     }
 }
 
@@ -112,7 +112,7 @@ fn long_lines(rt: HostRuntime) {
         (&long, SPREAD, b"line 1: LineTooLong\n"),
     ] {
         let files = (input, table);
-        assert_files(&rt, rt.alloc(), &Job::StepTable, files, (2, b"", line));
+        assert_files(&rt, rt.alloc(), &Task::StepTable, files, (2, b"", line));
     }
 }
 
@@ -128,7 +128,7 @@ fn table_first(rt: HostRuntime) {
         assert_two(
             &rt,
             rt.alloc(),
-            &Job::StepTable,
+            &Task::StepTable,
             &mut first,
             second,
             WIDE,

@@ -1,15 +1,15 @@
 //! What the jobs write.
 
-use super::devices::{WIDE, assert_files, assert_jobs, assert_texts};
+use super::devices::{WIDE, assert_files, assert_tasks, assert_texts};
 use super::{
     BLANK, DIFFERENT, EAST_GLIDER, EAST_GLIDER_SHOWN, LINE, SAME, TWINS, TWINS_IN_RLE, TWINS_RUNS,
     TWINS_TEXT, WIRES, WIRES_TEXT,
 };
-use life_cli::plans::{Form, Job, Target};
+use life_cli::plans::{Form, Target, Task};
 
 #[test]
 fn jobs_write_their_texts(rt: HostRuntime) {
-    assert_jobs(&rt, rt.alloc(), 9999, WIDE);
+    assert_tasks(&rt, rt.alloc(), 9999, WIDE);
 }
 
 #[test]
@@ -35,7 +35,7 @@ fn same_and_different(rt: HostRuntime) {
     ];
     for (a, b, wanted, line) in rows {
         let wanted = (wanted, line, b"".as_slice());
-        assert_files(&rt, rt.alloc(), &Job::Same(Form::Placed), (a, b), wanted);
+        assert_files(&rt, rt.alloc(), &Task::Same(Form::Placed), (a, b), wanted);
     }
 }
 
@@ -58,13 +58,13 @@ fn converted_to_rle(rt: HostRuntime) {
             b"#CXRLE Pos=0,0\nx = 73, y = 1, rule = B3/S23\nobobobobobobobobobobobobobobobobobobobobobobobobobobobobobobobobobobob\nobo!\n",
         ),
     ];
-    assert_texts(&rt, rt.alloc(), &Job::Convert(Target::Rle), &rows);
+    assert_texts(&rt, rt.alloc(), &Task::Convert(Target::Rle), &rows);
 }
 
 #[test]
 fn converted_to_macrocell(rt: HostRuntime) {
     let rows = [(WIRES, WIRES_TEXT), (TWINS_IN_RLE, TWINS_TEXT)];
-    assert_texts(&rt, rt.alloc(), &Job::Convert(Target::Mc), &rows);
+    assert_texts(&rt, rt.alloc(), &Task::Convert(Target::Mc), &rows);
 }
 
 #[test]
@@ -84,5 +84,5 @@ fn shown(rt: HostRuntime) {
             b"rule WireWorld\ngeneration 7\npopulation 2\nbox -1 -1 2 1\nnodes 1\n",
         ),
     ];
-    assert_texts(&rt, rt.alloc(), &Job::Show, &rows);
+    assert_texts(&rt, rt.alloc(), &Task::Show, &rows);
 }

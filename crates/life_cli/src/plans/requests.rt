@@ -1,13 +1,13 @@
 //! The plan that the words ask for.
 
-ghost use Rattle.std.specs.Prelude.{◌≡◌, ◌↔◌, ◌<◌, [], IfOk, IfErr, OnOk, Some, IsSome, IsTrue, map, option_map, string_bytes, codes, count_by};
-ghost use Rattle.life_cli.specs.Words.{bytes_eq, found_of, first_of, rows_of, subcommand_of, subcommand_rows_of, program, AreOfJob, AreWhole, IfWork, IsFound, IsPlanOf, IsRequestOf, IsValueOf, HasNoForm, HasNoFormat, HasSecond, HoldsFile, HoldsFiles, HoldsFlag, HoldsForm, HoldsKeys, NamesInputTwice, Explains, ExplainsPlan, RefusesAs, RefusesKeys, RefusesWord, form_word, input_count, input_count_under, target_word, values_of};
-ghost use Rattle.clap.specs.Words.{fault_of};
+ghost use Rattle.std.specs.Prelude.{◌≡◌, ◌↔◌, ◌<◌, [], IfOk, IfErr, OnOk, MatchOption, Some, IsSome, IsTrue, map, option_map, string_bytes, codes, count_by};
+ghost use Rattle.life_cli.specs.Words.{bytes_eq, found_of, first_of, rows_of, subcommand_of, subcommand_rows_of, program, AreOfTask, AreWhole, IfWork, IsFound, IsPlanOf, IsRequestOf, IsTaskPlanOf, TakesOtherForm, task_of, task_plan_of, IsValueOf, HasNoForm, HasNoFormat, HasSecond, HoldsFile, HoldsFiles, HoldsFlag, HoldsForm, HoldsKeys, NamesInputTwice, Explains, ExplainsPlan, RefusesAs, RefusesKeys, RefusesWord, form_word, input_count, input_count_under, target_word, values_of};
+ghost use Rattle.clap.specs.Words.{fault_of, kind_of};
 
 use super::commands::parse;
-use super::{Form, Job, KeysPlan, Plan, Request, Target, Usage};
+use super::{Form, Job, KeysPlan, Plan, Request, Target, Task, TaskPlan, Usage};
 use clap::error::ErrorKind;
-use clap::{ArgMatches, Command};
+use clap::{ArgMatches, Command, Error};
 use std::alloc::Global;
 use std::convert::AsStr;
 
@@ -21,7 +21,7 @@ fn refusal_as(alloc: Global, kind: ErrorKind, call: &str, message: &str) -> Usag
     let mut command = Command::new(alloc, "golly_canon").override_usage(call);
     match command.error(kind, message) {
         Ok(error) => Usage::Words(error),
-        Err(_) => Usage::Memory,
+        Err(refused) => Usage::Words(Error::from(refused)),
     }
 }
 
@@ -105,51 +105,51 @@ fn form(alloc: Global, found: &ArgMatches<'_>) -> Result<Form, Usage>
     }
 }
 
-/// The plan of a job over one file.
-fn over_file(alloc: Global, found: &ArgMatches<'_>, job: Job) -> Result<Plan, Usage>
+/// The plan of a task over one file.
+fn over_file(alloc: Global, found: &ArgMatches<'_>, task: Task) -> Result<TaskPlan, Usage>
     requires { IsFound (codes "FILE") (rows_of (found_of found.now)) }
-    ensures ok { IfOk result (λ p. (p.job ≡ job) × HoldsFile (rows_of (found_of found.now)) p) }
+    ensures ok { IfOk result (λ p. (p.task ≡ task) × HoldsFile (rows_of (found_of found.now)) p) }
     ensures err { IfErr result (λ usage. usage ≡ Usage.Memory) }
 {
     let first = required(alloc, found, "FILE")?;
-    Ok(Plan {
-        job,
+    Ok(TaskPlan {
+        task,
         first,
         second: None,
     })
 }
 
-/// The plan of a job over the files of these names.
+/// The plan of a task over the files of these names.
 fn over_files(
     alloc: Global,
     found: &ArgMatches<'_>,
-    job: Job,
+    task: Task,
     first: &str,
     second: &str,
-) -> Result<Plan, Usage>
+) -> Result<TaskPlan, Usage>
     requires first { IsFound first.now (rows_of (found_of found.now)) }
     requires second { IsFound second.now (rows_of (found_of found.now)) }
     ensures ok { IfOk result
-        (λ p. (p.job ≡ job) × HoldsFiles first.now second.now (rows_of (found_of found.now)) p) }
+        (λ p. (p.task ≡ task) × HoldsFiles first.now second.now (rows_of (found_of found.now)) p) }
     ensures err { IfErr result (λ usage. usage ≡ Usage.Memory) }
 {
     let first = required(alloc, found, first)?;
     let second = required(alloc, found, second)?;
-    Ok(Plan {
-        job,
+    Ok(TaskPlan {
+        task,
         first,
         second: Some(second),
     })
 }
 
-fn step(alloc: Global, found: &ArgMatches<'_>) -> Result<Plan, Usage>
+fn step(alloc: Global, found: &ArgMatches<'_>) -> Result<TaskPlan, Usage>
     requires { IsFound (codes "FILE") (rows_of (found_of found.now)) }
-    ensures ok { IfOk result (IsPlanOf (Some (codes "step", rows_of (found_of found.now)))) }
+    ensures ok { IfOk result (IsTaskPlanOf (Some (codes "step", rows_of (found_of found.now)))) }
     ensures err { IfErr result (λ usage. usage ≡ Usage.Memory) }
 {
     match value(found, "table") {
-        Some(_) => over_files(alloc, found, Job::StepTable, "FILE", "table"),
-        None => over_file(alloc, found, Job::Step),
+        Some(_) => over_files(alloc, found, Task::StepTable, "FILE", "table"),
+        None => over_file(alloc, found, Task::Step),
     }
 }
 
@@ -178,9 +178,9 @@ fn is_set(found: &ArgMatches<'_>, id: &str) -> bool
 }
 
 /// A copy of a list of names.
-fn copied<'a>(alloc: Global, names: &[&'a str]) -> Result<Vec<&'a str>, Usage>
+fn copied<'a>(alloc: Global, names: &[&'a str]) -> Result<Vec<&'a str>, Error>
     ensures ok { IfOk result (λ copy. copy.items ≡ names.now) }
-    ensures err { IfErr result (λ usage. usage ≡ Usage.Memory) }
+    ensures err { IfErr result (λ error. kind_of error ≡ ErrorKind.OutOfMemory) }
 {
     let mut copy = Vec::new(alloc);
     copy.extend_from_slice(names)?;
@@ -188,10 +188,10 @@ fn copied<'a>(alloc: Global, names: &[&'a str]) -> Result<Vec<&'a str>, Usage>
 }
 
 /// All values of an option or of files.
-fn values<'a>(alloc: Global, found: &ArgMatches<'a>, id: &str) -> Result<Vec<&'a str>, Usage>
+fn values<'a>(alloc: Global, found: &ArgMatches<'a>, id: &str) -> Result<Vec<&'a str>, Error>
     ensures ok { IfOk result (λ values. map (λ value. value.now) values.items
         ≡ values_of id.now (rows_of (found_of found.now))) }
-    ensures err { IfErr result (λ usage. usage ≡ Usage.Memory) }
+    ensures err { IfErr result (λ error. kind_of error ≡ ErrorKind.OutOfMemory) }
 {
     match found.get_strs(id) {
         Some(names) => copied(alloc, names),
@@ -205,7 +205,7 @@ fn keys<'a>(alloc: Global, found: &ArgMatches<'a>) -> Result<KeysPlan<'a>, Usage
 {
     let files = match values(alloc, found, "FILE") {
         Ok(files) => files,
-        Err(usage) => return Err(usage),
+        Err(error) => return Err(Usage::Words(error)),
     };
     let from = value(found, "from");
     if files.is_empty() && from.is_none() {
@@ -259,23 +259,23 @@ fn names_input_twice(found: &ArgMatches<'_>) -> bool
 }
 
 /// The plan of matches that name standard input once at most.
-fn from_command(alloc: Global, matches: &ArgMatches<'_>) -> Result<Plan, Usage>
-    requires job { AreOfJob (subcommand_rows_of matches.now) }
+fn from_command(alloc: Global, matches: &ArgMatches<'_>) -> Result<TaskPlan, Usage>
+    requires task { AreOfTask (subcommand_rows_of matches.now) }
     requires once { ¬ NamesInputTwice (subcommand_rows_of matches.now) }
-    ensures ok { IfOk result (IsPlanOf (subcommand_rows_of matches.now)) }
+    ensures ok { IfOk result (IsTaskPlanOf (subcommand_rows_of matches.now)) }
     ensures refused { IfErr result (Explains [] (subcommand_rows_of matches.now)) }
 {
     if let Some(found) = matches.subcommand_matches("canon") {
-        return over_file(alloc, found, Job::Canon(form(alloc, found)?));
+        return over_file(alloc, found, Task::Canon(form(alloc, found)?));
     }
     if let Some(found) = matches.subcommand_matches("convert") {
-        return over_file(alloc, found, Job::Convert(target(alloc, found)?));
+        return over_file(alloc, found, Task::Convert(target(alloc, found)?));
     }
     if let Some(found) = matches.subcommand_matches("same") {
-        return over_files(alloc, found, Job::Same(form(alloc, found)?), "A", "B");
+        return over_files(alloc, found, Task::Same(form(alloc, found)?), "A", "B");
     }
     if let Some(found) = matches.subcommand_matches("show") {
-        return over_file(alloc, found, Job::Show);
+        return over_file(alloc, found, Task::Show);
     }
     if let Some(found) = matches.subcommand_matches("step") {
         return step(alloc, found);
@@ -322,13 +322,14 @@ fn from_matches<'a>(alloc: Global, matches: &ArgMatches<'a>) -> Result<Request<'
 /// # Errors
 ///
 /// `Words` with the text to show, where `clap` finds a fault in the words, as which `--help` and `--version` count too, by its kind; where the
-/// word behind `--to` is that of no format or the one behind `--form` that of no form, as `InvalidValue`; and where `keys` is given neither a
-/// file nor a list, as `MissingRequiredArgument`. `TwoInputs` where words without a fault name `-` for two files, whatever stands behind these
-/// options; `Memory`.
+/// word behind `--to` is that of no format or the one behind `--form` that of no form, as `InvalidValue`; where `keys` is given neither a
+/// file nor a list, as `MissingRequiredArgument`; and where `clap`, or the list of the files of `keys`, gets no memory, as `OutOfMemory`.
+/// `TwoInputs` where words without a fault name `-` for two files, whatever stands behind these options. `Memory` where all is right but there is
+/// no memory for the copy of a file's name.
 pub fn request<'a, S: AsStr>(alloc: Global, words: &'a [S]) -> Result<Request<'a>, Usage>
     ensures faultless { OnOk result (fault_of program (map S.text words.entry.now) ≡ []) }
     ensures ok { IfOk result (IsRequestOf (subcommand_of program (map S.text words.entry.now))) }
-    ensures files { IfOk result (IfWork (λ p. IsSome p.second ↔ HasSecond p.job)) }
+    ensures files { IfOk result (IfWork (λ p. IsSome p.second ↔ HasSecond p.task)) }
     ensures once { OnOk result
         (¬ NamesInputTwice (subcommand_of program (map S.text words.entry.now))) }
     ensures refused { IfErr result (Explains (fault_of program (map S.text words.entry.now))
@@ -338,22 +339,53 @@ pub fn request<'a, S: AsStr>(alloc: Global, words: &'a [S]) -> Result<Request<'a
     from_matches(alloc, &matches)
 }
 
-/// The plan of words that ask for a job over one file or two, as `request` has it.
+/// The job of a task that takes patterns as they lie.
+fn job_of(task: Task) -> Option<Job>
+    ensures { MatchOption result (TakesOtherForm task) (λ job. task ≡ task_of job) }
+{
+    match task {
+        Task::Show => Some(Job::Show),
+        Task::Canon(Form::Placed) => Some(Job::Canon),
+        Task::Convert(target) => Some(Job::Convert(target)),
+        Task::Same(Form::Placed) => Some(Job::Same),
+        Task::Step => Some(Job::Step),
+        Task::StepTable => Some(Job::StepTable),
+        Task::Canon(_) | Task::Same(_) => None,
+    }
+}
+
+/// The plan of the job, where the task of the plan takes patterns as they lie.
+fn as_they_lie(alloc: Global, plan: TaskPlan) -> Result<Plan, Usage>
+    ensures ok { IfOk result (λ p. plan ≡ task_plan_of p) }
+    ensures err { IfErr result (RefusesWord (TakesOtherForm plan.task)) }
+{
+    match job_of(plan.task) {
+        Some(job) => Ok(Plan {
+            job,
+            first: plan.first,
+            second: plan.second,
+        }),
+        None => Err(refusal(alloc, "the value of --form is placed")),
+    }
+}
+
+/// The plan of words that ask for a job, as `request` has it.
 ///
 /// # Errors
 ///
-/// Those of `request`, and `Words` of words that ask for keys, as `InvalidSubcommand`.
+/// Those of `request`, and `Words` of words that ask for keys, as `InvalidSubcommand`, or for another form than `placed`, as `InvalidValue`:
+/// `request` has a plan for these too.
 pub fn plan<S: AsStr>(alloc: Global, words: &[S]) -> Result<Plan, Usage>
     ensures faultless { OnOk result (fault_of program (map S.text words.entry.now) ≡ []) }
     ensures ok { IfOk result (IsPlanOf (subcommand_of program (map S.text words.entry.now))) }
-    ensures files { IfOk result (λ p. IsSome p.second ↔ HasSecond p.job) }
+    ensures files { IfOk result (λ p. IsSome p.second ↔ HasSecond (task_of p.job)) }
     ensures once { OnOk result
         (¬ NamesInputTwice (subcommand_of program (map S.text words.entry.now))) }
     ensures refused { IfErr result (ExplainsPlan (fault_of program (map S.text words.entry.now))
         (subcommand_of program (map S.text words.entry.now))) }
 {
     match request(alloc, words) {
-        Ok(Request::Work(plan)) => Ok(plan),
+        Ok(Request::Work(plan)) => as_they_lie(alloc, plan),
         Ok(Request::Keys(_)) => Err(no_job(alloc)),
         Err(usage) => Err(usage),
     }

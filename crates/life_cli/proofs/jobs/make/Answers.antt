@@ -6,7 +6,7 @@ use Rattle.life_step.specs.Stepped.{IsStepped}
 use Rattle.life_cli.specs.Forms.{IsTextIn}
 use Rattle.life_cli.specs.Jobs.{by_reading, RefusesInForm, RefusesMany, RefusesStep}
 use Rattle.life_cli.specs.declared.jobs.Made.TheVariants.{Text}
-use Rattle.life_cli.specs.declared.plans.Job.TheVariants.{Canon, Convert, Show, Step}
+use Rattle.life_cli.specs.declared.plans.Task.TheVariants.{Canon, Convert, Show, Step}
 use Rattle.life_cli.specs.declared.plans.Target.TheVariants.{Rle}
 use Rattle.life_cli.proofs.WorkLemmas.{made_of_comparison, made_of_step, made_of_text, none_failed, refused_form}
 use Rattle.life_cli.proofs.jobs.make.Goals as goal
@@ -15,7 +15,7 @@ use Rattle.life_cli.proofs.jobs.make.Goals.{in-Canon-default, in-Convert-Rle-def
 pub returns : goal.returns
 returns g c =
     let works = none_failed g.B.Source.failures c.args.second.now c.requires.second_reads in
-    elim c.match-job.branch [
+    elim c.match-task.branch [
       | in-Canon-default w ↦
           let other = rw w.in-Canon-default.is-0 at c.requires.other in
           rw (w.in-Canon-default.is-0, w.result-is, w.first-is, w.second-is) (made_of_text Text (λ text. text.items) (IsTextIn _ MAX_LEVEL)
@@ -23,8 +23,8 @@ returns g c =
           (λ output refusal h. refused_form _ _ _ output refusal other h) w.text_of_source.ensures w.made_from_text.ensures.text
           w.made_from_text.ensures.fault)
       | in-Convert-Rle-default w ↦
-          let job : c.args.job.now ≡ Convert Rle = search rules in
-          rw (job, w.result-is, w.first-is, w.second-is) (made_of_text Text (λ text. text.items) (IsRleOf MAX_LEVEL (2 ^ 20)) RefusesMany (Convert Rle) _ _
+          let task : c.args.task.now ≡ Convert Rle = search rules in
+          rw (task, w.result-is, w.first-is, w.second-is) (made_of_text Text (λ text. text.items) (IsRleOf MAX_LEVEL (2 ^ 20)) RefusesMany (Convert Rle) _ _
           w.rle_of_source.result _ (λ x. (refl, refl)) works (λ has. has) (λ bytes text is. (refl, is)) (λ output refusal h. (h.0, by_reading h.1))
           w.rle_of_source.ensures w.made_from_text-in-Convert-Rle-default.ensures.text w.made_from_text-in-Convert-Rle-default.ensures.fault)
       | in-Same-Some w ↦

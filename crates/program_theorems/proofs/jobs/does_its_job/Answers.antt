@@ -7,43 +7,43 @@ use Rattle.program_theorems.proofs.AnswerLaw.{given_second, second_before, secon
 use Rattle.program_theorems.proofs.RefusalLaw.{origin_of, reason_of, cut_of, no_cause, held_by, some_failed, told_of_some, same_status}
 use Rattle.program_theorems.proofs.jobs.does_its_job.Goals as goal
 
-pub work-requires-clause-second_given : goal.work-requires-clause-second_given
-work-requires-clause-second_given g c = given_second c.args.run.now.job c.requires.second_given
+pub work_seeded-requires-clause-second_given : goal.work_seeded-requires-clause-second_given
+work_seeded-requires-clause-second_given g c = given_second c.args.run.now.task c.requires.second_given
 
 pub returns-clause-done : goal.returns-clause-done
 returns-clause-done g c =
     λ file other e f few.
-    let done = c.work.ensures.done few in (
+    let done = c.work_seeded.ensures.done few in (
       done.text,
-      answered c.layers_agree.ensures c.args.run.now.job _ _ _ done.text done.answer file other e
+      answered c.layers_agree.ensures c.args.run.now.task _ _ _ done.text done.answer file other e
           (λ has. second_before g.B.Source.remaining c.args.run.now.second other f (c.requires.second_given.1 has)),
       λ held h. appended _ _ held done.text done.written h,
     )
 
 pub returns-clause-whole : goal.returns-clause-whole
 returns-clause-whole g c =
-    λ file e few. let done = c.work.ensures.done few in first_ended c.args.run.now.job _ _ _ done.text done.answer file e
+    λ file e few. let done = c.work_seeded.ensures.done few in first_ended c.args.run.now.task _ _ _ done.text done.answer file e
 
 pub returns-clause-second_whole : goal.returns-clause-second_whole
 returns-clause-second_whole g c =
     λ other has f few.
-    let done = c.work.ensures.done few in
-    let ended = second_ended c.args.run.now.job _ _ _ done.text done.answer other has
+    let done = c.work_seeded.ensures.done few in
+    let ended = second_ended c.args.run.now.task _ _ _ done.text done.answer other has
     (second_before g.B.Source.remaining c.args.run.now.second other f (c.requires.second_given.1 has)) in
-    (second_after g.B.Source.remaining c.work.new.second ended.0, ended.1)
+    (second_after g.B.Source.remaining c.work_seeded.new.second ended.0, ended.1)
 
 pub returns-clause-refused : goal.returns-clause-refused
 returns-clause-refused g c =
     λ file other e f many.
-    let first = source_run g.A.Source.remaining g.A.Source.failures c.args.run.now.first c.work.new.first in
-    let second = optional_source_run g.B.Source.remaining g.B.Source.failures c.args.run.now.second c.work.new.second in
-    let output = sink_run g.O.Sink.contents g.O.Sink.failures g.O.Sink.stalled c.args.run.now.out c.work.new.out in
-    let told = c.work.ensures.refused many in
-    let reason = reason_of c.args.run.now.job first second output told.0 file other e
+    let first = source_run g.A.Source.remaining g.A.Source.failures c.args.run.now.first c.work_seeded.new.first in
+    let second = optional_source_run g.B.Source.remaining g.B.Source.failures c.args.run.now.second c.work_seeded.new.second in
+    let output = sink_run g.O.Sink.contents g.O.Sink.failures g.O.Sink.stalled c.args.run.now.out c.work_seeded.new.out in
+    let told = c.work_seeded.ensures.refused many in
+    let reason = reason_of c.args.run.now.task first second output told.0 file other e
     (λ has. second_before g.B.Source.remaining c.args.run.now.second other f (c.requires.second_given.1 has))
-    ((g.A.Source.failures c.work.new.first ≡ 1) ⊎ IsSomeAnd c.work.new.second (λ b. g.B.Source.failures b ≡ 1))
-    (λ failed. elim failed [ inl one ↦ inl one | inr two ↦ inr (some_failed g.B.Source.failures c.work.new.second two) ])
-    (origin_of c.layers_agree.ensures c.args.run.now.job first second output told.0 told.2) in (
+    ((g.A.Source.failures c.work_seeded.new.first ≡ 1) ⊎ IsSomeAnd c.work_seeded.new.second (λ b. g.B.Source.failures b ≡ 1))
+    (λ failed. elim failed [ inl one ↦ inl one | inr two ↦ inr (some_failed g.B.Source.failures c.work_seeded.new.second two) ])
+    (origin_of c.layers_agree.ensures c.args.run.now.task first second output told.0 told.2) in (
       fault_line told.0,
       record {
         of_table = reason.of_table;
@@ -51,35 +51,35 @@ returns-clause-refused g c =
         reason = reason.reason;
         unread = λ failed. elim failed [
           | inl one ↦ told.4 one
-          | inr two ↦ told_of_some g.B.Source.failures c.work.new.second (told.0.fault.kind ≡ ReadFault) told.5 two
+          | inr two ↦ told_of_some g.B.Source.failures c.work_seeded.new.second (told.0.fault.kind ≡ ReadFault) told.5 two
         ];
         unwritten = told.6;
         status_is = told.1 ∙ sym (same_status told.0.fault.kind);
         line_is = reason.line;
       },
-      λ heard h. held_by (sink_run g.E.Sink.contents g.E.Sink.failures g.E.Sink.stalled c.args.run.now.err c.work.new.err) heard (fault_line told.0) told.7 h,
+      λ heard h. held_by (sink_run g.E.Sink.contents g.E.Sink.failures g.E.Sink.stalled c.args.run.now.err c.work_seeded.new.err) heard (fault_line told.0) told.7 h,
     )
 
 pub returns-clause-unwritten : goal.returns-clause-unwritten
 returns-clause-unwritten g c =
     λ many works takes.
-    let told = c.work.ensures.refused many in
-    let origin = origin_of c.layers_agree.ensures c.args.run.now.job _ _ _ told.0 told.2 in
-    told.3 (λ kind. no_cause _ _ (cut_of c.args.run.now.job _ _ _ told.0 origin kind).cause works takes)
+    let told = c.work_seeded.ensures.refused many in
+    let origin = origin_of c.layers_agree.ensures c.args.run.now.task _ _ _ told.0 told.2 in
+    told.3 (λ kind. no_cause _ _ (cut_of c.args.run.now.task _ _ _ told.0 origin kind).cause works takes)
 
 pub returns-clause-broken : goal.returns-clause-broken
 returns-clause-broken g c =
     λ file other e f failed.
-    let is = c.work.ensures.write_told failed in
-    let many : 1 < c.work.result = subst (λ (n : ℕ). 1 < n) (sym is) (omega arith) in
-    let told = c.work.ensures.refused many in
-    let origin = origin_of c.layers_agree.ensures c.args.run.now.job _ _ _ told.0 told.2 in
-    let cut = cut_of c.args.run.now.job _ _ _ told.0 origin (told.6 failed) in (
+    let is = c.work_seeded.ensures.write_told failed in
+    let many : 1 < c.work_seeded.result = subst (λ (n : ℕ). 1 < n) (sym is) (omega arith) in
+    let told = c.work_seeded.ensures.refused many in
+    let origin = origin_of c.layers_agree.ensures c.args.run.now.task _ _ _ told.0 told.2 in
+    let cut = cut_of c.args.run.now.task _ _ _ told.0 origin (told.6 failed) in (
       is,
       (
         cut.status,
         cut.text,
-        answered c.layers_agree.ensures c.args.run.now.job _ _ cut.status cut.text cut.answer file other e
+        answered c.layers_agree.ensures c.args.run.now.task _ _ cut.status cut.text cut.answer file other e
             (λ has. second_before g.B.Source.remaining c.args.run.now.second other f (c.requires.second_given.1 has)),
         λ held h. (cut.written.count, appended _ _ held (take cut.written.count cut.text) cut.written.written h),
       ),
@@ -88,6 +88,6 @@ returns-clause-broken g c =
 pub returns-clause-unread : goal.returns-clause-unread
 returns-clause-unread g c =
     λ failed. elim failed [
-      | inl one ↦ c.work.ensures.first_told one
-      | inr two ↦ told_of_some g.B.Source.failures c.work.new.second (c.work.result ≡ 3) c.work.ensures.second_told two
+      | inl one ↦ c.work_seeded.ensures.first_told one
+      | inr two ↦ told_of_some g.B.Source.failures c.work_seeded.new.second (c.work_seeded.result ≡ 3) c.work_seeded.ensures.second_told two
     ]

@@ -1,0 +1,24 @@
+-- What is said of arguments that can't be read, and the status that they end the program with. The project's own.
+use Rattle.std.specs.Prelude.{◌≡◌, ◌≢◌, ◌⊎◌, ℕ, List, codes}
+use Rattle.std.specs.IoError.{error_kind}
+use Rattle.std.specs.declared.io.Error.{Error}
+use Rattle.std.specs.declared.io.ErrorKind.TheVariants.{OutOfMemory}
+use Rattle.life_base.specs.Refusal.{fault_of}
+use Rattle.life_base.specs.declared.kind.Kind.TheVariants as kinds
+use Rattle.life_cli.specs.Faults.{fault_line, refusal_of, status_of}
+use Rattle.golly_canon.specs.declared.arguments.Unreadable.{Unreadable}
+use Rattle.golly_canon.specs.declared.arguments.Unreadable.TheVariants.{NoText, Memory}
+
+-- what an error says that came where the arguments were read: that memory was refused, or that an argument is no text
+abbrev pub Says : Error → Unreadable → Type 0
+Says error unreadable = ((error_kind error ≡ OutOfMemory) × (unreadable ≡ Memory)) ⊎ ((error_kind error ≢ OutOfMemory) × (unreadable ≡ NoText))
+
+-- the line on standard error
+abbrev pub unreadable_line : Unreadable → List ℕ
+unreadable_line NoText = codes "error: a word of the command line is no UTF-8 text\n"
+unreadable_line Memory = fault_line (refusal_of (fault_of kinds.Memory))
+
+-- the status that the program ends with
+abbrev pub unreadable_status : Unreadable → ℕ
+unreadable_status NoText = 5
+unreadable_status Memory = status_of kinds.Memory
