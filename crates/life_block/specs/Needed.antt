@@ -1,12 +1,15 @@
--- Which square of the next generation a refused call had to store.
+-- Which squares of the next generation a call stores, and which one a refused call had to store.
 use Rattle.std.specs.Prelude.{◌≡◌, ◌≢◌, ℕ, zero, suc, ◌+◌, ◌^◌, ◌<◌, ℤ, ◌<ℤ◌, pos, neg_ℤ, min}
 use Rattle.life_base.specs.Sets.{OuterTotalistic}
 use Rattle.life_base.specs.Tree.{Tree, point, quad, depth, half_side, tree_cell}
 use Rattle.life_base.specs.declared.cell.TheConstants.{MAX_LEVEL}
+use Rattle.life_quad.specs.declared.id.Id.{Id}
 use Rattle.life_quad.specs.Refused.{SomePart}
 use Rattle.life_sweep.specs.Generation.{after, next_life, LifeAnswers}
 use Rattle.life_sweep.specs.Refused.{SomeNext}
-use Rattle.life_block.specs.Pieces.{ahead}
+use Rattle.life_block.specs.declared.grid.Four.{Four}
+use Rattle.life_block.specs.Bits.{AreBands}
+use Rattle.life_block.specs.Pieces.{AreNine, AreSixteen, IsBinary, Nine, Sixteen, ahead}
 
 -- the square of level k with the states of the plane from the column x and the row y on
 unfoldable pub square_from : (ℤ → ℤ → ℕ) → ℕ → ℤ → ℤ → Tree
@@ -17,6 +20,21 @@ square_from cells (suc k) x y =
     (square_from cells k (ahead x (2 ^ k)) y)
     (square_from cells k x (ahead y (2 ^ k)))
     (square_from cells k (ahead x (2 ^ k)) (ahead y (2 ^ k)))
+
+-- The next three say that a square has a property which is part of some next states under a B/S rule, wherever on a plane the squares are: of a square of
+-- level k amid its eight neighbours, of four squares of that level amid twelve others, or of the 64 cells in the middle of four words.
+abbrev pub SomeOfNine : (Tree → Type 0) → OuterTotalistic → (Id → Tree) → ℕ → Nine → Type 0
+SomeOfNine P rule content k nine =
+    (cells : ℤ → ℤ → ℕ) (x y : ℤ) → IsBinary cells → AreNine content cells (2 ^ k) x y nine → SomePart P (square_from (next_life rule cells) k x y)
+
+abbrev pub SomeOfSixteen : (Tree → Type 0) → OuterTotalistic → (Id → Tree) → ℕ → Sixteen → Type 0
+SomeOfSixteen P rule content k sixteen =
+    (cells : ℤ → ℤ → ℕ) (x y : ℤ) → IsBinary cells → AreSixteen content cells (2 ^ k) x y sixteen
+    → SomePart P (square_from (next_life rule cells) (suc k) x y)
+
+abbrev pub SomeOfBands : (Tree → Type 0) → OuterTotalistic → Four ℕ → Type 0
+SomeOfBands P rule bands =
+    (cells : ℤ → ℤ → ℕ) (x y : ℤ) → AreBands cells x y bands → SomePart P (square_from (next_life rule cells) 3 x y)
 
 -- the square of the next generation under a B/S rule, one level higher, about the same centre
 abbrev pub next_square : OuterTotalistic → Tree → Tree

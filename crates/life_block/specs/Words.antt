@@ -3,12 +3,12 @@ pub use Rattle.life_base.specs.Refusal.{fault_of, IsMemory}
 pub use Rattle.life_base.specs.Rules.{has_digit}
 pub use Rattle.life_base.specs.Tree.{depth, point, tree_cell}
 pub use Rattle.life_block.specs.Bits.{AreBands, count_at, counted_in, exchanged, HasBand, neighbours_in, place_in, sides_in}
-pub use Rattle.life_block.specs.Needed.{HasClearEdge, level_behind, next_plane, next_square, SomeOfNext, square_from}
+pub use Rattle.life_block.specs.Needed.{HasClearEdge, level_behind, next_plane, next_square, SomeOfBands, SomeOfNext, SomeOfNine, SomeOfSixteen, square_from}
 pub use Rattle.life_block.specs.Pieces.{ahead, AreFour, AreNine, AreSixteen, AreThree, at_corner, back, eastern, four_of, front, in_middle, InFour, InNine}
 pub use Rattle.life_block.specs.Pieces.{InSixteen, InThree, IsAt, IsBinary, IsPiece, IsWhereBinary, Nine as NineValue, rear, western}
 pub use Rattle.life_block.specs.Remembered.{ids_of, Remembers}
 pub use Rattle.life_quad.specs.Grows.{IsWantOf, Keeps}
-pub use Rattle.life_quad.specs.Keeping.{IsWantFault}
+pub use Rattle.life_quad.specs.Keeping.{AddsOnly, IsWantFault}
 pub use Rattle.life_quad.specs.Memory.{Recalls}
 pub use Rattle.life_quad.specs.Refused.{SomePart}
 pub use Rattle.life_quad.specs.Store.{four, two}

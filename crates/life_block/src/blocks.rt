@@ -1,6 +1,6 @@
 //! The next states of squares.
-ghost use Rattle.std.specs.Prelude.{◌≡◌, ℕ, ℤ, suc, ◌+◌, ◌^◌, ◌<◌, ◌≤◌, false, IfOk, IfErr, OnErr};
-ghost use Rattle.life_block.specs.Words.{has_digit, depth, tree_cell, SomePart, next_life, IsNextLife, HasClearEdge, square_from, next_plane, next_square, Remembers, IsPiece, IsBinary, IsAt, InNine, InSixteen, AreNine, AreSixteen, Keeps, IsWantOf};
+ghost use Rattle.std.specs.Prelude.{◌≡◌, ℕ, ℤ, ◌+◌, ◌^◌, ◌<◌, ◌≤◌, false, IfOk, IfErr, OnErr};
+ghost use Rattle.life_block.specs.Words.{has_digit, depth, tree_cell, SomePart, SomeOfNine, SomeOfSixteen, next_life, IsNextLife, HasClearEdge, next_plane, next_square, Remembers, IsPiece, IsBinary, IsAt, InNine, InSixteen, AreNine, AreSixteen, AddsOnly, Keeps, IsWantOf};
 
 use crate::grid::{Corner, Nine, Sixteen, in_middle};
 use crate::leaf::{next_of_leaf, next_of_least};
@@ -32,9 +32,11 @@ fn next_of<S: Squares>(
         → IsPiece (next_life rule.now cells) x y (S.content squares.new r)) }
     ensures keeps { Keeps S.Squares squares.old squares.new }
     ensures refusals { IfErr result (IsWantOf S.Squares squares.new) }
-    ensures needed { OnErr result ((cells : ℤ → ℤ → ℕ) (x y : ℤ) → IsBinary cells
-        → AreNine (S.content squares.old) cells (2 ^ level) x y nine.now
-        → SomePart (S.needs_node squares.new) (square_from (next_life rule.now cells) level x y)) }
+    ensures needed { OnErr result (SomeOfNine (S.needs_node squares.new) rule.now
+        (S.content squares.old) level nine.now) }
+    ensures adds { AddsOnly S.stored
+        (λ P. SomeOfNine P rule.now (S.content squares.old) level nine.now) squares.old
+        squares.new }
 {
     let blank = squares.empty(level);
     if nine.are_all(blank) {
@@ -73,10 +75,11 @@ fn next_of_middle<S: Squares>(
         → IsPiece (next_life rule.now cells) x y (S.content squares.new r)) }
     ensures keeps { Keeps S.Squares squares.old squares.new }
     ensures refusals { IfErr result (IsWantOf S.Squares squares.new) }
-    ensures needed { OnErr result ((cells : ℤ → ℤ → ℕ) (x y : ℤ) → IsBinary cells
-        → AreSixteen (S.content squares.old) cells (2 ^ level) x y sixteen.now
-        → SomePart (S.needs_node squares.new)
-        (square_from (next_life rule.now cells) (suc level) x y)) }
+    ensures needed { OnErr result (SomeOfSixteen (S.needs_node squares.new) rule.now
+        (S.content squares.old) level sixteen.now) }
+    ensures adds { AddsOnly S.stored
+        (λ P. SomeOfSixteen P rule.now (S.content squares.old) level sixteen.now) squares.old
+        squares.new }
 {
     if level == 2 {
         return next_of_leaf(squares, rule, sixteen);
@@ -113,6 +116,9 @@ pub fn next_life_square<S: SharedSquares>(
     ensures refusals { IfErr result (IsWantOf S.Squares squares.new) }
     ensures needed { OnErr result
         (SomePart (S.needs_node squares.new) (next_square rule.now (S.content squares.old id))) }
+    ensures adds { AddsOnly S.stored
+        (λ P. SomePart P (next_square rule.now (S.content squares.old id))) squares.old
+        squares.new }
 {
     // To read a field opens the invariant to the proof: no cell is born without live neighbours.
     let _ = &rule.births;
@@ -161,6 +167,9 @@ pub(crate) fn next_life_plane<S: SharedSquares>(
     ensures refusals { IfErr result (IsWantOf S.Squares squares.new) }
     ensures needed { OnErr result
         (SomePart (S.needs_node squares.new) (next_plane rule.now (S.content squares.old id))) }
+    ensures adds { AddsOnly S.stored
+        (λ P. SomePart P (next_plane rule.now (S.content squares.old id))) squares.old
+        squares.new }
 {
     // To read a field opens the invariant to the proof: no cell is born without live neighbours.
     let _ = &rule.births;

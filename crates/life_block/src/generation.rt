@@ -1,6 +1,6 @@
 //! The next generation of a pattern.
 ghost use Rattle.std.specs.Prelude.{◌≡◌, ◌⊎◌, ℤ, pos, neg_ℤ, ◌<ℤ◌, ◌^◌, ◌<◌, ◌≤◌, true, false, Err, Some, None, IfOk, IfErr};
-ghost use Rattle.life_block.specs.Words.{fault_of, depth, tree_cell, IsWantFault, after, IsNextLife, LifeAnswers, GenerationRefusal, HasClearEdge, SomeOfNext, level_behind, IsMemory, Keeps};
+ghost use Rattle.life_block.specs.Words.{fault_of, depth, tree_cell, IsWantFault, after, IsNextLife, LifeAnswers, GenerationRefusal, HasClearEdge, SomeOfNext, level_behind, IsMemory, AddsOnly, Keeps};
 
 use crate::blocks::{next_life_plane, next_life_square};
 use life_base::{Bounds, Fault, Kind, LifeRule, MAX_LEVEL};
@@ -81,6 +81,8 @@ pub fn next_life_generation<S: SharedSquares>(
         f ⊎ GenerationRefusal (LifeAnswers rule.now) 2 most (S.content squares.old id) (Some f)) }
     ensures needed { result ≡ Err (fault_of Kind.Full)
         → SomeOfNext (S.needs_node squares.new) rule.now (S.content squares.old id) }
+    ensures adds { AddsOnly S.stored
+        (λ P. SomeOfNext P rule.now (S.content squares.old id)) squares.old squares.new }
     ensures keeps { Keeps S.Squares squares.old squares.new }
 {
     life_answers_at();

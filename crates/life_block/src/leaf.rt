@@ -1,6 +1,6 @@
 //! The next states of four squares of level 2 amid twelve others, by words of their cells.
 ghost use Rattle.std.specs.Prelude.{◌≡◌, ℕ, ℤ, pos, neg_ℤ, ◌<◌, IfOk, IfErr, OnErr};
-ghost use Rattle.life_block.specs.Words.{point, tree_cell, SomePart, two, four, next_life, HasBand, AreBands, square_from, IsPiece, IsBinary, IsWhereBinary, IsAt, InFour, InSixteen, AreFour, AreSixteen, back, Keeps, IsWantOf};
+ghost use Rattle.life_block.specs.Words.{point, tree_cell, SomePart, two, four, next_life, HasBand, AreBands, square_from, SomeOfBands, SomeOfSixteen, IsPiece, IsBinary, IsWhereBinary, IsAt, InFour, InSixteen, AreFour, AreSixteen, back, AddsOnly, Keeps, IsWantOf};
 
 use crate::grid::{Four, Sixteen};
 use crate::words::{next_squares, rows_of_squares};
@@ -81,8 +81,9 @@ fn next_of_bands<S: Squares>(
         → IsPiece (next_life rule.now cells) x y (S.content squares.new r)) }
     ensures keeps { Keeps S.Squares squares.old squares.new }
     ensures refusals { IfErr result (IsWantOf S.Squares squares.new) }
-    ensures needed { OnErr result ((cells : ℤ → ℤ → ℕ) (x y : ℤ) → AreBands cells x y bands.now
-        → SomePart (S.needs_node squares.new) (square_from (next_life rule.now cells) 3 x y)) }
+    ensures needed { OnErr result (SomeOfBands (S.needs_node squares.new) rule.now bands.now) }
+    ensures adds { AddsOnly S.stored (λ P. SomeOfBands P rule.now bands.now) squares.old
+        squares.new }
 {
     let north = next_squares(bands.first, bands.second, bands.third, rule);
     let south = next_squares(bands.second, bands.third, bands.fourth, rule);
@@ -106,9 +107,11 @@ pub(crate) fn next_of_leaf<S: Squares>(
         → IsPiece (next_life rule.now cells) x y (S.content squares.new r)) }
     ensures keeps { Keeps S.Squares squares.old squares.new }
     ensures refusals { IfErr result (IsWantOf S.Squares squares.new) }
-    ensures needed { OnErr result ((cells : ℤ → ℤ → ℕ) (x y : ℤ) → IsBinary cells
-        → AreSixteen (S.content squares.old) cells 4 x y sixteen.now
-        → SomePart (S.needs_node squares.new) (square_from (next_life rule.now cells) 3 x y)) }
+    ensures needed { OnErr result (SomeOfSixteen (S.needs_node squares.new) rule.now
+        (S.content squares.old) 2 sixteen.now) }
+    ensures adds { AddsOnly S.stored
+        (λ P. SomeOfSixteen P rule.now (S.content squares.old) 2 sixteen.now) squares.old
+        squares.new }
 {
     let bands = Four {
         first: band(squares, &sixteen.first),
@@ -136,6 +139,9 @@ pub(crate) fn next_of_least<S: Squares>(
     ensures needed { OnErr result (let corner = neg_ℤ (pos 4) in SomePart
         (S.needs_node squares.new)
         (square_from (next_life rule.now (tree_cell (S.content squares.old id))) 3 corner corner)) }
+    ensures adds { AddsOnly S.stored (λ P. let corner = neg_ℤ (pos 4) in SomePart P
+        (square_from (next_life rule.now (tree_cell (S.content squares.old id))) 3 corner corner))
+        squares.old squares.new }
 {
     // Its rows begin in column 6 of sixteen.
     let rows = rows_of_squares(cells_in(squares, id) << 48) >> 6;

@@ -1,8 +1,9 @@
 -- Why a pattern has no next generation: the first condition in order that holds. The order and the limits are the project's own. And which
--- square a refused step had to store, behind those that reading needs.
+-- squares a step stores, besides those that reading needs, and which one a refused step had to store.
 use Rattle.std.specs.Prelude.{◌≡◌, ◌≢◌, ◌⊎◌, ℕ, ◌-◌, ◌^◌, ◌<◌, ℤ, List, length, Option, Some, None}
 use Rattle.life_base.specs.Sets.{OuterTotalistic}
 use Rattle.life_base.specs.Refusal.{fault_of}
+use Rattle.life_base.specs.Text.{lines_of}
 use Rattle.life_base.specs.Tree.{Tree, depth, tree_cell, IsFull}
 use Rattle.life_base.specs.declared.cell.Cell.{Cell}
 use Rattle.life_base.specs.declared.cell.TheConstants.{MAX_LEVEL}
@@ -19,7 +20,7 @@ use Rattle.life_sweep.specs.Refused.{IfElse, HasStateFrom, fault_on, SomeNext}
 use Rattle.life_sweep.specs.Rows.{Precedes}
 use Rattle.life_block.specs.Needed.{SomeOfNext, level_behind}
 use Rattle.life_canon.specs.Files.{Reads, Refuses}
-use Rattle.life_canon.specs.Needs.{IsNew, LacksFor}
+use Rattle.life_canon.specs.Needs.{IsNew, SomeOfFile}
 use Rattle.life_canon.specs.Store.{ForEachFile, IsWant}
 use Rattle.life_canon.specs.declared.pattern.Pattern.{Pattern}
 use Rattle.life_canon.specs.Texts.{AreCellsOf}
@@ -104,27 +105,51 @@ pub data SomeOfTable (P : Tree → Type 0) (table : Table) (root : Tree) : Type 
   of_next_root : (next : ℤ → ℤ → ℕ) → ((x y : ℤ) → AnswersAt table (tree_cell root) x y (Becomes (next x y)))
       → SomeOfRoot P next MAX_LEVEL (least_level (Named table.name)) → SomeOfTable P table root
 
--- the store lacks a square that the step under this rule needs; without a table there is none for a name
+-- a square has a property which the step under this rule needs; without a table there is none for a name
+abbrev pub SomeByRule : (Tree → Type 0) → Rule → Tree → Type 0
+SomeByRule P (Life rule) root = SomeOfLife P rule root
+SomeByRule P (Named name) root = ⊥
+
+-- so has one that the step by the table of this rule needs
+abbrev pub SomeByTable : (Tree → Type 0) → Table → Rule → Tree → Type 0
+SomeByTable P table rule root = (rule ≡ Named table.name) × SomeOfTable P table root
+
+-- the bytes are a file, and a square has a property which the step of its pattern needs under its own rule
+abbrev pub SomeOfNextFile : (Tree → Type 0) → List ℕ → Type 0
+SomeOfNextFile P bytes = (u : Universe) × Reads MAX_LEVEL bytes u × SomeByRule P u.rule (whole MAX_LEVEL u)
+
+-- the same by a table
+abbrev pub SomeOfNextFileBy : (Tree → Type 0) → Table → List ℕ → Type 0
+SomeOfNextFileBy P table bytes = (u : Universe) × Reads MAX_LEVEL bytes u × SomeByTable P table u.rule (whole MAX_LEVEL u)
+
+-- a square has a property which the bytes need, to be read or to be stepped
+abbrev pub SomeOfStep : (Tree → Type 0) → List ℕ → Type 0
+SomeOfStep P bytes = SomeOfFile MAX_LEVEL P (lines_of bytes) ⊎ SomeOfNextFile P bytes
+
+-- the same by a table
+abbrev pub SomeOfStepBy : (Tree → Type 0) → Table → List ℕ → Type 0
+SomeOfStepBy P table bytes = SomeOfFile MAX_LEVEL P (lines_of bytes) ⊎ SomeOfNextFileBy P table bytes
+
+-- the store lacks a square that the step under this rule needs
 abbrev pub LacksForLife : Rule → Tree → Nodes → Type 0
-LacksForLife (Life rule) root store = SomeOfLife (IsNew store) rule root
-LacksForLife (Named name) root store = ⊥
+LacksForLife rule root store = SomeByRule (IsNew store) rule root
 
 -- the store lacks a square that the step by the table of this rule needs
 abbrev pub LacksForTable : Table → Rule → Tree → Nodes → Type 0
-LacksForTable table rule root store = (rule ≡ Named table.name) × SomeOfTable (IsNew store) table root
+LacksForTable table rule root store = SomeByTable (IsNew store) table rule root
 
 -- the bytes are a file, and the store lacks a square that the step of its pattern needs under its own rule
 abbrev pub LacksForNext : List ℕ → Nodes → Type 0
-LacksForNext bytes store = (u : Universe) × Reads MAX_LEVEL bytes u × LacksForLife u.rule (whole MAX_LEVEL u) store
+LacksForNext bytes store = SomeOfNextFile (IsNew store) bytes
 
 -- the same by a table
 abbrev pub LacksForNextBy : Table → List ℕ → Nodes → Type 0
-LacksForNextBy table bytes store = (u : Universe) × Reads MAX_LEVEL bytes u × LacksForTable table u.rule (whole MAX_LEVEL u) store
+LacksForNextBy table bytes store = SomeOfNextFileBy (IsNew store) table bytes
 
 -- the store lacks a square that the bytes need, to be read or to be stepped
 abbrev pub LacksForStep : List ℕ → Nodes → Type 0
-LacksForStep bytes store = LacksFor MAX_LEVEL bytes store ⊎ LacksForNext bytes store
+LacksForStep bytes store = SomeOfStep (IsNew store) bytes
 
 -- the same by a table
 abbrev pub LacksForStepBy : Table → List ℕ → Nodes → Type 0
-LacksForStepBy table bytes store = LacksFor MAX_LEVEL bytes store ⊎ LacksForNextBy table bytes store
+LacksForStepBy table bytes store = SomeOfStepBy (IsNew store) table bytes

@@ -7,6 +7,8 @@ pub use Rattle.life_canon.specs.Needs.{IsNew}
 pub use Rattle.life_canon.specs.Store.{ForEachFile, Keeps, IsKnown, IsOfFile, IsWant, content}
 pub use Rattle.life_canon.specs.Universe.{IsSame, least_level, square_universe}
 pub use Rattle.life_mc.specs.Macrocell.{largest_state}
+pub use Rattle.life_quad.specs.Keeping.{AddsOnly}
 pub use Rattle.life_quad.specs.Refused.{TrimmedTo}
-pub use Rattle.life_step.specs.Refusals.{LacksForLife, LacksForStep, LacksForStepBy, LacksForTable, LifeRefusal, RefusesFile, RefusesPattern, TableRefusal}
+pub use Rattle.life_quad.specs.Store.{held}
+pub use Rattle.life_step.specs.Refusals.{LacksForLife, LacksForStep, LacksForStepBy, LacksForTable, LifeRefusal, RefusesFile, RefusesPattern, SomeByRule, SomeByTable, SomeOfStep, SomeOfStepBy, TableRefusal}
 pub use Rattle.life_step.specs.Stepped.{IsStepped, IsSteppedBy, IsTextOf}

@@ -1,5 +1,5 @@
--- The squares that a refused call lacked: of the runs that were drawn, and so of the next generation.
-use Rattle.std.proofs.Common.{◌≡◌, ℕ, ◌<◌, Bool, false, inl, inr, ◌⊎◌, ℤ, pos, neg_ℤ, ◌+ℤ◌, ◌-ℤ◌, ◌<ℤ◌, ◌≤ℤ◌, List, [], ◌∷◌, ◌++◌, refl, sym, ◌∙◌, ap, subst, arith}
+-- The squares that a call stores, and those that a refused call lacked: of the runs that were drawn, and so of the next generation.
+use Rattle.std.proofs.Common.{◌≡◌, ℕ, ◌<◌, Bool, true, false, inl, inr, ◌⊎◌, ℤ, pos, neg_ℤ, ◌+ℤ◌, ◌-ℤ◌, ◌<ℤ◌, ◌≤ℤ◌, List, [], ◌∷◌, ◌++◌, refl, sym, ◌∙◌, ap, subst, arith}
 use Rattle.std.specs.Prelude.{nat_abs, Result, Err}
 use Rattle.std.proofs.lemmas.Int.{ints}
 use Rattle.life_base.specs.Tree.{Tree}
@@ -7,10 +7,15 @@ use Rattle.life_base.specs.Refusal.{fault_of}
 use Rattle.life_base.specs.declared.fault.Fault.{Fault}
 use Rattle.life_base.specs.declared.kind.Kind.{Kind}
 use Rattle.life_base.specs.declared.kind.Kind.TheVariants.{Full, Ambiguous}
+use Rattle.life_base.proofs.Squares.{is_inside, inside_facts}
 use Rattle.life_quad.specs.Cells.{IsInRun}
-use Rattle.life_strip.specs.Given.{AreInOrder, state_by, by_columns, half_plane}
+use Rattle.life_quad.specs.declared.id.Id.{Id}
+use Rattle.life_strip.specs.Filling.{Building, IsFilling}
+use Rattle.life_strip.specs.Given.{AreInOrder, IsOnPlane, state_by, by_columns, half_plane}
 use Rattle.life_strip.specs.Needed.{SomeSquare}
+use Rattle.life_strip.specs.Plane.{state_so_far}
 use Rattle.life_strip.proofs.NeededLemmas.{SomeSquare-within}
+use Rattle.life_strip.proofs.PlaneLemmas.{plane_outside}
 use Rattle.life_table.specs.Meaning.{Answer, Becomes}
 use Rattle.life_base.specs.declared.cell.Run.{Run}
 use Rattle.life_sweep.specs.Refused.{SomeAbove, SomeOfAll, SomeNext, above_cell, of_plane}
@@ -46,6 +51,22 @@ open-needs P runs run order opened s =
           (λ c r l. sym (outside-last runs run c r order opened.next (λ (i : IsInRun run.x run.y run.len c r). let e = i.same_row in
           omega (arith, ints, l, e)))) s;
     }
+
+-- no cell outside the plane was given
+pub none-outside : {knows : Id → Type 0} {content : Id → Tree} {b : Building} → IsFilling knows content b → (x y : ℤ) → ¬ (IsOnPlane x y 1)
+    → state_by b.runs x y ≡ 0
+none-outside {content = content} {b = b} filling x y outside = by (is_inside half_plane x y) refl
+  where
+    by : (c : Bool) → is_inside half_plane x y ≡ c → state_by b.runs x y ≡ 0
+    by false e = sym (filling.cells x y) ∙ plane_outside (state_so_far content b.kept) x y e
+    by true e =
+        let i = inside_facts half_plane x y e in
+        absurd (outside (record {
+          west = omega (arith, ints, i.west);
+          east = omega (arith, ints, i.east);
+          north = omega (arith, ints, i.north);
+          south = omega (arith, ints, i.south);
+        }))
 
 -- what was drawn is the next generation
 pub drawn-needs : (P : Tree → Type 0) (A : List ℕ → Answer → Type 0) (cells : ℤ → ℤ → ℕ) (runs : List Run) (leaves : Bool) (s : SomeAbove P runs)

@@ -3,7 +3,7 @@ pub use Rattle.life_base.specs.Refusal.{fault_of, IsMemory}
 pub use Rattle.life_base.specs.Rules.{has_digit, most_neighbours}
 pub use Rattle.life_base.specs.Tree.{depth, tree_cell}
 pub use Rattle.life_quad.specs.Grows.{IsWantOf, Keeps}
-pub use Rattle.life_quad.specs.Keeping.{IsWantFault}
+pub use Rattle.life_quad.specs.Keeping.{AddsOnly, IsWantFault}
 pub use Rattle.life_strip.specs.Filling.{IsEmpty, IsFilling}
 pub use Rattle.life_strip.specs.Given.{IsBehind, IsNext, IsOnPlane, state_by}
 pub use Rattle.life_sweep.specs.Generation.{after, LifeAnswers, LifeAnswersAt, named, neighborhood_of, states_at, TableAnswers, TableAnswersAt}

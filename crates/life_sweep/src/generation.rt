@@ -1,6 +1,6 @@
 //! The next generation of a square.
 ghost use Rattle.std.specs.Prelude.{◌≡◌, ◌⊎◌, ◌↔◌, ℤ, ◌<◌, ◌≤◌, All, IsTrue, Err, Some, None, IfOk, IfErr};
-ghost use Rattle.life_sweep.specs.Words.{fault_of, depth, tree_cell, IsWantFault, Becomes, SomeNext, GenerationRefusal, states_at, Keeps};
+ghost use Rattle.life_sweep.specs.Words.{fault_of, depth, tree_cell, IsWantFault, Becomes, SomeNext, GenerationRefusal, states_at, AddsOnly, Keeps};
 
 use crate::law::Law;
 use crate::sweep::next_square;
@@ -46,6 +46,9 @@ pub fn next_generation<S: Squares, L: Law>(
     ensures needed { result ≡ Err (fault_of Kind.Full)
         → SomeNext (S.needs_node squares.new) (L.answers law.old)
         (tree_cell (S.content squares.old id)) }
+    ensures adds { AddsOnly S.stored
+        (λ P. SomeNext P (L.answers law.old) (tree_cell (S.content squares.old id))) squares.old
+        squares.new }
     ensures keeps { Keeps S.Squares squares.old squares.new }
 {
     let list = cells(alloc, squares, id, most)?;

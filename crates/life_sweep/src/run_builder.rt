@@ -1,6 +1,6 @@
 //! A builder that is given whole runs, though the sweep draws place by place.
 ghost use Rattle.std.specs.Prelude.{◌≡◌, ◌≢◌, ◌⊎◌, ℤ, pos, ◌+ℤ◌, IsTrue, ◌↔◌, [], Err, None, OnOk, IfOk, IfErr};
-ghost use Rattle.life_sweep.specs.Words.{depth, tree_cell, IsEmpty, IsFilling, IsBehind, IsNext, IsOnPlane, state_by, SomeAbove, SomeOfAll, IsHolding, drawn_runs, one_cell, Keeps, IsWantOf};
+ghost use Rattle.life_sweep.specs.Words.{depth, tree_cell, IsEmpty, IsFilling, IsBehind, IsNext, IsOnPlane, state_by, SomeAbove, SomeOfAll, IsHolding, drawn_runs, one_cell, AddsOnly, Keeps, IsWantOf};
 
 use life_base::{Kind, MAX_LEVEL, Run, State};
 use life_quad::{Id, Squares};
@@ -47,6 +47,8 @@ impl RunBuilder {
         ensures refusals { IfErr result (IsWantOf S.Squares squares.new) }
         ensures needed { result ≡ Err Kind.Full
             → SomeAbove (S.needs_node squares.new) (drawn_runs self.old) }
+        ensures adds { AddsOnly S.stored (λ P. SomeAbove P (drawn_runs self.old)) squares.old
+            squares.new }
     {
         let Some(run) = self.unclosed else {
             return Ok(());
@@ -79,6 +81,8 @@ impl RunBuilder {
         ensures refusals { IfErr result (IsWantOf S.Squares squares.new) }
         ensures needed { result ≡ Err Kind.Full
             → SomeAbove (S.needs_node squares.new) (drawn_runs self.old) }
+        ensures adds { AddsOnly S.stored (λ P. SomeAbove P (drawn_runs self.old)) squares.old
+            squares.new }
     {
         if let Some(run) = self.unclosed {
             if is_continued_by(&run, x, y, state) {
@@ -109,6 +113,9 @@ impl RunBuilder {
         ensures needed { result ≡ Err Kind.Full
             → SomeAbove (S.needs_node squares.new) (drawn_runs self)
             ⊎ SomeOfAll (S.needs_node squares.new) (drawn_runs self) }
+        ensures adds { AddsOnly S.stored
+            (λ P. SomeAbove P (drawn_runs self) ⊎ SomeOfAll P (drawn_runs self)) squares.old
+            squares.new }
     {
         self.close(squares)?;
         self.builder.finish(squares)

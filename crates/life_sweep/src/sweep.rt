@@ -1,6 +1,6 @@
 //! The next generation, place by place.
 ghost use Rattle.std.specs.Prelude.{◌≡◌, ◌⊎◌, ◌↔◌, ℕ, ℤ, ◌<◌, true, false, All, Err, IfOk, IfErr, OnOk, IsTrue};
-ghost use Rattle.life_sweep.specs.Words.{fault_of, depth, tree_cell, IsWantFault, SomeAbove, SomeNext, IsHolding, drawn_runs, IsOnPlane, state_by, Becomes, Ambiguous, after, states_at, AreInside, AreSorted, IsSortedList, AreBelow, IsInside, IsSoundWindow, IsWindowBelow, states_of, IsScene, IsSorted, RefusesStep, IsPut, IsReady, IsReadyRow, IsSweptRows, IsFirstAmbiguous, Keeps};
+ghost use Rattle.life_sweep.specs.Words.{fault_of, depth, tree_cell, IsWantFault, SomeAbove, SomeNext, IsHolding, drawn_runs, IsOnPlane, state_by, Becomes, Ambiguous, after, states_at, AreInside, AreSorted, IsSortedList, AreBelow, IsInside, IsSoundWindow, IsWindowBelow, states_of, IsScene, IsSorted, RefusesStep, IsPut, IsReady, IsReadyRow, IsSweptRows, IsFirstAmbiguous, AddsOnly, Keeps};
 
 use crate::band::Band;
 use crate::column::Rows;
@@ -49,6 +49,8 @@ fn draw_place<S: Squares, L: Law>(
         × L.answers law.old (states_of window.now) (Ambiguous f.place.line))) }
     ensures needed { result ≡ Err (fault_of Kind.Full)
         → SomeAbove (S.needs_node squares.new) (drawn_runs builder.old) }
+    ensures adds { AddsOnly S.stored (λ P. SomeAbove P (drawn_runs builder.old)) squares.old
+        squares.new }
 {
     let state = law.next(&window.around())?;
     if state == 0 {
@@ -93,6 +95,9 @@ fn draw_row<S: Squares, L: Law>(
         → IsScene cells y rows.entry
         → IsSweptRows (L.answers law.old) cells (state_by (drawn_runs builder.old)) leaves y
         → SomeNext (S.needs_node squares.new) (L.answers law.old) cells }
+    ensures adds { AddsOnly S.stored (λ P. (cells : ℤ → ℤ → ℕ) → IsScene cells y rows.entry
+        → IsSweptRows (L.answers law.old) cells (state_by (drawn_runs builder.old)) leaves y
+        → SomeNext P (L.answers law.old) cells) squares.old squares.new }
 {
     let mut left = leaves;
     let mut window = Window::new(rows);
@@ -124,6 +129,8 @@ pub(crate) fn next_square<S: Squares, L: Law>(
         → RefusesStep (L.answers law.old) plane f)) }
     ensures needed { result ≡ Err (fault_of Kind.Full) → (plane : ℤ → ℤ → ℕ)
         → IsSorted plane cells.now → SomeNext (S.needs_node squares.new) (L.answers law.old) plane }
+    ensures adds { AddsOnly S.stored (λ P. (plane : ℤ → ℤ → ℕ) → IsSorted plane cells.now
+        → SomeNext P (L.answers law.old) plane) squares.old squares.new }
 {
     let mut builder = RunBuilder::new(alloc);
     empty_builder_fills::<S>();

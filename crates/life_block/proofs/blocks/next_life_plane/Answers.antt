@@ -4,6 +4,7 @@ use Rattle.life_base.specs.Rules.{has_digit}
 use Rattle.life_base.specs.Sets.{OuterTotalistic}
 use Rattle.life_base.specs.Tree.{tree_cell}
 use Rattle.life_quad.specs.Refused.{SomePart}
+use Rattle.life_quad.proofs.KeepingLemmas.{adds-as}
 use Rattle.life_sweep.specs.Generation.{next_life}
 use Rattle.life_block.specs.Needed.{square_from}
 use Rattle.life_block.proofs.RememberedLemmas.{Remembers-none}
@@ -64,3 +65,12 @@ returns-clause-needed g c =
     (λ needs same. subst (λ k. SomePart P (square_from f k (corner t) (corner t))) (sym c.requires.whole)
     (needs (tree_cell t) (corner t) (corner t) c.requires.states around))
     n.needed n.needed
+
+pub returns-clause-adds : goal.returns-clause-adds
+returns-clause-adds g c =
+    let t = g.S.Squares.content c.args.squares.now c.args.id in
+    let around = around-in_middle (divided g (goal.at.returns-clause-adds g c).After-empty-blank) c.in_middle-around.ensures in
+    let f = next_life c.args.rule.now (tree_cell t) in
+    adds-as _ c.next_of_middle.ensures.adds
+    (λ P some. subst (λ k. SomePart P (square_from f k (corner t) (corner t))) (sym c.requires.whole)
+    (some (tree_cell t) (corner t) (corner t) c.requires.states around))

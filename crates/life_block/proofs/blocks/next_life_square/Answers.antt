@@ -6,10 +6,10 @@ use Rattle.life_base.proofs.Results.{on_err_any, on_err_both}
 use Rattle.life_base.specs.Rules.{has_digit}
 use Rattle.life_base.specs.Sets.{OuterTotalistic}
 use Rattle.life_base.specs.Tree.{depth, tree_cell}
-use Rattle.life_quad.proofs.KeepingLemmas.{keeps-then}
+use Rattle.life_quad.proofs.KeepingLemmas.{keeps-then, adds-as}
 use Rattle.life_sweep.specs.Generation.{next_life}
 use Rattle.life_block.specs.Needed.{square_from}
-use Rattle.life_block.proofs.NeedLemmas.{AreParts, depth-square, is-piece, joined-is, parts-of_pieces, own-part, still-needs, on_err_map}
+use Rattle.life_block.proofs.NeedLemmas.{AreParts, depth-square, is-piece, joined-is, parts-of_pieces, own-part, still-needs, on_err_map, adds-more}
 use Rattle.life_block.proofs.RememberedLemmas.{Remembers-none}
 use Rattle.life_block.proofs.RootLemmas.{IsDivided, IsDivided-kept, quarters-at, outer, root-next, known-north_west, known-north_east, known-south_west, known-south_east, around-north_west, around-north_east, around-south_west, around-south_east, corner-part}
 use Rattle.life_block.proofs.blocks.next_life_square.Given.{Over}
@@ -185,3 +185,80 @@ returns-clause-needed g c =
     let joined = joined-is (parts g (goal.at.returns-clause-needed g c).After-join (divided g (goal.at.returns-clause-needed g c).After-empty-blank)) in
     on_err_both c.join.result (λ needs same. own-part (N c.join.new.self) _ _ _ _ _ joined (still-needs N _ _ _ same needs))
     c.join.ensures.needed c.join.ensures.unchanged
+
+pub returns-then-level-eq2-clause-adds : goal.returns-then-level-eq2-clause-adds
+returns-then-level-eq2-clause-adds g c =
+    let t = g.S.Squares.content c.args.squares.now c.args.id in
+    let is : depth t ≡ 2 = sym c.level-level.ensures.level ∙ c.if-level-eq2.true in
+    let f = next_life c.args.rule.now (tree_cell t) in
+    adds-as _ c.next_of_least.ensures.adds
+    (λ P some. subst (λ (k : ℕ). SomePart P (square_from f (suc k) (neg_ℤ (pos (2 ^ k))) (neg_ℤ (pos (2 ^ k))))) (sym is) some)
+
+pub returns-in_err-north_west-clause-adds : goal.returns-in_err-north_west-clause-adds
+returns-in_err-north_west-clause-adds g c =
+    let d = divided g (goal.at.returns-in_err-north_west-clause-adds g c).After-empty-blank in
+    adds-as _ c.in_err-north_west.ensures.adds
+    (λ P s. corner-part d P _ (inl (s _ _ _ c.requires.states (around-north_west d c.with-around.ensures))))
+
+pub returns-in_err-north_east-clause-adds : goal.returns-in_err-north_east-clause-adds
+returns-in_err-north_east-clause-adds g c =
+    let states = c.requires.states in
+    let nw = c.in_ok-north_west.ensures in
+    let d = divided g (goal.at.returns-in_err-north_east-clause-adds g c).After-empty-blank in
+    let e = IsDivided-kept nw.keeps d in
+    adds-more
+    (adds-as _ nw.adds (λ P s. corner-part d P _ (inl (s _ _ _ states (around-north_west d c.with-around.ensures)))))
+    c.in_err-north_east.ensures.adds (λ P s. corner-part e P _ (inr (inl (s _ _ _ states (around-north_east e c.with-around-2.ensures)))))
+
+pub returns-in_err-south_west-clause-adds : goal.returns-in_err-south_west-clause-adds
+returns-in_err-south_west-clause-adds g c =
+    let states = c.requires.states in
+    let nw = c.in_ok-north_west.ensures in
+    let ne = c.in_ok-north_east.ensures in
+    let d = divided g (goal.at.returns-in_err-south_west-clause-adds g c).After-empty-blank in
+    let e = IsDivided-kept nw.keeps d in
+    let f = IsDivided-kept (keeps-then nw.keeps ne.keeps) d in
+    adds-more
+    (adds-more
+    (adds-as _ nw.adds (λ P s. corner-part d P _ (inl (s _ _ _ states (around-north_west d c.with-around.ensures)))))
+    ne.adds (λ P s. corner-part e P _ (inr (inl (s _ _ _ states (around-north_east e c.with-around-2.ensures))))))
+    c.in_err-south_west.ensures.adds (λ P s. corner-part f P _ (inr (inr (inl (s _ _ _ states (around-south_west f c.with-around-3.ensures))))))
+
+pub returns-in_err-south_east-clause-adds : goal.returns-in_err-south_east-clause-adds
+returns-in_err-south_east-clause-adds g c =
+    let states = c.requires.states in
+    let nw = c.in_ok-north_west.ensures in
+    let ne = c.in_ok-north_east.ensures in
+    let sw = c.in_ok-south_west.ensures in
+    let d = divided g (goal.at.returns-in_err-south_east-clause-adds g c).After-empty-blank in
+    let e = IsDivided-kept nw.keeps d in
+    let f = IsDivided-kept (keeps-then nw.keeps ne.keeps) d in
+    let h = IsDivided-kept (keeps-then (keeps-then nw.keeps ne.keeps) sw.keeps) d in
+    adds-more
+    (adds-more
+    (adds-more
+    (adds-as _ nw.adds (λ P s. corner-part d P _ (inl (s _ _ _ states (around-north_west d c.with-around.ensures)))))
+    ne.adds (λ P s. corner-part e P _ (inr (inl (s _ _ _ states (around-north_east e c.with-around-2.ensures))))))
+    sw.adds (λ P s. corner-part f P _ (inr (inr (inl (s _ _ _ states (around-south_west f c.with-around-3.ensures)))))))
+    c.in_err-south_east.ensures.adds (λ P s. corner-part h P _ (inr (inr (inr (s _ _ _ states (around-south_east h c.with-around-4.ensures))))))
+
+pub returns-clause-adds : goal.returns-clause-adds
+returns-clause-adds g c =
+    let states = c.requires.states in
+    let nw = c.in_ok-north_west.ensures in
+    let ne = c.in_ok-north_east.ensures in
+    let sw = c.in_ok-south_west.ensures in
+    let d = divided g (goal.at.returns-clause-adds g c).After-empty-blank in
+    let e = IsDivided-kept nw.keeps d in
+    let f = IsDivided-kept (keeps-then nw.keeps ne.keeps) d in
+    let h = IsDivided-kept (keeps-then (keeps-then nw.keeps ne.keeps) sw.keeps) d in
+    let joined = joined-is (parts g (goal.at.returns-clause-adds g c).After-join d) in
+    adds-more
+    (adds-more
+    (adds-more
+    (adds-more
+    (adds-as _ nw.adds (λ P s. corner-part d P _ (inl (s _ _ _ states (around-north_west d c.with-around.ensures)))))
+    ne.adds (λ P s. corner-part e P _ (inr (inl (s _ _ _ states (around-north_east e c.with-around-2.ensures))))))
+    sw.adds (λ P s. corner-part f P _ (inr (inr (inl (s _ _ _ states (around-south_west f c.with-around-3.ensures)))))))
+    c.in_ok-south_east.ensures.adds (λ P s. corner-part h P _ (inr (inr (inr (s _ _ _ states (around-south_east h c.with-around-4.ensures)))))))
+    c.join.ensures.adds (λ P p. own-part P _ _ _ _ _ joined p)

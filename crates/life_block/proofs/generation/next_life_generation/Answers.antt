@@ -6,9 +6,10 @@ use Rattle.life_base.specs.Tree.{depth, tree_cell}
 use Rattle.life_base.specs.declared.cell.TheConstants.{MAX_LEVEL}
 use Rattle.life_quad.specs.Cells.{population}
 use Rattle.life_quad.specs.Keeping.{IsWantFault}
+use Rattle.life_quad.proofs.KeepingLemmas.{adds-as}
 use Rattle.life_sweep.specs.Generation.{next_life, LifeAnswers}
 use Rattle.life_sweep.specs.Refused.{SomeNext, GenerationRefusal}
-use Rattle.life_block.specs.Needed.{of_plane}
+use Rattle.life_block.specs.Needed.{of_plane, of_square}
 use Rattle.life_block.proofs.GenerationLemmas.{accepted, same-state}
 use Rattle.life_block.proofs.PlaneLemmas.{plane-part}
 use Rattle.life_block.proofs.generation.next_life_generation.Goals as goal
@@ -65,3 +66,34 @@ returns-in_err-next_life_plane-clause-needed g c full =
     let whole : depth (g.S.Squares.content c.args.squares.now c.args.id) ≡ MAX_LEVEL = sym c.level.ensures.level ∙ c.if-level-eq-MAX_LEVEL.true in
     let clear = c.in_ok-reaches_edge.ensures.clear c.if-branch.false whole in
     plane-part c.life_answers_at.ensures _ c.args.rule.now _ whole c.in_err-next_life_plane.ensures.quiet clear c.in_err-next_life_plane.ensures.needed
+
+pub returns-then-branch-clause-adds : goal.returns-then-branch-clause-adds
+returns-then-branch-clause-adds g c =
+    let t = g.S.Squares.content c.args.squares.now c.args.id in
+    adds-as _ c.next_generation.ensures.adds
+    (λ P some. of_plane (c.in_ok-reaches_edge.ensures.whole c.if-branch.true)
+    (subst (λ (rule : OuterTotalistic). SomeNext P (LifeAnswers rule) (tree_cell t)) c.new-law.ensures some))
+
+pub returns-in_err-next_life_plane-clause-adds : goal.returns-in_err-next_life_plane-clause-adds
+returns-in_err-next_life_plane-clause-adds g c =
+    let e = c.in_err-next_life_plane.ensures in
+    let whole : depth (g.S.Squares.content c.args.squares.now c.args.id) ≡ MAX_LEVEL = sym c.level.ensures.level ∙ c.if-level-eq-MAX_LEVEL.true in
+    let clear = c.in_ok-reaches_edge.ensures.clear c.if-branch.false whole in
+    adds-as _ e.adds (λ P. plane-part c.life_answers_at.ensures P c.args.rule.now _ whole e.quiet clear)
+
+pub returns-then-level-eq-MAX_LEVEL-clause-adds : goal.returns-then-level-eq-MAX_LEVEL-clause-adds
+returns-then-level-eq-MAX_LEVEL-clause-adds g c =
+    let e = c.in_ok-next_life_plane.ensures in
+    let whole : depth (g.S.Squares.content c.args.squares.now c.args.id) ≡ MAX_LEVEL = sym c.level.ensures.level ∙ c.if-level-eq-MAX_LEVEL.true in
+    let clear = c.in_ok-reaches_edge.ensures.clear c.if-branch.false whole in
+    adds-as _ e.adds (λ P. plane-part c.life_answers_at.ensures P c.args.rule.now _ whole e.quiet clear)
+
+pub returns-in_err-next_life_square-clause-adds : goal.returns-in_err-next_life_square-clause-adds
+returns-in_err-next_life_square-clause-adds g c =
+    let low = c.level.ensures in
+    adds-as _ c.in_err-next_life_square.ensures.adds (λ P. of_square (omega (arith, low.level, low.low, c.if-level-eq-MAX_LEVEL.false)))
+
+pub returns-clause-adds : goal.returns-clause-adds
+returns-clause-adds g c =
+    let low = c.level.ensures in
+    adds-as _ c.in_ok-next_life_square.ensures.adds (λ P. of_square (omega (arith, low.level, low.low, c.if-level-eq-MAX_LEVEL.false)))

@@ -5,13 +5,13 @@ use Rattle.life_base.specs.Tree.{Tree}
 use Rattle.life_base.proofs.Results.{on_err_any, on_err_both}
 use Rattle.life_quad.specs.Refused.{SomePart}
 use Rattle.life_quad.specs.Store.{four}
-use Rattle.life_quad.proofs.KeepingLemmas.{keeps-then}
+use Rattle.life_quad.proofs.KeepingLemmas.{keeps-then, adds-as}
 use Rattle.life_sweep.specs.Generation.{next_life}
 use Rattle.life_block.specs.Bits.{AreBands}
-use Rattle.life_block.specs.Needed.{square_from}
+use Rattle.life_block.specs.Needed.{SomeOfBands}
 use Rattle.life_block.specs.Pieces.{back, ahead}
 use Rattle.life_block.proofs.BandLemmas.{HasBand-moved}
-use Rattle.life_block.proofs.NeedLemmas.{AreParts, is-piece, joined-is, own-part, part-of_parts, still-needs}
+use Rattle.life_block.proofs.NeedLemmas.{AreParts, is-piece, joined-is, own-part, part-of_parts, still-needs, adds-more}
 use Rattle.life_block.proofs.leaf.next_of_bands.Given.{Over}
 use Rattle.life_block.proofs.leaf.next_of_bands.Goals as goal
 use Rattle.life_block.proofs.leaf.next_of_bands.Goals.{After-next_squares-south}
@@ -71,30 +71,30 @@ returns-clause-next g c =
     let p = words g (goal.at.returns-clause-next g c).After-next_squares-south cells x y h in is-piece _ _ x y _ (e ∙ joined-is (parts g c _ x y p)))
     c.join.ensures.square
 
--- a part of one of them that a refused call lacked
-lacked : (g : Over) (c : After-next_squares-south g) (P : Tree → Type 0) → let north = c.next_squares-north.result in
+-- a part of one of them is one of the next square
+some : (g : Over) (c : After-next_squares-south g) (P : Tree → Type 0) → let north = c.next_squares-north.result in
     let south = c.next_squares-south.result in
     SomePart P (four north.0) ⊎ SomePart P (four north.1) ⊎ SomePart P (four south.0) ⊎ SomePart P (four south.1)
-    → (cells : ℤ → ℤ → ℕ) (x y : ℤ) → AreBands cells x y c.args.bands.now → SomePart P (square_from (next_life c.args.rule.now cells) 3 x y)
-lacked g c P some cells x y h = part-of_parts P _ 2 x y (words g c cells x y h) some
+    → SomeOfBands P c.args.rule.now c.args.bands.now
+some g c P part cells x y h = part-of_parts P _ 2 x y (words g c cells x y h) part
 
 pub returns-in_err-nw-clause-needed : goal.returns-in_err-nw-clause-needed
 returns-in_err-nw-clause-needed g c = on_err_any c.from_residual.result
-    (lacked g (goal.at.returns-in_err-nw-clause-needed g c).After-next_squares-south (g.S.Squares.needs_node c.small.new.self) (inl c.in_err-nw.ensures.needed))
+    (some g (goal.at.returns-in_err-nw-clause-needed g c).After-next_squares-south (g.S.Squares.needs_node c.small.new.self) (inl c.in_err-nw.ensures.needed))
 
 pub returns-in_err-ne-clause-needed : goal.returns-in_err-ne-clause-needed
 returns-in_err-ne-clause-needed g c = on_err_any c.from_residual-in_err-ne.result
-    (lacked g (goal.at.returns-in_err-ne-clause-needed g c).After-next_squares-south (g.S.Squares.needs_node c.small-2.new.self)
+    (some g (goal.at.returns-in_err-ne-clause-needed g c).After-next_squares-south (g.S.Squares.needs_node c.small-2.new.self)
     (inr (inl c.in_err-ne.ensures.needed)))
 
 pub returns-in_err-sw-clause-needed : goal.returns-in_err-sw-clause-needed
 returns-in_err-sw-clause-needed g c = on_err_any c.from_residual-in_err-sw.result
-    (lacked g (goal.at.returns-in_err-sw-clause-needed g c).After-next_squares-south (g.S.Squares.needs_node c.small-3.new.self)
+    (some g (goal.at.returns-in_err-sw-clause-needed g c).After-next_squares-south (g.S.Squares.needs_node c.small-3.new.self)
     (inr (inr (inl c.in_err-sw.ensures.needed))))
 
 pub returns-in_err-se-clause-needed : goal.returns-in_err-se-clause-needed
 returns-in_err-se-clause-needed g c = on_err_any c.from_residual-in_err-se.result
-    (lacked g (goal.at.returns-in_err-se-clause-needed g c).After-next_squares-south (g.S.Squares.needs_node c.small-4.new.self)
+    (some g (goal.at.returns-in_err-se-clause-needed g c).After-next_squares-south (g.S.Squares.needs_node c.small-4.new.self)
     (inr (inr (inr c.in_err-se.ensures.needed))))
 
 pub returns-clause-needed : goal.returns-clause-needed
@@ -105,3 +105,39 @@ returns-clause-needed g c =
     let p = words g (goal.at.returns-clause-needed g c).After-next_squares-south cells x y h in
     own-part (N c.join.new.self) _ 2 x y _ (joined-is (parts g c _ x y p)) (still-needs N _ _ _ same needs))
     c.join.ensures.needed c.join.ensures.unchanged
+
+pub returns-in_err-nw-clause-adds : goal.returns-in_err-nw-clause-adds
+returns-in_err-nw-clause-adds g c =
+    let a = (goal.at.returns-in_err-nw-clause-adds g c).After-next_squares-south in adds-as _ c.in_err-nw.ensures.adds (λ P s. some g a P (inl s))
+
+pub returns-in_err-ne-clause-adds : goal.returns-in_err-ne-clause-adds
+returns-in_err-ne-clause-adds g c =
+    let a = (goal.at.returns-in_err-ne-clause-adds g c).After-next_squares-south in
+    adds-more (adds-as _ c.in_ok-nw.ensures.adds (λ P s. some g a P (inl s))) c.in_err-ne.ensures.adds (λ P s. some g a P (inr (inl s)))
+
+pub returns-in_err-sw-clause-adds : goal.returns-in_err-sw-clause-adds
+returns-in_err-sw-clause-adds g c =
+    let a = (goal.at.returns-in_err-sw-clause-adds g c).After-next_squares-south in
+    adds-more
+    (adds-more (adds-as _ c.in_ok-nw.ensures.adds (λ P s. some g a P (inl s))) c.in_ok-ne.ensures.adds (λ P s. some g a P (inr (inl s))))
+    c.in_err-sw.ensures.adds (λ P s. some g a P (inr (inr (inl s))))
+
+pub returns-in_err-se-clause-adds : goal.returns-in_err-se-clause-adds
+returns-in_err-se-clause-adds g c =
+    let a = (goal.at.returns-in_err-se-clause-adds g c).After-next_squares-south in
+    adds-more
+    (adds-more
+    (adds-more (adds-as _ c.in_ok-nw.ensures.adds (λ P s. some g a P (inl s))) c.in_ok-ne.ensures.adds (λ P s. some g a P (inr (inl s))))
+    c.in_ok-sw.ensures.adds (λ P s. some g a P (inr (inr (inl s)))))
+    c.in_err-se.ensures.adds (λ P s. some g a P (inr (inr (inr s))))
+
+pub returns-clause-adds : goal.returns-clause-adds
+returns-clause-adds g c =
+    let a = (goal.at.returns-clause-adds g c).After-next_squares-south in
+    adds-more
+    (adds-more
+    (adds-more
+    (adds-more (adds-as _ c.in_ok-nw.ensures.adds (λ P s. some g a P (inl s))) c.in_ok-ne.ensures.adds (λ P s. some g a P (inr (inl s))))
+    c.in_ok-sw.ensures.adds (λ P s. some g a P (inr (inr (inl s)))))
+    c.in_ok-se.ensures.adds (λ P s. some g a P (inr (inr (inr s)))))
+    c.join.ensures.adds (λ P p cells x y h. own-part P _ 2 x y _ (joined-is (parts g (goal.at.returns-clause-adds g c).After-join _ x y (words g a cells x y h))) p)

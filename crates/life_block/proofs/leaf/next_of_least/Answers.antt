@@ -1,6 +1,7 @@
 use Rattle.std.proofs.Common.{◌*◌, ◌/◌, ◌%◌, ◌^◌, pos, neg_ℤ, arith, ℕ, ℤ}
 use Rattle.std.proofs.lemmas.Result.{IfOk-weaker}
 use Rattle.life_base.specs.Tree.{tree_cell}
+use Rattle.life_quad.proofs.KeepingLemmas.{adds-as}
 use Rattle.life_block.specs.Bits.{AreBands}
 use Rattle.life_block.specs.Pieces.{four_of}
 use Rattle.life_block.proofs.LeastLemmas.{bands-of_least}
@@ -28,3 +29,6 @@ pub returns-clause-needed : goal.returns-clause-needed
 returns-clause-needed g c =
     on_err_map c.next_of_bands.result (λ needed. needed (plane g c) (neg_ℤ (pos 4)) (neg_ℤ (pos 4)) (bands g c))
     c.next_of_bands.ensures.needed
+
+pub returns-clause-adds : goal.returns-clause-adds
+returns-clause-adds g c = adds-as _ c.next_of_bands.ensures.adds (λ P some. some (plane g c) (neg_ℤ (pos 4)) (neg_ℤ (pos 4)) (bands g c))

@@ -3,17 +3,16 @@ use Rattle.std.proofs.lemmas.Result.{IfOk-weaker, err_from_is_err_and}
 use Rattle.life_base.specs.Tree.{depth, tree_cell}
 use Rattle.life_base.specs.declared.cell.TheConstants.{MAX_LEVEL}
 use Rattle.life_mc.specs.Macrocell.{largest_state}
-use Rattle.life_quad.specs.Refused.{TrimmedTo}
 use Rattle.life_quad.proofs.LawLemmas.{known_squares_are_full}
 use Rattle.life_sweep.specs.Refused.{GenerationRefusal}
 use Rattle.life_sweep.specs.Generation.{LifeAnswers}
-use Rattle.life_quad.proofs.KeepingLemmas.{keeps-then}
+use Rattle.life_quad.proofs.KeepingLemmas.{keeps-then, adds-as, adds-then}
 use Rattle.life_canon.specs.Files.{Reads}
 use Rattle.life_canon.specs.Needs.{IsNew}
 use Rattle.life_canon.specs.Store.{content, IsRead}
 use Rattle.life_canon.specs.Universe.{Universe, least_level}
-use Rattle.life_step.specs.Refusals.{LacksForLife, of_generation, of_root, LifeRefusal}
-use Rattle.life_step.proofs.NeedFacts.{handed-on}
+use Rattle.life_step.specs.Refusals.{LacksForLife, SomeByRule, of_generation, LifeRefusal}
+use Rattle.life_step.proofs.NeedFacts.{handed-on, root-by_rule}
 use Rattle.life_step.proofs.StepFacts.{next-small, needs-table, life-last, life-refused-read, life-stepped-read}
 use Rattle.life_step.proofs.steps.next_by_rule.Goals as goal
 
@@ -97,15 +96,19 @@ returns-in_err-square-clause-needed c full =
 
 pub returns-clause-needed : goal.returns-clause-needed
 returns-clause-needed c full =
+    let square = c.in_ok-square.ensures in
+    root-by_rule (IsNew c.text_of_square.new.store) c.in-Life.is (known_squares_are_full c.next_life_generation.new.squares _ square.known.0).0 square.level
+    square.next (c.text_of_square.ensures.needed full)
+
+pub returns-in_err-square-clause-adds : goal.returns-in_err-square-clause-adds
+returns-in_err-square-clause-adds c =
     let root = content c.args.store.now c.args.pattern.root in
-    let mid = c.next_life_generation.new.squares in
-    let id = c.in_ok-square.square in
-    let store = c.text_of_square.new.store in
-    subst (λ q. LacksForLife q root store) (sym c.in-Life.is)
-    (of_root (record {
-      square = content mid id;
-      full = (known_squares_are_full mid id c.in_ok-square.ensures.known.0).0;
-      is = c.in_ok-square.ensures.level;
-      cells = c.in_ok-square.ensures.next;
-      smaller = subst (λ q. TrimmedTo (IsNew store) (content mid id) (least_level q)) c.in-Life.is (c.text_of_square.ensures.needed full);
-    }))
+    adds-as _ c.in_err-square.ensures.adds (λ P some. subst (λ q. SomeByRule P q root) (sym c.in-Life.is) (of_generation some))
+
+pub returns-clause-adds : goal.returns-clause-adds
+returns-clause-adds c =
+    let root = content c.args.store.now c.args.pattern.root in
+    let square = c.in_ok-square.ensures in
+    adds-then _ square.adds c.text_of_square.ensures.adds
+    (λ P some. subst (λ q. SomeByRule P q root) (sym c.in-Life.is) (of_generation some))
+    (λ P. root-by_rule P c.in-Life.is (known_squares_are_full c.next_life_generation.new.squares _ square.known.0).0 square.level square.next)

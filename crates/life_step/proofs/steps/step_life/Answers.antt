@@ -1,8 +1,8 @@
 use Rattle.std.proofs.Common.{inl, inr}
 use Rattle.std.proofs.lemmas.Result.{IfOk-weaker}
 use Rattle.life_base.specs.declared.cell.TheConstants.{MAX_LEVEL}
-use Rattle.life_quad.proofs.KeepingLemmas.{keeps-then}
-use Rattle.life_step.specs.Refusals.{LacksForLife, LifeRefusal}
+use Rattle.life_quad.proofs.KeepingLemmas.{keeps-then, adds-as, adds-then}
+use Rattle.life_step.specs.Refusals.{LacksForLife, SomeByRule, LifeRefusal}
 use Rattle.std.specs.Prelude.{Some}
 use Rattle.life_step.proofs.NeedFacts.{handed-on, step-lacks}
 use Rattle.life_step.proofs.StepFacts.{step-refused}
@@ -30,3 +30,12 @@ pub returns-clause-needed : goal.returns-clause-needed
 returns-clause-needed c full =
     inr (step-lacks (λ q t. LacksForLife q t c.next_by_rule.new.store) c.args.bytes.now _ _ c.in_ok-pattern.ensures.pattern
     (c.next_by_rule.ensures.needed full))
+
+pub returns-in_err-pattern-clause-adds : goal.returns-in_err-pattern-clause-adds
+returns-in_err-pattern-clause-adds c = adds-as _ c.in_err-pattern.ensures.reads.adds (λ P some. inl some)
+
+pub returns-clause-adds : goal.returns-clause-adds
+returns-clause-adds c =
+    let read = c.in_ok-pattern.ensures in
+    adds-then _ read.reads.adds c.next_by_rule.ensures.adds (λ P some. inl some)
+    (λ P some. inr (step-lacks (λ q t. SomeByRule P q t) c.args.bytes.now _ _ read.pattern some))

@@ -2,6 +2,7 @@ use Rattle.std.proofs.Common.{ℕ, ap, ◌∙◌, subst}
 use Rattle.std.proofs.lemmas.Result.{IfOk-weaker}
 use Rattle.life_quad.specs.Moves.{trimmed}
 use Rattle.life_quad.specs.Refused.{TrimmedTo}
+use Rattle.life_quad.proofs.KeepingLemmas.{adds-as}
 use Rattle.life_quad.proofs.LawLemmas.{known_squares_are_full}
 use Rattle.life_canon.specs.Needs.{IsNew}
 use Rattle.life_canon.specs.Store.{content}
@@ -30,3 +31,11 @@ returns-clause-text c =
 pub returns-in_err-root-clause-needed : goal.returns-in_err-root-clause-needed
 returns-in_err-root-clause-needed c full =
     subst (λ (n : ℕ). TrimmedTo (IsNew c.trim.new.squares) (content c.args.store.now c.args.square) n) c.least_level.ensures c.in_err-root.ensures.needed
+
+pub returns-in_err-root-clause-adds : goal.returns-in_err-root-clause-adds
+returns-in_err-root-clause-adds c =
+    adds-as _ c.in_err-root.ensures.adds (λ P. subst (λ (n : ℕ). TrimmedTo P (content c.args.store.now c.args.square) n) c.least_level.ensures)
+
+pub returns-clause-adds : goal.returns-clause-adds
+returns-clause-adds c =
+    adds-as _ c.in_ok-root.ensures.adds (λ P. subst (λ (n : ℕ). TrimmedTo P (content c.args.store.now c.args.square) n) c.least_level.ensures)

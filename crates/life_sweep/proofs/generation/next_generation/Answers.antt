@@ -7,6 +7,7 @@ use Rattle.life_base.specs.declared.cell.Cell.{Cell}
 use Rattle.life_base.specs.declared.fault.Fault.{Fault}
 use Rattle.life_base.specs.declared.kind.Kind.{Kind}
 use Rattle.life_quad.specs.Cells.{population}
+use Rattle.life_quad.proofs.KeepingLemmas.{adds-as}
 use Rattle.life_sweep.specs.Refused.{GenerationRefusal, HasStateFrom}
 use Rattle.life_sweep.specs.Rows.{IsInside, IsRestOf, first_coordinate}
 use Rattle.life_sweep.specs.Sweep.{IsSorted}
@@ -95,3 +96,6 @@ returns-clause-refusals g c =
 
 pub returns-clause-needed : goal.returns-clause-needed
 returns-clause-needed g c full = c.next_square.ensures.needed full _ (sorted g (goal.at.returns-clause-needed g c).After-deref-2)
+
+pub returns-clause-adds : goal.returns-clause-adds
+returns-clause-adds g c = adds-as _ c.next_square.ensures.adds (λ P some. some _ (sorted g (goal.at.returns-clause-adds g c).After-deref-2))

@@ -1,11 +1,13 @@
 use Rattle.std.proofs.Common.{◌≡◌, ℕ, ℤ, inl, inr, ◌<ℤ◌, refl, sym, ◌∙◌, subst, arith}
 use Rattle.std.proofs.lemmas.Int.{ints}
 use Rattle.std.proofs.lemmas.Result.{err_from_is_err_and}
-use Rattle.life_quad.proofs.KeepingLemmas.{keeps-same, keeps-then}
+use Rattle.life_quad.specs.Keeping.{AddsOnly}
+use Rattle.life_quad.proofs.KeepingLemmas.{keeps-same, keeps-then, adds-none, adds-as, adds-then}
 use Rattle.life_strip.specs.Given.{state_by}
 use Rattle.life_sweep.specs.Generation.{after}
 use Rattle.life_sweep.specs.Rows.{IsWindow, IsWindowBelow, first_coordinate, states_of}
 use Rattle.life_table.specs.Meaning.{Ambiguous}
+use Rattle.life_sweep.specs.Refused.{SomeNext}
 use Rattle.life_sweep.specs.RunBuilder.{drawn_runs}
 use Rattle.life_sweep.specs.Sweep.{IsPut, IsReadyRow, IsScene, IsSwept, IsSweptRows}
 use Rattle.life_sweep.proofs.NeedLemmas.{swept-needs}
@@ -33,6 +35,7 @@ loop-window-init g c =
             scene.blank west rows,
       );
       keeps = keeps-same c.args.squares.now;
+      adds = adds-none _ c.args.squares.now;
     }
 
 pub draw_place-requires-clause-states : goal.draw_place-requires-clause-states
@@ -71,6 +74,9 @@ loop-window-preserved g c =
                 (g.met.L.Law.quiet c.args.law.now) on s.1 put h.others,
           );
       keeps = keeps-then inv.keeps h.keeps;
+      adds = adds-then _ inv.adds h.adds (λ P some. some)
+          (λ P s cells scene rows. swept-needs P (g.L.Law.answers c.args.law.now) cells (drawn_runs c.loop-window.builder) c.loop-window.left _ _
+          (inv.swept cells scene rows).1 s);
     }
 
 -- the places of the row so far are drawn
@@ -129,3 +135,25 @@ returns-in_err-left-clause-needed g c =
 
 pub returns-in_err-left-clause-keeps : goal.returns-in_err-left-clause-keeps
 returns-in_err-left-clause-keeps g c = keeps-then c.loop-window.invariant.keeps c.in_err-left.ensures.keeps
+
+-- what the places of the row so far have added
+added : (g : Over) (c : After-advance g) → AddsOnly g.S.Squares.stored
+    (λ P. (cells : ℤ → ℤ → ℕ) → IsScene cells c.args.y c.args.rows
+    → IsSweptRows (g.L.Law.answers c.args.law.now) cells (state_by (drawn_runs c.args.builder.now)) c.args.leaves c.args.y
+    → SomeNext P (g.L.Law.answers c.args.law.now) cells)
+    c.args.squares.now c.loop-window.squares
+added g c =
+    let e : c.args.y ≡ kept c.args.y = omega (arith, ints, c.ranges.y) in
+    adds-as _ c.loop-window.invariant.adds
+    (λ P some cells scene rows. some cells (subst (λ z. IsScene cells z c.args.rows) e scene)
+    (subst (λ z. IsSweptRows (g.L.Law.answers c.args.law.now) cells (state_by (drawn_runs c.args.builder.now)) c.args.leaves z) e rows))
+
+pub returns-in_err-left-clause-adds : goal.returns-in_err-left-clause-adds
+returns-in_err-left-clause-adds g c =
+    let a = (goal.at.returns-in_err-left-clause-adds g c).After-advance in
+    adds-then _ (added g a) c.in_err-left.ensures.adds (λ P some. some)
+    (λ P s cells scene rows. swept-needs P (g.L.Law.answers c.args.law.now) cells (drawn_runs c.loop-window.builder) c.loop-window.left _ _
+    (swept g a cells scene rows).1 s)
+
+pub returns-clause-adds : goal.returns-clause-adds
+returns-clause-adds g c = added g (goal.at.returns-clause-adds g c).After-advance

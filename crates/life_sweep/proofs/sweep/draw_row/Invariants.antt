@@ -1,5 +1,6 @@
 use Rattle.std.proofs.Common.{◌≡◌, ℕ, ℤ}
-use Rattle.life_quad.specs.Keeping.{KeepsSquares}
+use Rattle.life_quad.specs.Keeping.{KeepsSquares, AddsOnly}
+use Rattle.life_sweep.specs.Refused.{SomeNext}
 use Rattle.life_sweep.specs.RunBuilder.{IsHolding, drawn_runs}
 use Rattle.life_strip.specs.Given.{state_by}
 use Rattle.life_sweep.specs.Generation.{after}
@@ -19,6 +20,10 @@ invariant-loop-window g l = record {
       → IsSweptRows (g.L.Law.answers l.fn.law) cells (state_by (drawn_runs l.fn.builder)) l.leaves l.y
       → IsWindow cells l.y l.window × IsSwept (g.L.Law.answers l.fn.law) cells (state_by (drawn_runs l.builder)) l.left (after l.window.x) l.y;
   keeps : KeepsSquares g.S.Squares.knows g.S.Squares.content g.S.Squares.stored g.S.Squares.most l.fn.squares l.squares;
+  adds : AddsOnly g.S.Squares.stored
+      (λ P. (cells : ℤ → ℤ → ℕ) → IsScene cells l.y l.fn.rows
+      → IsSweptRows (g.L.Law.answers l.fn.law) cells (state_by (drawn_runs l.fn.builder)) l.leaves l.y → SomeNext P (g.L.Law.answers l.fn.law) cells)
+      l.fn.squares l.squares;
 }
 
 abbrev pub decreases-loop-window : goal.decreases-loop-window

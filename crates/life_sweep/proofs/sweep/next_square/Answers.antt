@@ -1,7 +1,7 @@
 use Rattle.std.proofs.Common.{◌≡◌, ℕ, ℤ, inl, inr, refl, sym, ◌∙◌, subst, arith}
 use Rattle.std.proofs.lemmas.Int.{ints}
 use Rattle.std.proofs.lemmas.Result.{err_from_is_err_and}
-use Rattle.life_quad.proofs.KeepingLemmas.{keeps-same, keeps-then}
+use Rattle.life_quad.proofs.KeepingLemmas.{keeps-same, keeps-then, adds-none, adds-then}
 use Rattle.life_strip.specs.Given.{state_by}
 use Rattle.life_table.specs.Meaning.{Becomes}
 use Rattle.life_sweep.specs.Generation.{after, states_at}
@@ -37,6 +37,7 @@ loop-band-init g c =
             (nothing-drawn (drawn_runs c.new-builder.result) c.new-builder.ensures.drawn),
       );
       keeps = keeps-same c.args.squares.now;
+      adds = adds-none _ c.args.squares.now;
     }
 
 pub draw_row-requires-clause-states : goal.draw_row-requires-clause-states
@@ -97,6 +98,9 @@ loop-band-preserved g c =
             (h.swept plane (scene g a plane sorted) (before g a plane sorted))),
       );
       keeps = keeps-then inv.keeps h.keeps;
+      adds = adds-then _ inv.adds h.adds (λ P some. some)
+          (λ P some plane sorted. subst (λ law. SomeNext P (g.L.Law.answers law) plane) inv.same
+          (some plane (scene g a plane sorted) (before g a plane sorted)));
     }
 
 pub returns-in_err-leaves-clause-refusals : goal.returns-in_err-leaves-clause-refusals
@@ -157,3 +161,31 @@ returns-in_err-finish-clause-keeps g c = keeps-then c.loop-band.invariant.keeps 
 
 pub returns-clause-keeps : goal.returns-clause-keeps
 returns-clause-keeps g c = keeps-then c.loop-band.invariant.keeps c.in_ok-finish.ensures.keeps
+
+pub returns-in_err-leaves-clause-adds : goal.returns-in_err-leaves-clause-adds
+returns-in_err-leaves-clause-adds g c =
+    let a = (goal.at.returns-in_err-leaves-clause-adds g c).After-draw_row in
+    let inv = c.loop-band.invariant in
+    adds-then _ inv.adds c.in_err-leaves.ensures.adds (λ P some. some)
+    (λ P some plane sorted. subst (λ law. SomeNext P (g.L.Law.answers law) plane) inv.same
+    (some plane (scene g a plane sorted) (before g a plane sorted)))
+
+pub returns-in_err-finish-clause-adds : goal.returns-in_err-finish-clause-adds
+returns-in_err-finish-clause-adds g c =
+    let inv = c.loop-band.invariant in
+    adds-then _ inv.adds c.in_err-finish.ensures.adds (λ P some. some)
+    (λ P some plane sorted.
+    let s = inv.swept plane sorted in
+    let over = c.advance.ensures.over c.loop-band-test.false plane sorted.blank s.0 in
+    all-needs P (g.L.Law.answers c.args.law.now) plane (drawn_runs c.loop-band.builder) c.loop-band.leaves c.if-leaves.false
+    (all-rows _ plane _ _ _ (g.met.L.Law.quiet c.args.law.now) over s.1) some)
+
+pub returns-clause-adds : goal.returns-clause-adds
+returns-clause-adds g c =
+    let inv = c.loop-band.invariant in
+    adds-then _ inv.adds c.in_ok-finish.ensures.adds (λ P some. some)
+    (λ P some plane sorted.
+    let s = inv.swept plane sorted in
+    let over = c.advance.ensures.over c.loop-band-test.false plane sorted.blank s.0 in
+    all-needs P (g.L.Law.answers c.args.law.now) plane (drawn_runs c.loop-band.builder) c.loop-band.leaves c.if-leaves.false
+    (all-rows _ plane _ _ _ (g.met.L.Law.quiet c.args.law.now) over s.1) some)

@@ -1,5 +1,6 @@
 use Rattle.std.proofs.Common.{◌≡◌, ℕ, ℤ}
-use Rattle.life_quad.specs.Keeping.{KeepsSquares}
+use Rattle.life_quad.specs.Keeping.{KeepsSquares, AddsOnly}
+use Rattle.life_sweep.specs.Refused.{SomeNext}
 use Rattle.life_sweep.specs.RunBuilder.{IsHolding, drawn_runs}
 use Rattle.life_strip.specs.Given.{state_by}
 use Rattle.life_sweep.specs.Generation.{after}
@@ -18,6 +19,8 @@ invariant-loop-band g l = record {
   swept : (plane : ℤ → ℤ → ℕ) → IsSorted plane l.cells
       → IsBand plane l.band × IsSweptRows (g.L.Law.answers l.fn.law) plane (state_by (drawn_runs l.builder)) l.leaves (after l.band.y);
   keeps : KeepsSquares g.S.Squares.knows g.S.Squares.content g.S.Squares.stored g.S.Squares.most l.fn.squares l.squares;
+  adds : AddsOnly g.S.Squares.stored
+      (λ P. (plane : ℤ → ℤ → ℕ) → IsSorted plane l.cells → SomeNext P (g.L.Law.answers l.fn.law) plane) l.fn.squares l.squares;
 }
 
 abbrev pub decreases-loop-band : goal.decreases-loop-band
