@@ -2,10 +2,10 @@
 use Rattle.std.proofs.Common.{◌≡◌, ◌⊎◌, ℕ, zero, suc, ◌+◌, ◌^◌, inl, inr, ℤ, List, refl, sym, ◌∙◌, ap, subst, arith, add-one, Result, Ok, Err, OnErr}
 use Rattle.life_base.specs.Tree.{Tree, point, quad, depth, IsFull}
 use Rattle.life_base.specs.Sets.{OuterTotalistic}
-use Rattle.life_quad.specs.Keeping.{KeepsSquares, AddsOnly}
+use Rattle.life_quad.specs.Keeping.{KeepsSquares}
 use Rattle.life_quad.specs.Refused.{SomePart}
 use Rattle.life_quad.specs.declared.id.Id.{Id}
-use Rattle.life_quad.proofs.KeepingLemmas.{keeps-then, adds-then}
+use Rattle.life_quad.proofs.KeepingLemmas.{keeps-then}
 use Rattle.life_sweep.specs.Generation.{next_life}
 use Rattle.life_block.specs.Needed.{square_from, SomeOfNine, SomeOfSixteen}
 use Rattle.life_block.specs.Pieces.{IsPiece, IsAt, Nine, Sixteen, InSixteen, AreNine, AreSixteen, ahead, front, rear, western, eastern}
@@ -112,15 +112,15 @@ module _ {S : Type 0} {knows : S → Id → Type 0} {content : S → Id → Tree
 
 -- ---- squares amid others
 
--- A part of the next states of one of the four squares in the middle is one of the next states of the four. The store may have grown before it was told.
-module _ {S : Type 0} {knows : S → Id → Type 0} {content : S → Id → Tree} {stored : S → List Tree} {most : S → ℕ} {old now : S} (P : Tree → Type 0)
-    {rule : OuterTotalistic} {k : ℕ} {s : Sixteen} {three : Three (Four Id)} {nine : Nine} (keeps : KeepsSquares knows content stored most old now)
-    (known : InSixteen (IsAt (knows old) (content old) k) s) where
-  pub of_north_west : three ≡ front s → nine ≡ western three → SomeOfNine P rule (content now) k nine → SomeOfSixteen P rule (content old) k s
-  of_north_west rows columns some cells x y binary h =
-      quarter-part P _ k x y
-      (inl (some cells _ _ binary (western-nine (content now) cells columns (first-of_four rows (AreSixteen-kept keeps cells known h)))))
+-- A part of the next states of one of the four squares in the middle is one of the next states of the four. The store may have grown between them.
+pub of_north_west : (P : Tree → Type 0) (rule : OuterTotalistic) (content : Id → Tree) (k : ℕ) {s : Sixteen} {three : Three (Four Id)} {nine : Nine}
+    → three ≡ front s → nine ≡ western three → SomeOfNine P rule content k nine → SomeOfSixteen P rule content k s
+of_north_west P rule content k rows columns some cells x y binary h =
+    quarter-part P _ k x y (inl (some cells _ _ binary (western-nine content cells columns (first-of_four rows h))))
 
+module _ {S : Type 0} {knows : S → Id → Type 0} {content : S → Id → Tree} {stored : S → List Tree} {most : S → ℕ} {old now : S} (P : Tree → Type 0)
+    (rule : OuterTotalistic) {k : ℕ} {s : Sixteen} {three : Three (Four Id)} {nine : Nine} (keeps : KeepsSquares knows content stored most old now)
+    (known : InSixteen (IsAt (knows old) (content old) k) s) where
   pub of_north_east : three ≡ front s → nine ≡ eastern three → SomeOfNine P rule (content now) k nine → SomeOfSixteen P rule (content old) k s
   of_north_east rows columns some cells x y binary h =
       quarter-part P _ k x y
@@ -137,19 +137,12 @@ module _ {S : Type 0} {knows : S → Id → Type 0} {content : S → Id → Tree
       (inr (inr (inr (some cells _ _ binary (eastern-nine (content now) cells columns (last-of_four rows (AreSixteen-kept keeps cells known h)))))))
 
 -- a part of the next states of four quarters is one of the square's
-pub of_quarters : (P : Tree → Type 0) {rule : OuterTotalistic} {content : Id → Tree} {j k : ℕ} {nine : Nine} {quarters : Sixteen} → j + 1 ≡ k
+pub of_quarters : (P : Tree → Type 0) (rule : OuterTotalistic) (content : Id → Tree) (j : ℕ) {k : ℕ} {nine : Nine} {quarters : Sixteen} → j + 1 ≡ k
     → ((cells : ℤ → ℤ → ℕ) (x y : ℤ) → AreNine content cells (2 ^ (j + 1)) x y nine → AreSixteen content cells (2 ^ j) x y quarters)
     → SomeOfSixteen P rule content j quarters → SomeOfNine P rule content k nine
-of_quarters P {rule = rule} {content = content} {j = j} {nine = nine} level pieces some =
+of_quarters P rule content j {nine = nine} level pieces some =
     subst (λ n. SomeOfNine P rule content n nine) level
     (λ cells x y binary h. subst (λ n. SomePart P (square_from (next_life rule cells) n x y)) (sym (add-one j)) (some cells x y binary (pieces cells x y h)))
-
--- ---- what calls add
-
--- a call behind others
-pub adds-more : {S : Type 0} {stored : S → List Tree} {M N : (Tree → Type 0) → Type 0} {old mid new : S} → AddsOnly stored M old mid
-    → AddsOnly stored N mid new → ((P : Tree → Type 0) → N P → M P) → AddsOnly stored M old new
-adds-more {M = M} first second more = adds-then M first second (λ P m. m) more
 
 -- in a store that stayed as it was
 pub still-needs : {X : Type 0} (N : X → Tree → Type 0) (old new : X) (t : Tree) → new ≡ old → N old t → N new t

@@ -1,10 +1,12 @@
-use Rattle.std.proofs.Common.{◌≡◌, ℤ, ℕ, ◌+◌, ◌-◌, ◌^◌, refl, ◌∙◌, arith}
+use Rattle.std.proofs.Common.{◌≡◌, ℤ, ℕ, ◌+◌, ◌-◌, ◌^◌, refl, sym, ◌∙◌, subst, arith}
 use Rattle.std.proofs.lemmas.Result.{IfOk-weaker}
 use Rattle.life_base.proofs.Results.{on_err_any, on_err_both}
-use Rattle.life_quad.proofs.KeepingLemmas.{keeps-same, keeps-then, adds-as}
+use Rattle.life_quad.proofs.KeepingLemmas.{keeps-then, adds-as}
 use Rattle.life_sweep.specs.Generation.{next_life}
+use Rattle.life_sweep.proofs.NeedLemmas.{adds-more}
+use Rattle.life_block.specs.Needed.{SomeOfSixteen}
 use Rattle.life_block.specs.Pieces.{IsBinary, AreSixteen}
-use Rattle.life_block.proofs.NeedLemmas.{AreParts, is-piece, joined-is, parts-of_pieces, own-part, still-needs, adds-more, of_north_west, of_north_east, of_south_west, of_south_east, of_quarters}
+use Rattle.life_block.proofs.NeedLemmas.{AreParts, is-piece, joined-is, parts-of_pieces, own-part, still-needs, of_north_west, of_north_east, of_south_west, of_south_east, of_quarters}
 use Rattle.life_block.proofs.PieceLemmas.{AreSixteen-kept, first-of_four, last-of_four, western-nine, eastern-nine, next-of_blank}
 use Rattle.life_block.proofs.RememberedLemmas.{Remembers-kept, Remembers-more, new-answer, recalled-at, recalled-next}
 use Rattle.life_block.proofs.blocks.+block.Given.{Over}
@@ -74,23 +76,23 @@ next_of_middle-returns-clause-next g m c =
 pub next_of_middle-returns-in_err-nw-clause-needed : goal.next_of_middle-returns-in_err-nw-clause-needed
 next_of_middle-returns-in_err-nw-clause-needed g m c =
     on_err_any c.from_residual.result
-    (of_north_west _ (keeps-same c.args.squares.now) c.requires.known c.front.ensures c.western.ensures c.in_err-nw.ensures.needed)
+    (of_north_west (g.S.Squares.needs_node c.next_of.new.squares) c.args.rule.now (g.S.Squares.content c.args.squares.now) c.args.level c.front.ensures c.western.ensures c.in_err-nw.ensures.needed)
 
 pub next_of_middle-returns-in_err-ne-clause-needed : goal.next_of_middle-returns-in_err-ne-clause-needed
 next_of_middle-returns-in_err-ne-clause-needed g m c =
     on_err_any c.from_residual-in_err-ne.result
-    (of_north_east _ c.in_ok-nw.ensures.keeps c.requires.known c.front-2.ensures c.eastern.ensures c.in_err-ne.ensures.needed)
+    (of_north_east (g.S.Squares.needs_node c.next_of-2.new.squares) c.args.rule.now c.in_ok-nw.ensures.keeps c.requires.known c.front-2.ensures c.eastern.ensures c.in_err-ne.ensures.needed)
 
 pub next_of_middle-returns-in_err-sw-clause-needed : goal.next_of_middle-returns-in_err-sw-clause-needed
 next_of_middle-returns-in_err-sw-clause-needed g m c =
     on_err_any c.from_residual-in_err-sw.result
-    (of_south_west _ (keeps-then c.in_ok-nw.ensures.keeps c.in_ok-ne.ensures.keeps) c.requires.known c.rear.ensures c.western-2.ensures
+    (of_south_west (g.S.Squares.needs_node c.next_of-3.new.squares) c.args.rule.now (keeps-then c.in_ok-nw.ensures.keeps c.in_ok-ne.ensures.keeps) c.requires.known c.rear.ensures c.western-2.ensures
     c.in_err-sw.ensures.needed)
 
 pub next_of_middle-returns-in_err-se-clause-needed : goal.next_of_middle-returns-in_err-se-clause-needed
 next_of_middle-returns-in_err-se-clause-needed g m c =
     on_err_any c.from_residual-in_err-se.result
-    (of_south_east _ (keeps-then (keeps-then c.in_ok-nw.ensures.keeps c.in_ok-ne.ensures.keeps) c.in_ok-sw.ensures.keeps) c.requires.known c.rear-2.ensures
+    (of_south_east (g.S.Squares.needs_node c.next_of-4.new.squares) c.args.rule.now (keeps-then (keeps-then c.in_ok-nw.ensures.keeps c.in_ok-ne.ensures.keeps) c.in_ok-sw.ensures.keeps) c.requires.known c.rear-2.ensures
     c.eastern-2.ensures c.in_err-se.ensures.needed)
 
 pub next_of_middle-returns-clause-needed : goal.next_of_middle-returns-clause-needed
@@ -103,23 +105,23 @@ next_of_middle-returns-clause-needed g m c =
 pub next_of-returns-in_err-next-clause-adds : goal.next_of-returns-in_err-next-clause-adds
 next_of-returns-in_err-next-clause-adds g t c =
     let level : c.args.level - 1 + 1 ≡ c.args.level = omega (arith, c.requires.low) in
-    adds-as _ c.in_err-next.ensures.adds (λ P. of_quarters P level c.quarters-sixteen.ensures.pieces)
+    adds-as _ c.in_err-next.ensures.adds (λ P. of_quarters P c.args.rule.now (g.S.Squares.content c.args.squares.now) (c.args.level - 1) level c.quarters-sixteen.ensures.pieces)
 
 pub next_of-returns-clause-adds : goal.next_of-returns-clause-adds
 next_of-returns-clause-adds g t c =
     let level : c.args.level - 1 + 1 ≡ c.args.level = omega (arith, c.requires.low) in
-    adds-as _ c.in_ok-next.ensures.adds (λ P. of_quarters P level c.quarters-sixteen.ensures.pieces)
+    adds-as _ c.in_ok-next.ensures.adds (λ P. of_quarters P c.args.rule.now (g.S.Squares.content c.args.squares.now) (c.args.level - 1) level c.quarters-sixteen.ensures.pieces)
 
 pub next_of_middle-returns-in_err-nw-clause-adds : goal.next_of_middle-returns-in_err-nw-clause-adds
 next_of_middle-returns-in_err-nw-clause-adds g m c =
-    adds-as _ c.in_err-nw.ensures.adds (λ P. of_north_west P (keeps-same c.args.squares.now) c.requires.known c.front.ensures c.western.ensures)
+    adds-as _ c.in_err-nw.ensures.adds (λ P. of_north_west P c.args.rule.now (g.S.Squares.content c.args.squares.now) c.args.level c.front.ensures c.western.ensures)
 
 pub next_of_middle-returns-in_err-ne-clause-adds : goal.next_of_middle-returns-in_err-ne-clause-adds
 next_of_middle-returns-in_err-ne-clause-adds g m c =
     let nw = c.in_ok-nw.ensures in
     adds-more
-    (adds-as _ nw.adds (λ P. of_north_west P (keeps-same c.args.squares.now) c.requires.known c.front.ensures c.western.ensures))
-    c.in_err-ne.ensures.adds (λ P. of_north_east P nw.keeps c.requires.known c.front-2.ensures c.eastern.ensures)
+    (adds-as _ nw.adds (λ P. of_north_west P c.args.rule.now (g.S.Squares.content c.args.squares.now) c.args.level c.front.ensures c.western.ensures))
+    c.in_err-ne.ensures.adds (λ P. of_north_east P c.args.rule.now nw.keeps c.requires.known c.front-2.ensures c.eastern.ensures)
 
 pub next_of_middle-returns-in_err-sw-clause-adds : goal.next_of_middle-returns-in_err-sw-clause-adds
 next_of_middle-returns-in_err-sw-clause-adds g m c =
@@ -128,9 +130,9 @@ next_of_middle-returns-in_err-sw-clause-adds g m c =
     let north = keeps-then nw.keeps ne.keeps in
     adds-more
     (adds-more
-    (adds-as _ nw.adds (λ P. of_north_west P (keeps-same c.args.squares.now) c.requires.known c.front.ensures c.western.ensures))
-    ne.adds (λ P. of_north_east P nw.keeps c.requires.known c.front-2.ensures c.eastern.ensures))
-    c.in_err-sw.ensures.adds (λ P. of_south_west P north c.requires.known c.rear.ensures c.western-2.ensures)
+    (adds-as _ nw.adds (λ P. of_north_west P c.args.rule.now (g.S.Squares.content c.args.squares.now) c.args.level c.front.ensures c.western.ensures))
+    ne.adds (λ P. of_north_east P c.args.rule.now nw.keeps c.requires.known c.front-2.ensures c.eastern.ensures))
+    c.in_err-sw.ensures.adds (λ P. of_south_west P c.args.rule.now north c.requires.known c.rear.ensures c.western-2.ensures)
 
 pub next_of_middle-returns-in_err-se-clause-adds : goal.next_of_middle-returns-in_err-se-clause-adds
 next_of_middle-returns-in_err-se-clause-adds g m c =
@@ -141,10 +143,10 @@ next_of_middle-returns-in_err-se-clause-adds g m c =
     adds-more
     (adds-more
     (adds-more
-    (adds-as _ nw.adds (λ P. of_north_west P (keeps-same c.args.squares.now) c.requires.known c.front.ensures c.western.ensures))
-    ne.adds (λ P. of_north_east P nw.keeps c.requires.known c.front-2.ensures c.eastern.ensures))
-    sw.adds (λ P. of_south_west P north c.requires.known c.rear.ensures c.western-2.ensures))
-    c.in_err-se.ensures.adds (λ P. of_south_east P (keeps-then north sw.keeps) c.requires.known c.rear-2.ensures c.eastern-2.ensures)
+    (adds-as _ nw.adds (λ P. of_north_west P c.args.rule.now (g.S.Squares.content c.args.squares.now) c.args.level c.front.ensures c.western.ensures))
+    ne.adds (λ P. of_north_east P c.args.rule.now nw.keeps c.requires.known c.front-2.ensures c.eastern.ensures))
+    sw.adds (λ P. of_south_west P c.args.rule.now north c.requires.known c.rear.ensures c.western-2.ensures))
+    c.in_err-se.ensures.adds (λ P. of_south_east P c.args.rule.now (keeps-then north sw.keeps) c.requires.known c.rear-2.ensures c.eastern-2.ensures)
 
 pub next_of_middle-returns-clause-adds : goal.next_of_middle-returns-clause-adds
 next_of_middle-returns-clause-adds g m c =
@@ -156,8 +158,14 @@ next_of_middle-returns-clause-adds g m c =
     (adds-more
     (adds-more
     (adds-more
-    (adds-as _ nw.adds (λ P. of_north_west P (keeps-same c.args.squares.now) c.requires.known c.front.ensures c.western.ensures))
-    ne.adds (λ P. of_north_east P nw.keeps c.requires.known c.front-2.ensures c.eastern.ensures))
-    sw.adds (λ P. of_south_west P north c.requires.known c.rear.ensures c.western-2.ensures))
-    c.in_ok-se.ensures.adds (λ P. of_south_east P (keeps-then north sw.keeps) c.requires.known c.rear-2.ensures c.eastern-2.ensures))
+    (adds-as _ nw.adds (λ P. of_north_west P c.args.rule.now (g.S.Squares.content c.args.squares.now) c.args.level c.front.ensures c.western.ensures))
+    ne.adds (λ P. of_north_east P c.args.rule.now nw.keeps c.requires.known c.front-2.ensures c.eastern.ensures))
+    sw.adds (λ P. of_south_west P c.args.rule.now north c.requires.known c.rear.ensures c.western-2.ensures))
+    c.in_ok-se.ensures.adds (λ P. of_south_east P c.args.rule.now (keeps-then north sw.keeps) c.requires.known c.rear-2.ensures c.eastern-2.ensures))
     c.join.ensures.adds (λ P p cells x y binary h. own-part P _ _ x y _ (joined-is (parts g m c cells x y binary h)) p)
+
+pub next_of_middle-returns-then-level-eq2-clause-adds : goal.next_of_middle-returns-then-level-eq2-clause-adds
+next_of_middle-returns-then-level-eq2-clause-adds g m c =
+    let content = g.S.Squares.content c.args.squares.now in
+    adds-as _ c.next_of_leaf.ensures.adds
+    (λ P. subst (λ (k : ℕ). SomeOfSixteen P c.args.rule.now content k c.args.sixteen.now) (sym c.if-level-eq2.true))

@@ -1,6 +1,7 @@
 use Rattle.std.proofs.Common.{◌≡◌, inl, inr, ℕ, suc, ◌+◌, ◌-◌, ◌^◌, pos, neg_ℤ, Result, Ok, Err, IfOk, sym, ◌∙◌, ap, subst, arith, add-one}
 use Rattle.std.proofs.lemmas.Result.{IfOk-weaker}
 use Rattle.life_quad.specs.Refused.{SomePart}
+use Rattle.life_sweep.proofs.NeedLemmas.{adds-more}
 use Rattle.life_block.specs.Pieces.{IsPiece}
 use Rattle.life_base.proofs.Results.{on_err_any, on_err_both}
 use Rattle.life_base.specs.Rules.{has_digit}
@@ -9,7 +10,7 @@ use Rattle.life_base.specs.Tree.{depth, tree_cell}
 use Rattle.life_quad.proofs.KeepingLemmas.{keeps-then, adds-as}
 use Rattle.life_sweep.specs.Generation.{next_life}
 use Rattle.life_block.specs.Needed.{square_from}
-use Rattle.life_block.proofs.NeedLemmas.{AreParts, depth-square, is-piece, joined-is, parts-of_pieces, own-part, still-needs, on_err_map, adds-more}
+use Rattle.life_block.proofs.NeedLemmas.{AreParts, depth-square, is-piece, joined-is, parts-of_pieces, own-part, still-needs, on_err_map}
 use Rattle.life_block.proofs.RememberedLemmas.{Remembers-none}
 use Rattle.life_block.proofs.RootLemmas.{IsDivided, IsDivided-kept, quarters-at, outer, root-next, known-north_west, known-north_east, known-south_west, known-south_east, around-north_west, around-north_east, around-south_west, around-south_east, corner-part}
 use Rattle.life_block.proofs.blocks.next_life_square.Given.{Over}

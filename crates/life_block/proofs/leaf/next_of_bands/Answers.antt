@@ -7,11 +7,12 @@ use Rattle.life_quad.specs.Refused.{SomePart}
 use Rattle.life_quad.specs.Store.{four}
 use Rattle.life_quad.proofs.KeepingLemmas.{keeps-then, adds-as}
 use Rattle.life_sweep.specs.Generation.{next_life}
+use Rattle.life_sweep.proofs.NeedLemmas.{adds-more}
 use Rattle.life_block.specs.Bits.{AreBands}
 use Rattle.life_block.specs.Needed.{SomeOfBands}
 use Rattle.life_block.specs.Pieces.{back, ahead}
 use Rattle.life_block.proofs.BandLemmas.{HasBand-moved}
-use Rattle.life_block.proofs.NeedLemmas.{AreParts, is-piece, joined-is, own-part, part-of_parts, still-needs, adds-more}
+use Rattle.life_block.proofs.NeedLemmas.{AreParts, is-piece, joined-is, own-part, part-of_parts, still-needs}
 use Rattle.life_block.proofs.leaf.next_of_bands.Given.{Over}
 use Rattle.life_block.proofs.leaf.next_of_bands.Goals as goal
 use Rattle.life_block.proofs.leaf.next_of_bands.Goals.{After-next_squares-south}
@@ -140,4 +141,4 @@ returns-clause-adds g c =
     (adds-more (adds-as _ c.in_ok-nw.ensures.adds (λ P s. some g a P (inl s))) c.in_ok-ne.ensures.adds (λ P s. some g a P (inr (inl s))))
     c.in_ok-sw.ensures.adds (λ P s. some g a P (inr (inr (inl s)))))
     c.in_ok-se.ensures.adds (λ P s. some g a P (inr (inr (inr s)))))
-    c.join.ensures.adds (λ P p cells x y h. own-part P _ 2 x y _ (joined-is (parts g (goal.at.returns-clause-adds g c).After-join _ x y (words g a cells x y h))) p)
+    c.join.ensures.adds (λ P p cells x y h. own-part P _ 2 x y _ (joined-is (parts g c _ x y (words g a cells x y h))) p)

@@ -2,7 +2,7 @@ use Rattle.std.proofs.Common.{◌≡◌, ℕ, ℤ, inl, inr, ◌<ℤ◌, refl, s
 use Rattle.std.proofs.lemmas.Int.{ints}
 use Rattle.std.proofs.lemmas.Result.{err_from_is_err_and}
 use Rattle.life_quad.specs.Keeping.{AddsOnly}
-use Rattle.life_quad.proofs.KeepingLemmas.{keeps-same, keeps-then, adds-none, adds-as, adds-then}
+use Rattle.life_quad.proofs.KeepingLemmas.{keeps-same, keeps-then, adds-none, adds-as}
 use Rattle.life_strip.specs.Given.{state_by}
 use Rattle.life_sweep.specs.Generation.{after}
 use Rattle.life_sweep.specs.Rows.{IsWindow, IsWindowBelow, first_coordinate, states_of}
@@ -10,7 +10,7 @@ use Rattle.life_table.specs.Meaning.{Ambiguous}
 use Rattle.life_sweep.specs.Refused.{SomeNext}
 use Rattle.life_sweep.specs.RunBuilder.{drawn_runs}
 use Rattle.life_sweep.specs.Sweep.{IsPut, IsReadyRow, IsScene, IsSwept, IsSweptRows}
-use Rattle.life_sweep.proofs.NeedLemmas.{swept-needs}
+use Rattle.life_sweep.proofs.NeedLemmas.{adds-more, swept-needs}
 use Rattle.life_sweep.proofs.RunBuilderLemmas.{kept}
 use Rattle.life_sweep.proofs.SweepLemmas.{row-ready, ready-later, ready-row, into-row, west-column, step-in-row, out-of-row, ambiguous-here}
 use Rattle.life_sweep.proofs.sweep.draw_row.Given.{Over}
@@ -74,7 +74,7 @@ loop-window-preserved g c =
                 (g.met.L.Law.quiet c.args.law.now) on s.1 put h.others,
           );
       keeps = keeps-then inv.keeps h.keeps;
-      adds = adds-then _ inv.adds h.adds (λ P some. some)
+      adds = adds-more inv.adds h.adds
           (λ P s cells scene rows. swept-needs P (g.L.Law.answers c.args.law.now) cells (drawn_runs c.loop-window.builder) c.loop-window.left _ _
           (inv.swept cells scene rows).1 s);
     }
@@ -151,7 +151,7 @@ added g c =
 pub returns-in_err-left-clause-adds : goal.returns-in_err-left-clause-adds
 returns-in_err-left-clause-adds g c =
     let a = (goal.at.returns-in_err-left-clause-adds g c).After-advance in
-    adds-then _ (added g a) c.in_err-left.ensures.adds (λ P some. some)
+    adds-more (added g a) c.in_err-left.ensures.adds
     (λ P s cells scene rows. swept-needs P (g.L.Law.answers c.args.law.now) cells (drawn_runs c.loop-window.builder) c.loop-window.left _ _
     (swept g a cells scene rows).1 s)
 

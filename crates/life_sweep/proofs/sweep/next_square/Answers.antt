@@ -1,7 +1,7 @@
 use Rattle.std.proofs.Common.{◌≡◌, ℕ, ℤ, inl, inr, refl, sym, ◌∙◌, subst, arith}
 use Rattle.std.proofs.lemmas.Int.{ints}
 use Rattle.std.proofs.lemmas.Result.{err_from_is_err_and}
-use Rattle.life_quad.proofs.KeepingLemmas.{keeps-same, keeps-then, adds-none, adds-then}
+use Rattle.life_quad.proofs.KeepingLemmas.{keeps-same, keeps-then, adds-none}
 use Rattle.life_strip.specs.Given.{state_by}
 use Rattle.life_table.specs.Meaning.{Becomes}
 use Rattle.life_sweep.specs.Generation.{after, states_at}
@@ -11,7 +11,7 @@ use Rattle.life_base.specs.declared.cell.Run.{Run}
 use Rattle.life_sweep.specs.Refused.{SomeNext}
 use Rattle.life_sweep.specs.RunBuilder.{IsOpen, drawn_runs}
 use Rattle.life_sweep.specs.Sweep.{IsFirstAmbiguous, IsReadyRow, IsScene, IsSorted, IsSweptRows}
-use Rattle.life_sweep.proofs.NeedLemmas.{all-needs, full-again, full-kind}
+use Rattle.life_sweep.proofs.NeedLemmas.{adds-more, all-needs, full-again, full-kind}
 use Rattle.life_sweep.proofs.RunBuilderLemmas.{kept}
 use Rattle.life_sweep.proofs.SweepLemmas.{nothing-given, nothing-drawn, start-rows, pass-rows, all-rows}
 use Rattle.life_sweep.proofs.sweep.next_square.Given.{Over}
@@ -98,7 +98,7 @@ loop-band-preserved g c =
             (h.swept plane (scene g a plane sorted) (before g a plane sorted))),
       );
       keeps = keeps-then inv.keeps h.keeps;
-      adds = adds-then _ inv.adds h.adds (λ P some. some)
+      adds = adds-more inv.adds h.adds
           (λ P some plane sorted. subst (λ law. SomeNext P (g.L.Law.answers law) plane) inv.same
           (some plane (scene g a plane sorted) (before g a plane sorted)));
     }
@@ -166,14 +166,14 @@ pub returns-in_err-leaves-clause-adds : goal.returns-in_err-leaves-clause-adds
 returns-in_err-leaves-clause-adds g c =
     let a = (goal.at.returns-in_err-leaves-clause-adds g c).After-draw_row in
     let inv = c.loop-band.invariant in
-    adds-then _ inv.adds c.in_err-leaves.ensures.adds (λ P some. some)
+    adds-more inv.adds c.in_err-leaves.ensures.adds
     (λ P some plane sorted. subst (λ law. SomeNext P (g.L.Law.answers law) plane) inv.same
     (some plane (scene g a plane sorted) (before g a plane sorted)))
 
 pub returns-in_err-finish-clause-adds : goal.returns-in_err-finish-clause-adds
 returns-in_err-finish-clause-adds g c =
     let inv = c.loop-band.invariant in
-    adds-then _ inv.adds c.in_err-finish.ensures.adds (λ P some. some)
+    adds-more inv.adds c.in_err-finish.ensures.adds
     (λ P some plane sorted.
     let s = inv.swept plane sorted in
     let over = c.advance.ensures.over c.loop-band-test.false plane sorted.blank s.0 in
@@ -183,7 +183,7 @@ returns-in_err-finish-clause-adds g c =
 pub returns-clause-adds : goal.returns-clause-adds
 returns-clause-adds g c =
     let inv = c.loop-band.invariant in
-    adds-then _ inv.adds c.in_ok-finish.ensures.adds (λ P some. some)
+    adds-more inv.adds c.in_ok-finish.ensures.adds
     (λ P some plane sorted.
     let s = inv.swept plane sorted in
     let over = c.advance.ensures.over c.loop-band-test.false plane sorted.blank s.0 in
