@@ -1,5 +1,5 @@
 -- What calls leave in a store that is lent to them.
-use Rattle.std.specs.Prelude.{◌≡◌, ◌⊎◌, ℕ, ◌+◌, ◌<◌, List, ◌++◌, length, Result, Err}
+use Rattle.std.specs.Prelude.{◌≡◌, ◌⊎◌, ℕ, ◌+◌, ◌<◌, List, ◌++◌, length, Result, Err, OnOk}
 use Rattle.life_base.specs.Lines.{whole_lines}
 use Rattle.life_base.specs.Refusal.{fault_of}
 use Rattle.life_base.specs.Text.{lines_of}
@@ -14,7 +14,7 @@ use Rattle.life_quad.specs.Store.{Nodes, held}
 use Rattle.life_quad.specs.declared.squares.Squares.{Ghosts}
 use Rattle.life_canon.specs.Files.{Accepted}
 use Rattle.life_canon.specs.Needs.{IsNew, LacksFor, LacksForFront, SomeOfFile, SomeOfLines}
-use Rattle.life_canon.specs.Room.{AddsFile, AddsLines, HoldsFront, HoldsOnly, room_for}
+use Rattle.life_canon.specs.Room.{AddsFile, AddsLines, HoldsFile, HoldsFront, HoldsOnly, room_for}
 use Rattle.life_canon.specs.Store.{Keeps}
 
 -- The store is kept, and gets no square but such as the call needs; `full`, the error that tells that it holds its limit, comes only where it lacks
@@ -38,30 +38,35 @@ StoresLines lines old new result = Stores (fault_of Full) old new result (λ P. 
 abbrev pub StoresFile : {A : Type 0} → List ℕ → Nodes → Nodes → Result A Fault → Type 0
 StoresFile bytes old new result = Stores (fault_of Full) old new result (λ P. SomeOfFile MAX_LEVEL P (lines_of bytes))
 
--- A call that reads a file into the store: a store that gets full lacks a square of the file, and its limit leaves less than the room for the file
--- beside the squares that it held.
+-- A call that reads a file into the store. Where it succeeds, the store holds every square of the file, and no others but those that it held before
+-- (`all` and `adds`). A store that gets full lacks a square of the file, and its limit leaves less than the room for the file beside the squares that
+-- it held.
 pub record ReadsInto {A : Type 0} (bytes : List ℕ) (old new : Nodes) (result : Result A Fault) : Type 0 where
+  pub all : OnOk result (HoldsFile bytes (held new))
   pub needed : result ≡ Err (fault_of Full) → LacksFor MAX_LEVEL bytes new
   pub adds : AddsFile bytes old new
   pub room : result ≡ Err (fault_of Full) → old.limit < length (held old) + room_for (length bytes)
   pub keeps : Keeps old new
 
--- a call that reads two files, one behind the other
+-- a call that reads two files, one after the other
 pub record ReadsBothInto {A : Type 0} (first second : List ℕ) (old new : Nodes) (result : Result A Fault) : Type 0 where
+  pub all : OnOk result (HoldsFile first (held new) × HoldsFile second (held new))
   pub needed : result ≡ Err (fault_of Full) → LacksFor MAX_LEVEL first new ⊎ (Accepted MAX_LEVEL first × LacksFor MAX_LEVEL second new)
   pub adds : AddsOnly held (λ P. SomeOfFile MAX_LEVEL P (lines_of first) ⊎ SomeOfFile MAX_LEVEL P (lines_of second)) old new
   pub room : result ≡ Err (fault_of Full) → old.limit < length (held old) + (room_for (length first) + room_for (length second))
   pub keeps : Keeps old new
 
--- A call that feeds a piece behind these bytes. Whatever the store held before, it is full only where its limit is below that and the room for the bytes.
+-- A call that feeds a piece after these bytes. Whatever the store held before, it is full only where its limit is below that and the room for the bytes.
+-- Which squares it has stored already is not said: a row of cells may wait for the rows below it, and `EndsInto` says that in the end all are stored.
 pub record FeedsInto {A : Type 0} (before piece : List ℕ) (old new : Nodes) (result : Result A Fault) : Type 0 where
   pub needed : result ≡ Err (fault_of Full) → LacksForFront MAX_LEVEL (before ++ piece) new
   pub adds : AddsLines (whole_lines (before ++ piece)) old new
   pub room : result ≡ Err (fault_of Full) → (base : List Tree) → HoldsFront base before old → old.limit < length base + room_for (length (before ++ piece))
   pub keeps : Keeps old new
 
--- the same of the call that ends the file
+-- the same of the call that ends the file: where it succeeds, the store holds every square of the file
 pub record EndsInto {A : Type 0} (bytes : List ℕ) (old new : Nodes) (result : Result A Fault) : Type 0 where
+  pub all : OnOk result (HoldsFile bytes (held new))
   pub needed : result ≡ Err (fault_of Full) → LacksFor MAX_LEVEL bytes new
   pub adds : AddsFile bytes old new
   pub room : result ≡ Err (fault_of Full) → (base : List Tree) → HoldsOnly base bytes old → old.limit < length base + room_for (length bytes)

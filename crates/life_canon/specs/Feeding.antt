@@ -5,17 +5,22 @@
 --
 -- A line is refused in the piece in which it ends, and a rest in the piece in which it grows too long. Behind the line that holds `!`
 -- all lines are free, and nothing is kept.
-use Rattle.std.specs.Prelude.{◌≡◌, ℕ, ◌≤◌, ◌⊎◌, Bool, false, List, length}
+use Rattle.std.specs.Prelude.{◌≡◌, ℕ, ◌≤◌, ◌⊎◌, Bool, false, List, [], ◌∷◌, ◌++◌, length, Contains, Some}
 use Rattle.life_base.specs.Lines.{whole_lines}
 use Rattle.life_base.specs.declared.fault.Fault.{Fault}
 use Rattle.life_base.specs.declared.kind.Kind.TheVariants.{LineTooLong}
 use Rattle.life_quad.specs.Store.{Nodes}
+use Rattle.life_quad.specs.declared.id.Id.{Id}
 use Rattle.life_rle.specs.Grammar.{IsMarked}
 use Rattle.life_rle.specs.Pattern.{Rle}
+use Rattle.life_strip.specs.Pile.{strips_of}
+use Rattle.life_strip.specs.Strip.{id_at}
+use Rattle.life_strip.specs.declared.spans.Strip.{Strip}
 use Rattle.life_canon.specs.Files.{Refuses, is_macrocell}
 use Rattle.life_canon.specs.Store.{IsKnown, content}
 use Rattle.life_canon.specs.Taking.{StandsFor}
 use Rattle.life_canon.specs.declared.progress.Progress.{Progress}
+use Rattle.life_canon.specs.declared.progress.Progress.TheVariants as progress
 
 -- Why no file goes on from these bytes: a line that has ended breaks a rule, or the last one is too long already.
 pub record RefusesFront (top : ℕ) (bytes : List ℕ) (fault : Fault) : Type 0 where
@@ -38,3 +43,17 @@ pub record Fed : Type 0 where
 -- the store that was lent, and on while that store keeps the square of each Id.
 abbrev pub Stands : Nodes → Fed → Type 0
 Stands store fed = StandsFor (IsKnown store) (content store) fed.progress
+
+-- the Id is that of a square in a column of one of these strips
+abbrev pub IsInStrips : List Strip → Id → Type 0
+IsInStrips strips id = (strip : Strip) × (column : ℕ) × Contains strips strip × (id_at strip.spans.items column ≡ Some id)
+
+-- the Ids that are kept of the lines so far: under RLE those of the squares that aren't part of a larger one yet, and else those of the node lines
+abbrev pub IsKept : Progress → Id → Type 0
+IsKept progress.Undecided id = ⊥
+IsKept (progress.Rle reader builder runs) id = IsInStrips (strips_of builder.kept.pile ++ builder.kept.row ∷ []) id
+IsKept (progress.Macrocell reader ids) id = Contains ids.items id
+
+-- each Id that the reader keeps names the square that it named
+abbrev pub KeepsIdsOf : Fed → Nodes → Nodes → Type 0
+KeepsIdsOf fed old new = (id : Id) → IsKept fed.progress id → IsKnown old id → IsKnown new id × (content new id ≡ content old id)

@@ -1,5 +1,5 @@
 -- Squares of a store that stand for node lines.
-use Rattle.std.specs.Prelude.{◌≡◌, ℕ, suc, List, length, map, Some, slice_get}
+use Rattle.std.specs.Prelude.{◌≡◌, ℕ, suc, ◌+◌, ◌≤◌, List, length, map, Some, slice_get}
 use Rattle.life_base.specs.Tree.{Tree, depth}
 use Rattle.life_base.specs.declared.cell.TheConstants.{MAX_LEVEL}
 use Rattle.life_base.specs.declared.rule.Rule.{Rule}
@@ -8,6 +8,7 @@ use Rattle.life_mc.specs.Squares.{tree_of}
 use Rattle.life_mc.specs.declared.line.Line.{Line}
 use Rattle.life_quad.specs.declared.id.Id.{Id}
 use Rattle.life_quad.specs.declared.squares.Squares.{Ghosts}
+use Rattle.life_canon.specs.Needs.{grown_times}
 
 -- each node line's Id names its square
 pub record AreSquaresOf (knows : Id → Type 0) (content : Id → Tree) (lines : List Line) (ids : List Id) : Type 0 where
@@ -18,6 +19,14 @@ pub record AreSquaresOf (knows : Id → Type 0) (content : Id → Tree) (lines :
 -- the same of a store
 abbrev pub AreSquaresIn : {X : Type 0} → Ghosts X → X → List Line → List Id → Type 0
 AreSquaresIn S squares lines ids = AreSquaresOf (S.knows squares) (S.content squares) lines ids
+
+-- the store has an Id of the square
+abbrev pub HasSquare : {X : Type 0} → Ghosts X → X → Tree → Type 0
+HasSquare S squares t = (id : Id) × S.knows squares id × (S.content squares id ≡ t)
+
+-- the store has an Id of each square that is grown from this one, of this level at most
+abbrev pub HasGrown : {X : Type 0} → Ghosts X → X → Tree → ℕ → Type 0
+HasGrown S squares t level = (more : ℕ) → depth t + suc more ≤ level → HasSquare S squares (grown_times (suc more) t)
 
 -- what holds of all node lines whose squares these are and behind which this line may stand
 abbrev pub ForLines : {X : Type 0} → Ghosts X → X → List Id → Line → (List Line → Type 0) → Type 0

@@ -16,8 +16,8 @@ use Rattle.life_canon.specs.Universe.{Universe, IsSame, IsBlankOutside, IsOnPlan
 use Rattle.life_canon.specs.Files.{Says, Reads, Same, Refuses, RefusesLines, is_file_kind}
 use Rattle.life_canon.specs.Listing.{canonical_file, canon_text}
 use Rattle.life_canon.specs.Least.{IsRival, IsLeast, HasPlaces}
-use Rattle.life_canon.specs.Feeding.{Fed, RefusesFront, Stands}
-use Rattle.life_canon.specs.Store.{Keeps, KeepsContents, IsRead, IsTrimmed, universe_in}
+use Rattle.life_canon.specs.Feeding.{Fed, KeepsIdsOf, RefusesFront, Stands}
+use Rattle.life_canon.specs.Store.{Keeps, IsRead, IsTrimmed, universe_in}
 use Rattle.life_canon.specs.Texts.{AreCellsOf, IsRleOf}
 use Rattle.life_canon.specs.declared.pattern.Pattern.{Pattern}
 use Rattle.life_quad.specs.Store.{Nodes}
@@ -126,9 +126,9 @@ PatternsTellFiles top =
     (first second : List ℕ) (store : Nodes) (a b : Pattern) → IsRead top first store a → IsRead top second store b
     → ((a.rule ≡ b.rule) × (a.generation ≡ b.generation) × (a.root ≡ b.root)) ↔ Same top first second
 
--- while each Id keeps its square, a reader stands in the store
+-- while each Id that a reader keeps names the square that it named, the reader stands in the store, whatever became of the others
 abbrev pub ReadersStand : Type 0
-ReadersStand = (old new : Nodes) (fed : Fed) → KeepsContents old new → Stands old fed → Stands new fed
+ReadersStand = (old new : Nodes) (fed : Fed) → KeepsIdsOf fed old new → Stands old fed → Stands new fed
 
 -- A fault that can be told of bytes is the fault of every longer input: it can be told of these bytes with any others behind them.
 abbrev pub FaultsStay : ℕ → Type 0

@@ -17,12 +17,14 @@ room_for n = 14 * n + 264
 abbrev pub IsOfFile : List ℕ → Tree → Type 0
 IsOfFile bytes t = SomeOfFile MAX_LEVEL (λ u. u ≡ t) (lines_of bytes)
 
+-- The list has every square of the file that isn't blank: the same set that a call adds at most, so all squares of node lines, or all squares of
+-- level 1 or more of the whole plane under RLE, those through which the root is grown, and the trimmed root.
+abbrev pub HoldsFile : List ℕ → List Tree → Type 0
+HoldsFile bytes squares = (t : Tree) → is_blank_tree t ≡ false → IsOfFile bytes t → Contains squares t
+
 -- a file needs few squares: all that it needs and that aren't blank are in a list of so many
 abbrev pub FewSquares : Type 0
-FewSquares =
-    (bytes : List ℕ)
-    → (squares : List Tree) × (length squares ≤ room_for (length bytes))
-    × ((t : Tree) → is_blank_tree t ≡ false → IsOfFile bytes t → Contains squares t)
+FewSquares = (bytes : List ℕ) → (squares : List Tree) × (length squares ≤ room_for (length bytes)) × HoldsFile bytes squares
 
 -- the store holds no squares but those of the list and of the file
 abbrev pub HoldsOnly : List Tree → List ℕ → Nodes → Type 0

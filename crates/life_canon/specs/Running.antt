@@ -12,7 +12,7 @@ use Rattle.life_base.specs.declared.kind.Kind.TheVariants.{Full, ReadFault, Writ
 use Rattle.life_quad.specs.Store.{Nodes, held}
 use Rattle.life_canon.specs.Files.{Refuses}
 use Rattle.life_canon.specs.Needs.{LacksFor, LacksForFront}
-use Rattle.life_canon.specs.Room.{AddsFile, room_for}
+use Rattle.life_canon.specs.Room.{AddsFile, HoldsFile, room_for}
 use Rattle.life_canon.specs.Store.{Keeps, IsRead, IsWant}
 use Rattle.life_canon.specs.Texts.{IsCanonical}
 use Rattle.life_canon.specs.declared.pattern.Pattern.{Pattern}
@@ -78,9 +78,17 @@ pub record HasRead (top most : ℕ) (store : Nodes) (source : SourceRun) (patter
   pub read : ReadAll most source.before source.after bytes
   pub is : IsRead top bytes store pattern
 
--- What a call leaves that reads an input of at most so many bytes into the store: a store that gets full lacks a square which the bytes need that were
--- read, and its limit left less than the room for them; and a failure of the source is told.
+-- all was read, and the store holds every square of the file that isn't blank
+pub record HoldsRead (most : ℕ) (store : Nodes) (source : SourceRun) : Type 0 where
+  pub bytes : List ℕ
+  pub read : ReadAll most source.before source.after bytes
+  pub all : HoldsFile bytes (held store)
+
+-- What a call leaves that reads an input of at most so many bytes into the store: where it succeeds, the store holds every square of the file; a store
+-- that gets full lacks a square which the bytes need that were read, and its limit left less than the room for them; and a failure of the source is
+-- told.
 pub record ReadsSource {A : Type 0} (most : ℕ) (old new : Nodes) (source : SourceRun) (result : Result A Fault) : Type 0 where
+  pub all : OnOk result (HoldsRead most new source)
   pub needed : result ≡ Err (fault_of Full) → LacksForRead MAX_LEVEL most new source
   pub adds : AddsForRead source.before old new
   pub room : result ≡ Err (fault_of Full) → IsTightForRead most old source

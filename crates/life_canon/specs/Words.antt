@@ -16,7 +16,7 @@ pub use Rattle.life_canon.specs.Calls.{EndsInto, FeedsInto, ReadsBothInto, Reads
 pub use Rattle.life_canon.specs.Counting.{CountsLines, line_count, number_count}
 pub use Rattle.life_canon.specs.Feeding.{IsOverAt, RefusesFront, Stands}
 pub use Rattle.life_canon.specs.Files.{Accepted, Breaks, is_macrocell, Refuses, Same, Says}
-pub use Rattle.life_canon.specs.Filling.{AreSquaresIn, ForLines, ForMacrocell}
+pub use Rattle.life_canon.specs.Filling.{AreSquaresIn, ForLines, ForMacrocell, HasGrown}
 pub use Rattle.life_canon.specs.Fronts.{HasBytes, IsFrontIn, IsOpenIn, TakesLine}
 pub use Rattle.life_canon.specs.Laws.{BlankOutside, CanonicalIsLeast, CentredSquaresTellCells, FaultsAreUnique, FaultsStay, FilesAreOnPlane, FilesAreUnique}
 pub use Rattle.life_canon.specs.Laws.{FormatsDiffer, LengthHidesNoFault, LengthsStay, PatternsFit, PatternsStay, PatternsTellFiles, ReadersStand}
@@ -27,7 +27,7 @@ pub use Rattle.life_canon.specs.Listing.{canon_text, canonical_file, is_in, is_s
 pub use Rattle.life_canon.specs.Needs.{LacksForFront, SomeAtEnd, SomeGrown, SomeOfLine, SomeOfLines, SomeOfRuns, SomeRoot}
 pub use Rattle.life_canon.specs.PieceLaws.{piece-begins, piece-stops, unfailed}
 pub use Rattle.life_canon.specs.Pieces.{PieceBreaks, PieceTakes, WritesFront}
-pub use Rattle.life_canon.specs.Room.{AddsLines, FewSquares, FrontsHold, HoldsFront, room_for, RoomSuffices}
+pub use Rattle.life_canon.specs.Room.{AddsLines, FewSquares, FrontsHold, HoldsFile, HoldsFront, room_for, RoomSuffices}
 pub use Rattle.life_canon.specs.Rows.{row_of_four, row_of_two, rows_side_by_side}
 pub use Rattle.life_canon.specs.Running.{AreWorking, ReadsPattern, RunsCanon}
 pub use Rattle.life_canon.specs.Store.{content, ForEachFile, IsKnown, IsOfFile, IsPatternOf, IsRead, IsTrimmed, IsWant, Keeps, RefusesIn, universe_in}

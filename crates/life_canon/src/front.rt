@@ -1,7 +1,7 @@
 //! The front of a file, cut into lines.
 
 ghost use Rattle.std.specs.Prelude.{◌≡◌, ◌==◌, ◌⊎◌, ◌++◌, ◌<◌, ◌≤◌, ◌+◌, ◌-◌, ◌^◌, min, codes, true, ℕ, List, [], length, position, Some, None, IfSome, IfOk, IfErr, OnOk};
-ghost use Rattle.life_canon.specs.Words.{byte, Full, Memory, has_no_feed, fault_at, fault_of, Nodes, Stores, StoresFile, StoresLines, RefusesFront, HasBytes, IsFrontIn, IsOpenIn, TakesLine, whole_lines, SomeOfLines, IsKnown, IsRead, IsWant, RefusesIn, content, IsEnd, IsFrontOf, IsOpen, IsOver, StandsFor, bytes_of};
+ghost use Rattle.life_canon.specs.Words.{byte, Full, Memory, has_no_feed, fault_at, fault_of, Nodes, Stores, StoresFile, StoresLines, RefusesFront, HasBytes, HoldsFile, held, IsFrontIn, IsOpenIn, TakesLine, whole_lines, SomeOfLines, IsKnown, IsRead, IsWant, RefusesIn, content, IsEnd, IsFrontOf, IsOpen, IsOver, StandsFor, bytes_of};
 
 use crate::pattern::Pattern;
 use crate::progress::Progress;
@@ -203,6 +203,7 @@ impl Front {
     pub(crate) fn finish(self, store: &mut Shared) -> Result<Pattern, Fault>
         requires front { IsFrontIn store.old self }
         ensures pattern { IfOk result (IsRead MAX_LEVEL (bytes_of self.pieces.lines) store.new) }
+        ensures all { OnOk result (HoldsFile (bytes_of self.pieces.lines) (held store.new)) }
         ensures fault { IfErr result (RefusesIn MAX_LEVEL (bytes_of self.pieces.lines) store.new) }
         ensures stores { StoresFile (bytes_of self.pieces.lines) store.old store.new result }
     {

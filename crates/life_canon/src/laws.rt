@@ -118,7 +118,7 @@ pub fn patterns_tell_files()
     ensures { PatternsTellFiles MAX_LEVEL }
 {}
 
-/// While each Id keeps its square, a reader that was lent a store may be lent it again.
+/// A reader that was lent a store may be lent it again while each Id that the reader keeps names the square that it named; the other Ids don't matter.
 pub fn readers_stand()
     ensures { ReadersStand }
 {}

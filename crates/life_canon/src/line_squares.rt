@@ -1,7 +1,7 @@
 //! Squares of a store, made from node lines.
 
-ghost use Rattle.std.specs.Prelude.{◌≡◌, ◌+◌, ◌-◌, ◌/◌, ◌%◌, ◌^◌, ◌<◌, ◌≤◌, IfOk, max};
-ghost use Rattle.life_canon.specs.Words.{RuleValue, depth, tree_cell, leaf_cell, level_of, IsSquare, is_quarter, tree_at, tree_of, line_tree, leaf_tree, LineValue, two, four, SomePart, AreSquaresIn, ForLines, SomeGrown, SomeOfLine, GrowsOnly};
+ghost use Rattle.std.specs.Prelude.{◌≡◌, ◌+◌, ◌-◌, ◌/◌, ◌%◌, ◌^◌, ◌<◌, ◌≤◌, IfOk, OnOk, max};
+ghost use Rattle.life_canon.specs.Words.{RuleValue, depth, tree_cell, leaf_cell, level_of, IsSquare, is_quarter, tree_at, tree_of, line_tree, leaf_tree, LineValue, two, four, SomePart, AreSquaresIn, ForLines, HasGrown, SomeGrown, SomeOfLine, GrowsOnly};
 ghost use Rattle.std.specs.Prelude.{List, map, true, ℤ};
 
 use life_base::{Kind, MAX_LEVEL};
@@ -122,6 +122,7 @@ pub(crate) fn grow_to<S: Squares>(squares: &mut S, id: Id, level: u8) -> Result<
         (λ r. depth (S.content squares.new r) ≡ max level (depth (S.content squares.old id))) }
     ensures cells { IfOk result (λ r. (x y : ℤ)
         → tree_cell (S.content squares.new r) x y ≡ tree_cell (S.content squares.old id) x y) }
+    ensures grown { OnOk result (HasGrown S.Squares squares.new (S.content squares.old id) level) }
     ensures grows { GrowsOnly S.Squares squares.old squares.new result
         (λ P. SomeGrown P (S.content squares.old id) level) }
 {

@@ -1,7 +1,7 @@
 //! The lines of a file of either format, put into a store as they come.
 
-ghost use Rattle.std.specs.Prelude.{◌≡◌, ◌↔◌, ◌⊎◌, ◌++◌, ◌∷◌, [], ◌<◌, ◌≤◌, ℤ, Some, IsTrue, false, IfOk, IfErr, OnOk, max};
-ghost use Rattle.life_canon.specs.Words.{Full, NoHeader, Prefix, depth, tree_cell, cell, root_level, Macrocell, IsValid, Accepts, squares_of, broken, Nodes, held, Grows, IsWantKind, LacksHeader, HasRuns, BreaksRle, IsSomeRle, IsFilling, IsBuilt, AreNext, Stores, StoresIn, Breaks, Says, is_macrocell, IsOpenIn, IsKnown, content, IsPatternOf, AreSquaresIn, ForMacrocell, SomeAtEnd, SomeOfLines, SomeOfRuns, SomeRoot, IsOpen, IsOver, IsReady, StandsFor, taken, Universe};
+ghost use Rattle.std.specs.Prelude.{◌≡◌, ◌↔◌, ◌⊎◌, ◌++◌, ◌∷◌, [], ◌<◌, ◌≤◌, ℤ, Some, IsTrue, false, ℕ, List, IfOk, IfErr, OnOk, max};
+ghost use Rattle.life_canon.specs.Words.{Full, NoHeader, Prefix, depth, tree_cell, cell, root_level, Macrocell, IsValid, Accepts, squares_of, broken, Nodes, held, Grows, IsWantKind, LacksHeader, HasRuns, BreaksRle, IsSomeRle, IsFilling, IsBuilt, AreNext, Stores, StoresIn, Breaks, Says, is_macrocell, least_level, IsOpenIn, IsKnown, content, IsPatternOf, AreSquaresIn, ForMacrocell, HasGrown, HoldsFile, IsEnd, SomeAtEnd, SomeOfLines, SomeOfRuns, SomeRoot, IsOpen, IsOver, IsReady, StandsFor, taken, Universe};
 
 use crate::line_squares::{grow_to, line_square};
 use crate::pattern::{Pattern, least_level};
@@ -107,6 +107,8 @@ fn trimmed_pattern<S: Squares>(
         → ((x y : ℤ) → tree_cell (S.content squares.old root) x y ≡ universe.cell x y)
         → IfOk result
         (IsPatternOf MAX_LEVEL (S.knows squares.new) (S.content squares.new) universe) }
+    ensures grown { OnOk result
+        (HasGrown S.Squares squares.new (S.content squares.old root) (least_level rule)) }
     ensures grows { Grows S.Squares squares.old squares.new result
         (λ P. (universe : Universe) → universe.rule ≡ rule
         → ((x y : ℤ) → tree_cell (S.content squares.old root) x y ≡ universe.cell x y)
@@ -208,6 +210,8 @@ impl Progress {
         ensures pattern { IfOk result (λ pattern. (universe : Universe)
             × Says MAX_LEVEL (taken self) universe
             × IsPatternOf MAX_LEVEL (IsKnown store.new) (content store.new) universe pattern) }
+        ensures all { OnOk result ((bytes : List ℕ) (ended : ℕ) → IsEnd bytes ended self
+            → HoldsFile bytes (held store.new)) }
         ensures fault { IfErr result (λ kind. IsWantKind (held store.new) store.new.limit kind
             ⊎ ((kind ≡ NoHeader) × LacksHeader MAX_LEVEL (taken self)
             × (is_macrocell (taken self) ≡ false))) }
