@@ -102,7 +102,7 @@ module _ (rule : Rule) (generation : ℕ) (lines : List Line) (square : Line)
   level-some (Quad level a b c d) v = v.0
 
   -- the square of the last line
-  last-tree : tree_of (lines ++ square ∷ []) (level_of square) (suc (length lines)) ≡ line_tree (tree_of lines (level_of square - 1)) square
+  pub last-tree : tree_of (lines ++ square ∷ []) (level_of square) (suc (length lines)) ≡ line_tree (tree_of lines (level_of square - 1)) square
   last-tree = by (level_of square) (level-some square line-valid) ∙ line-stays square line-valid
     where
       by : (n : ℕ) → 1 ≤ n → tree_of (lines ++ square ∷ []) n (suc (length lines)) ≡ line_tree (tree_of (lines ++ square ∷ []) (n - 1)) square

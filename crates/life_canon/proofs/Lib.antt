@@ -31,6 +31,9 @@ mod PatternFacts
 pub mod Fits
 mod RefusalKinds
 mod Standing
+mod Known
+mod PlaneParts
+mod Holding
 mod Stored
 mod CellFacts
 mod CallFacts

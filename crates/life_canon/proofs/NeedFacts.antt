@@ -26,6 +26,9 @@ use Rattle.life_canon.proofs.FrontFacts.{whole-at, end-says, end-lines}
 use Rattle.life_quad.proofs.LawLemmas.{trimming_stops}
 use Rattle.life_quad.specs.Moves.{grown, trimmed}
 use Rattle.life_quad.specs.Refused.{SomePart, TrimmedTo}
+use Rattle.life_quad.specs.declared.id.Id.{Id}
+use Rattle.life_quad.specs.declared.squares.Squares.{Ghosts}
+use Rattle.life_canon.specs.Filling.{HasGrown, HasSquare}
 use Rattle.life_canon.specs.Needs.{SomeOfRuns, SomeOfLine, SomeOfLines, of_node_line, of_runs, grown_times, SomeGrown, SomeRoot, trimmed_root, grown_root, SomeOfFile, of_lines, SomeAtEnd, of_plane, of_root}
 use Rattle.life_canon.specs.Universe.{Universe, IsBlankOutside, centred, corner, least_level, whole}
 use Rattle.life_canon.proofs.Content.{least-one}
@@ -43,6 +46,20 @@ depth-grown (quad a b c d) h = ap (λ (n : ℕ). suc (suc n)) (depth-blank (dept
 pub SomeGrown-next : (P : Tree → Type 0) (t : Tree) (level : ℕ) → 1 ≤ depth t → SomeGrown P (grown t) level → SomeGrown P t level
 SomeGrown-next P t level h s = let d = depth-grown t h in record { more = suc s.more; low = omega (arith, d, s.low); part = s.part }
 
+-- the squares of one growth more
+pub grown-next : {X : Type 0} (S : Ghosts X) (squares : X) (t : Tree) (level : ℕ) → 1 ≤ depth t → HasSquare S squares (grown t)
+    → HasGrown S squares (grown t) level → HasGrown S squares t level
+grown-next S squares t level high one rest zero low = one
+grown-next S squares t level high one rest (suc more) low = rest more (let d = depth-grown t high in omega (arith, d, low))
+
+-- they stay while the store keeps its Ids
+pub grown-stays : {X : Type 0} (S : Ghosts X) (old new : X) (t : Tree) (level : ℕ)
+    → ((id : Id) → S.knows old id → S.knows new id × (S.content new id ≡ S.content old id)) → HasGrown S old t level → HasGrown S new t level
+grown-stays S old new t level keeps has more low =
+    let one = has more low in
+    let kept = keeps one.0 one.1 in
+    (one.0, kept.0, kept.1 ∙ one.2)
+
 -- ---- squares about (0, 0) with the cells of a pattern
 
 -- a square with these cells is the one of its level
@@ -57,7 +74,7 @@ is-centred f t k full d cells =
     )
 
 -- grown, it is one of a higher level
-grown-centred : (f : ℤ → ℤ → ℕ) (n k : ℕ) (t : Tree) → t ≡ centred f (suc k) → IsBlankOutside (suc k) f → grown_times n t ≡ centred f (suc (n + k))
+pub grown-centred : (f : ℤ → ℤ → ℕ) (n k : ℕ) (t : Tree) → t ≡ centred f (suc k) → IsBlankOutside (suc k) f → grown_times n t ≡ centred f (suc (n + k))
 grown-centred f zero k t e o = let none : suc k ≡ suc (0 + k) = omega arith in e ∙ ap (centred f) none
 grown-centred f (suc n) k t e o =
     let level : suc (n + suc k) ≡ suc (suc n + k) = omega arith in

@@ -53,7 +53,7 @@ same-first : (before behind : List (List ℕ)) (line : List ℕ) → is_macrocel
 same-first [] behind line = refl
 same-first (first ∷ before) behind line = refl
 
-no-nodes : (lines before behind : List (List ℕ)) (line : List ℕ) → lines ≡ before ++ line ∷ behind → Accepts MAX_LEVEL (before ++ line ∷ [])
+pub no-nodes : (lines before behind : List (List ℕ)) (line : List ℕ) → lines ≡ before ++ line ∷ behind → Accepts MAX_LEVEL (before ++ line ∷ [])
     → is_macrocell lines ≡ true
 no-nodes lines before behind line e a = ap is_macrocell e ∙ same-first before behind line ∙ macrocell-first MAX_LEVEL (before ++ line ∷ []) a.0 a.1
 
@@ -61,17 +61,17 @@ none : {A : Type 0} (before : List A) (x : A) (behind : List A) → [] ≡ befor
 none [] x behind e = cc
 none (y ∷ before) x behind e = cc
 
-no-runs : (lines front behind : List (List ℕ)) (runs : List Run) → is_macrocell lines ≡ true → lines ≡ front ++ behind → HasRuns MAX_LEVEL front runs
+pub no-runs : (lines front behind : List (List ℕ)) (runs : List Run) → is_macrocell lines ≡ true → lines ≡ front ++ behind → HasRuns MAX_LEVEL front runs
     → runs ≡ []
 no-runs lines front behind runs m e (inl h) = h.2
 no-runs lines [] behind runs m e (inr (file, inl h, r)) = absurd (none h.before _ _ h.whole)
 no-runs lines [] behind runs m e (inr (file, inr h, r)) = absurd (none h.front _ _ h.whole)
 no-runs lines (line ∷ front) behind runs m e (inr h) = absurd (rle-first MAX_LEVEL (line ∷ front) h.0 h.1 (ap is_macrocell (sym e) ∙ m))
 
-none-of-none : (P : Tree → Type 0) (runs : List Run) → runs ≡ [] → SomeOfRuns P runs → ⊥
+pub none-of-none : (P : Tree → Type 0) (runs : List Run) → runs ≡ [] → SomeOfRuns P runs → ⊥
 none-of-none P runs e s = none s.before _ _ (sym e ∙ s.are)
 
-true-false : {b : Bool} → b ≡ true → b ≡ false → ⊥
+pub true-false : {b : Bool} → b ≡ true → b ≡ false → ⊥
 true-false p q = cc
 
 -- ---- a macrocell file
@@ -115,7 +115,7 @@ module _ (lines : List (List ℕ)) (m : is_macrocell lines ≡ false) (few : Has
   abbrev pub run_squares : List Tree
   run_squares = map (block_tree run_states) few.blocks ++ trimmed_roots run_states
 
-  file-states : (file : Rle) → IsRle MAX_LEVEL lines file → rle_cell file ≡ run_states
+  pub file-states : (file : Rle) → IsRle MAX_LEVEL lines file → rle_cell file ≡ run_states
   file-states file h =
       let cells : rle_cell file ≡ rle_state_by (runs_of (placed file)) = (λ i x y. (runs_are_cells MAX_LEVEL lines file h).2 x y i) in
       cells ∙ ap rle_state_by (sym (few.whole file h))

@@ -62,7 +62,7 @@ trimmed-root u = by u.rule
     by (Life sets) = inl refl
     by (Named name) = inr (inl refl)
 
-least-three : (rule : Rule) → least_level rule ≤ 3
+pub least-three : (rule : Rule) → least_level rule ≤ 3
 least-three (Life sets) = omega arith
 least-three (Named name) = omega arith
 

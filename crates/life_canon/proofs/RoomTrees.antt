@@ -93,7 +93,7 @@ some_cell (quad_depth {k = k} {nw = a} {ne = b} {sw = c} {se = d} p q r s) h =
 abbrev pub block_tree : (ℤ → ℤ → ℕ) → Block → Tree
 block_tree f b = square f b.level (pos (b.column * 2 ^ b.level) -ℤ edge MAX_LEVEL) (pos (b.row * 2 ^ b.level) -ℤ edge MAX_LEVEL)
 
-low_level : (level column : ℕ) → (column + 1) * 2 ^ level ≤ 2 ^ MAX_LEVEL → level ≤ MAX_LEVEL
+pub low_level : (level column : ℕ) → (column + 1) * 2 ^ level ≤ 2 ^ MAX_LEVEL → level ≤ MAX_LEVEL
 low_level level column h = elim (cases_lt MAX_LEVEL level) [
   | inl lt ↦ let p = pow_below MAX_LEVEL level lt in absurd (omega (arith, p, h))
   | inr le ↦ le

@@ -1,6 +1,6 @@
 -- How an input is read in pieces to its end.
 use Rattle.std.proofs.Common.{◌≡◌, ℕ, ◌+◌, ◌<◌, ◌≤◌, true, false, List, [], ◌++◌, length, take, refl, ap, sym, ◌∙◌, subst, arith, ◌⊎◌, inl, inr, Option, Some, None, length-append}
-use Rattle.std.specs.Prelude.{MatchOption, IfSome, Result, Ok, Err, IfErr, IsErrAnd}
+use Rattle.std.specs.Prelude.{MatchOption, IfSome, Result, Ok, Err, IfErr, IsErrAnd, OnOk}
 use Rattle.std.proofs.lemmas.Result.{IfErr-weaker}
 use Rattle.std.specs.Io.KnownBytes.{Consumes, IsAtEnd}
 use Rattle.std.proofs.KnownBytes.{Consumes-trans}
@@ -19,8 +19,8 @@ use Rattle.life_canon.specs.Feeding.{Fed, RefusesFront, Stands}
 use Rattle.life_canon.specs.Files.{is_file_kind}
 use Rattle.life_canon.specs.Laws.{LengthsStay}
 use Rattle.life_canon.specs.Needs.{LacksFor, LacksForFront, SomeOfFile}
-use Rattle.life_canon.specs.Room.{AddsLines, AddsFile, HoldsFront, HoldsOnly, room_for}
-use Rattle.life_canon.specs.Running.{ReadRefuses, by_file, by_want, LacksForRead, for_front, for_file, AddsForRead, IsTightForRead, ReadsSource}
+use Rattle.life_canon.specs.Room.{AddsLines, AddsFile, HoldsFile, HoldsFront, HoldsOnly, room_for}
+use Rattle.life_canon.specs.Running.{ReadRefuses, by_file, by_want, LacksForRead, for_front, for_file, AddsForRead, HoldsRead, IsTightForRead, ReadsSource}
 use Rattle.life_canon.specs.Store.{IsWant, Keeps, RefusesIn}
 use Rattle.life_canon.specs.declared.pattern.Pattern.{Pattern}
 use Rattle.life_mc.proofs.LineKinds.{broken_kind}
@@ -28,6 +28,7 @@ use Rattle.life_rle.proofs.LineKinds.{Breaks-kind}
 use Rattle.life_quad.proofs.KeepingLemmas.{adds-as, adds-then}
 use Rattle.life_canon.proofs.Adding.{fronts_hold}
 use Rattle.life_canon.proofs.NeedFacts.{front-more, whole-needs}
+use Rattle.life_canon.proofs.PatternFacts.{on-ok}
 use Rattle.life_canon.proofs.RefusalKinds.{refusal-kinds}
 use Rattle.life_canon.proofs.RefusedFronts.{faults_stay}
 
@@ -166,9 +167,10 @@ module _ (first store : Nodes) (before after : Option (List ℕ)) (total : ℕ) 
   pub reading-ends : {A : Type 0} {most failures : ℕ} {now : Option (List ℕ)} {result : Result A Fault}
       → IsReading first store before after total refused fed → Keeps first store → (result ≡ Err (fault_of Full) → ⊥)
       → (failures ≡ 1 → IsErrAnd result (λ fault. fault.kind ≡ ReadFault))
+      → OnOk result (HoldsRead most store (record { before = before; after = now; failures = failures }))
       → ReadsSource most first store (record { before = before; after = now; failures = failures }) result
-  reading-ends r keeps roomy told =
-      record { needed = λ e. absurd (roomy e); adds = reading-adds r; room = λ e. absurd (roomy e); told = told; keeps = keeps }
+  reading-ends r keeps roomy told all =
+      record { all = all; needed = λ e. absurd (roomy e); adds = reading-adds r; room = λ e. absurd (roomy e); told = told; keeps = keeps }
 
   -- and what the reader stores of it at its end
   pub ended-adds : {new : Nodes} → IsReading first store before after total refused fed → refused ≡ None → AddsFile fed.bytes store new
@@ -230,6 +232,11 @@ module _ (first store new : Nodes) (before mid after : Option (List ℕ)) (total
   ended-read is =
       let came = at-end mid after count buf e l h in
       rw (open-state r is).1 (read-all most before mid after r.bytes r.came came.0 came.1 (omega (arith, r.count, short)))
+
+  -- the end came, and the store holds what it has
+  pub ended-holds : refused ≡ None → {A : Type 0} (result : Result A Fault) → OnOk result (HoldsFile fed.bytes (held new))
+      → OnOk result (HoldsRead most new (record { before = before; after = after; failures = failures }))
+  ended-holds is result all = on-ok result all (λ holds. record { bytes = fed.bytes; read = ended-read is; all = holds })
 
   -- the end came, and the store has no room for what it has
   pub ended-lacks : refused ≡ None → LacksFor MAX_LEVEL fed.bytes new

@@ -1,6 +1,6 @@
 -- What calls leave in a store, one behind the other, and refusals that are handed on.
 use Rattle.std.proofs.Common.{◌≡◌, ◌⊎◌, inl, inr, ℕ, List, sym, ◌∙◌, Result, Ok, Err, ap}
-use Rattle.std.specs.Prelude.{IfErr, IsErrAnd}
+use Rattle.std.specs.Prelude.{IfErr, IsErrAnd, OnOk}
 use Rattle.life_base.specs.DeviceRuns.{SourceRun}
 use Rattle.life_base.specs.Refusal.{fault_at, fault_of}
 use Rattle.life_base.specs.Tree.{Tree}
@@ -70,6 +70,11 @@ front-no-room bytes (Err x) (inr front) e =
     let is : x ≡ fault_of Full = cc in
     full-not x.kind (front-kind bytes x front) (ap (λ (f : Fault). f.kind) is)
 
+-- what holds, holds also where a call succeeds
+whatever-comes : {T E P : Type 0} (r : Result T E) → P → OnOk r P
+whatever-comes (Ok x) p = p
+whatever-comes (Err e) p = tt
+
 module _ {A B : Type 0} {old new : Nodes} where
   pub stores-err : {E : Type 0} {full e : E} {N : (Tree → Type 0) → Type 0} → Stores {A = A} full old new (Err e) N → Stores {A = B} full old new (Err e) N
   stores-err call = record { needed = λ h. call.needed (err_again h); adds = call.adds; keeps = call.keeps }
@@ -79,12 +84,13 @@ module _ {A B : Type 0} {old new : Nodes} where
       → ReadsInto bytes old new r
   reads-err {r = Ok x} h call = absurd h
   reads-err {r = Err f} h call =
-      rw h (record { needed = λ e. call.needed (err_again e); adds = call.adds; room = λ e. call.room (err_again e); keeps = call.keeps })
+      rw h (record { all = tt; needed = λ e. call.needed (err_again e); adds = call.adds; room = λ e. call.room (err_again e); keeps = call.keeps })
 
   pub source-err : {most : ℕ} {source : SourceRun} {e : Fault} → ReadsSource {A = A} most old new source (Err e)
       → ReadsSource {A = B} most old new source (Err e)
   source-err call =
       record {
+        all = tt;
         needed = λ h. call.needed (err_again h);
         adds = call.adds;
         room = λ h. call.room (err_again h);
@@ -94,12 +100,13 @@ module _ {A B : Type 0} {old new : Nodes} where
 
   -- what is done behind the reading and doesn't change the store
   pub reads-still : {bytes : List ℕ} {x : A} {r : Result B Fault} → ReadsInto bytes old new (Ok x) → (r ≡ Err (fault_of Full) → ⊥) → ReadsInto bytes old new r
-  reads-still call none = record { needed = λ e. absurd (none e); adds = call.adds; room = λ e. absurd (none e); keeps = call.keeps }
+  reads-still {r = r} call none = record { all = whatever-comes r call.all; needed = λ e. absurd (none e); adds = call.adds; room = λ e. absurd (none e); keeps = call.keeps }
 
   pub source-still : {most : ℕ} {source : SourceRun} {x : A} {r : Result B Fault} → ReadsSource most old new source (Ok x)
       → (r ≡ Err (fault_of Full) → ⊥) → ReadsSource most old new source r
-  source-still call none =
+  source-still {r = r} call none =
       record {
+        all = whatever-comes r call.all;
         needed = λ e. absurd (none e);
         adds = call.adds;
         room = λ e. absurd (none e);

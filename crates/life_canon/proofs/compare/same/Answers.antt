@@ -35,6 +35,7 @@ pub returns-in_err-a-clause-reads : goal.returns-in_err-a-clause-reads
 returns-in_err-a-clause-reads c =
     let first = c.in_err-a.ensures.reads in
     rw (error-is _ c.from_residual.ensures.1) (record {
+      all = tt;
       needed = λ e. inl (first.needed (err_again e));
       adds = adds-as _ first.adds (λ P s. inl s);
       room = λ e. let tight = first.room (err_again e) in omega (arith, tight);
@@ -49,6 +50,7 @@ returns-in_err-b-clause-reads c =
     let few = file-few c.args.first.now c.args.store.now c.read.new.store c.len.ensures.distinct (λ t there. (c.len.ensures.only t there).0) first.adds in
     let limit = first.keeps.limit in
     rw (error-is _ c.from_residual-in_err-b.ensures.1) (record {
+      all = tt;
       needed = λ e. inr ((read.universe, read.reads), second.needed (err_again e));
       adds = adds-then _ first.adds second.adds (λ P s. inl s) (λ P s. inr s);
       room = λ e. let tight = second.room (err_again e) in omega (arith, few, limit, tight);
@@ -60,6 +62,7 @@ returns-clause-reads c =
     let first = c.in_ok-a.ensures.reads in
     let second = c.in_ok-b.ensures.reads in
     record {
+      all = (λ t live of. second.keeps.stored t (first.all t live of), second.all);
       needed = λ e. absurd (cc);
       adds = adds-then _ first.adds second.adds (λ P s. inl s) (λ P s. inr s);
       room = λ e. absurd (cc);

@@ -1,4 +1,4 @@
-use Rattle.std.specs.Prelude.{IfErr}
+use Rattle.std.specs.Prelude.{IfErr, OnOk}
 use Rattle.std.proofs.lemmas.Result.{IfOk-weaker, err_from_is_err_and}
 use Rattle.life_base.specs.Lines.{whole_lines}
 use Rattle.life_quad.specs.Store.{held}
@@ -7,7 +7,7 @@ use Rattle.life_canon.proofs.CallFacts.{feed-fault}
 use Rattle.std.proofs.Common.{ℕ, ◌+◌, ◌<◌, List, [], ◌++◌, length, ap, sym, ◌∙◌, subst, arith, inl}
 use Rattle.life_base.specs.declared.cell.TheConstants.{MAX_LEVEL}
 use Rattle.life_canon.specs.Needs.{IsNew, LacksFor, LacksForFront}
-use Rattle.life_canon.specs.Room.{AddsLines, AddsFile, HoldsFront, HoldsOnly, room_for}
+use Rattle.life_canon.specs.Room.{AddsLines, AddsFile, HoldsFile, HoldsFront, HoldsOnly, room_for}
 use Rattle.life_canon.specs.Store.{IsRead, RefusesIn}
 use Rattle.life_canon.proofs.Adding.{fronts_hold}
 use Rattle.life_canon.proofs.NeedFacts.{whole-needs}
@@ -37,6 +37,7 @@ returns-in_err-feed-clause-reads c =
     let lines = subst (λ (b : List ℕ). AddsLines (whole_lines b) c.args.store.now c.feed.new.store) none feeds.adds in
     let base = held c.args.store.now in
     rw (p.1, p.2) (record {
+      all = tt;
       needed = λ e. whole-needs (IsNew c.feed.new.store) c.args.bytes.now
           (subst (λ (b : List ℕ). LacksForFront MAX_LEVEL b c.feed.new.store) none (feeds.needed (err_again e)));
       adds = adds-as _ lines (λ P s. whole-needs P c.args.bytes.now s);
@@ -59,6 +60,7 @@ returns-clause-reads c =
     let only = (fronts_hold (c.new-reader.result.bytes ++ c.args.bytes.now) [] base c.feed.new.store c.feed.new.store held_front).1 in
     let limit = feeds.keeps.limit in
     record {
+      all = subst (λ (b : List ℕ). OnOk c.finish.result (HoldsFile b (held c.finish.new.store))) all ends.all;
       needed = λ e. subst (λ (b : List ℕ). LacksFor MAX_LEVEL b c.finish.new.store) all (ends.needed e);
       adds = adds-then _ lines file (λ P s. whole-needs P c.args.bytes.now s) (λ P a. a);
       room = λ e.

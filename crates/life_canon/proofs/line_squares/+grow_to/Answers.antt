@@ -3,8 +3,10 @@ use Rattle.life_base.specs.Tree.{Tree, depth, tree_cell}
 use Rattle.life_quad.proofs.LawLemmas.{growing_keeps_cells}
 use Rattle.std.proofs.lemmas.Result.{IfOk-weaker}
 use Rattle.life_quad.proofs.KeepingLemmas.{keeps-same, adds-none, adds-as}
+use Rattle.life_canon.specs.Filling.{HasGrown}
 use Rattle.life_canon.specs.Needs.{SomeGrown}
-use Rattle.life_canon.proofs.NeedFacts.{SomeGrown-next}
+use Rattle.life_canon.proofs.NeedFacts.{SomeGrown-next, grown-next}
+use Rattle.life_canon.proofs.PatternFacts.{on-ok}
 use Rattle.life_canon.proofs.OnlyFacts.{only-none, only-refused, only-behind}
 use Rattle.life_canon.proofs.line_squares.+grow_to.Goals as goal
 
@@ -42,3 +44,15 @@ returns-clause-grows g t c =
     let adds_1 = adds-as Needs c.in_ok-larger.ensures.adds (λ P p. record { more = 0; low = low; part = p }) in
     only-behind Needs c.in_ok-larger.ensures.keeps adds_1 c.grow_to.ensures.grows
     (λ P s. SomeGrown-next P _ c.args.level c.requires.low (subst (λ (t : Tree). SomeGrown P t c.args.level) c.in_ok-larger.ensures.square s))
+
+pub returns-then-level-clause-grown : goal.returns-then-level-clause-grown
+returns-then-level-clause-grown g t c = λ more low. absurd (omega (arith, low, c.level.ensures.level))
+
+pub returns-clause-grown : goal.returns-clause-grown
+returns-clause-grown g t c =
+    let larger = c.in_ok-larger.ensures in
+    let kept = c.grow_to.ensures.grows.keeps.contents c.in_ok-larger.larger larger.known in
+    on-ok c.grow_to.result c.grow_to.ensures.grown
+    (λ rest. grown-next g.S.Squares c.grow_to.new.squares (g.S.Squares.content c.args.squares.now c.args.id) c.args.level c.requires.low
+    (c.in_ok-larger.larger, kept.0, kept.1 ∙ larger.square)
+    (subst (λ (s : Tree). HasGrown g.S.Squares c.grow_to.new.squares s c.args.level) larger.square rest))

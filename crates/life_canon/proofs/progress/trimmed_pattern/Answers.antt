@@ -6,11 +6,12 @@ use Rattle.life_quad.specs.Moves.{trimmed}
 use Rattle.life_quad.specs.Refused.{TrimmedTo}
 use Rattle.life_quad.proofs.GrowsLemmas.{grows-err, only-grows}
 use Rattle.life_quad.proofs.KeepingLemmas.{keeps-then, adds-as, adds-then}
+use Rattle.life_canon.specs.Filling.{HasGrown}
 use Rattle.life_canon.specs.Needs.{SomeGrown, SomeRoot}
 use Rattle.life_canon.specs.Universe.{Universe, least_level}
 use Rattle.life_canon.proofs.PatternFacts.{trimmed-whole}
 use Rattle.life_canon.proofs.TreeWords.{below_top}
-use Rattle.life_canon.proofs.NeedFacts.{root-grown, root-trimmed}
+use Rattle.life_canon.proofs.NeedFacts.{grown-stays, root-grown, root-trimmed}
 use Rattle.life_canon.proofs.OnlyFacts.{only-refused}
 use Rattle.life_canon.proofs.progress.trimmed_pattern.Goals as goal
 
@@ -28,6 +29,12 @@ returns-clause-pattern g c = λ u rule generation cells.
       known = c.in_ok-root-2.ensures.known;
       root = c.in_ok-root-2.ensures.square ∙ ap (λ (n : ℕ). trimmed t n) (sym least) ∙ whole-is;
     }
+
+pub returns-clause-grown : goal.returns-clause-grown
+returns-clause-grown g c =
+    let t : Tree = g.S.Squares.content c.args.squares.now c.args.root in
+    grown-stays g.S.Squares c.grow_to.new.squares c.trim.new.squares t (least_level c.args.rule) c.in_ok-root-2.ensures.keeps.contents
+    (subst (HasGrown g.S.Squares c.grow_to.new.squares t) c.least_level-least.ensures c.in_ok-root.ensures.grown)
 
 -- the squares that the root of a pattern needs, where this is the square that was given, and these are its rule and the square's level
 abbrev of_root : Rule → Tree → (Tree → Type 0) → Type 0

@@ -2,7 +2,7 @@ use Rattle.std.proofs.Common.{rules, take}
 use Rattle.std.proofs.lemmas.Result.{err_from_is_err_and}
 use Rattle.life_quad.proofs.KeepingLemmas.{keeps-then}
 use Rattle.life_canon.specs.Running.{by_length, by_want}
-use Rattle.life_canon.proofs.RunFacts.{reading-on, reading-ends, piece-adds, piece-tight, beyond-most, ended-refused, ended-open, ended-lacks, ended-adds, ended-tight, lacks-front, refused-not-full}
+use Rattle.life_canon.proofs.RunFacts.{reading-on, reading-ends, piece-adds, piece-tight, beyond-most, ended-refused, ended-open, ended-lacks, ended-adds, ended-holds, ended-tight, lacks-front, refused-not-full}
 use Rattle.life_canon.proofs.Stored.{err_again}
 use Rattle.life_canon.proofs.runs.read_source.Goals as goal
 
@@ -23,7 +23,7 @@ returns-in_err-count g c =
       pattern = search rules;
       works = search rules;
       fault = search rules;
-      reads = reading-ends _ _ _ _ _ _ _ c.loop-reader.invariant.0 c.loop-reader.invariant.3 (search rules) (search rules);
+      reads = reading-ends _ _ _ _ _ _ _ c.loop-reader.invariant.0 c.loop-reader.invariant.3 (search rules) (search rules) (search rules);
     }
 
 -- too much came
@@ -39,7 +39,7 @@ returns-then-total-most g c =
           c.args.most c.loop-reader.refused c.loop-reader.reader (take c.in_ok-count.count c.read.new.buf) c.loop-reader.invariant.0
           c.in_ok-count.ensures.bytes.0
           (search rules) (search rules));
-      reads = reading-ends _ _ _ _ _ _ _ c.loop-reader.invariant.0 c.loop-reader.invariant.3 (search rules) (search rules);
+      reads = reading-ends _ _ _ _ _ _ _ c.loop-reader.invariant.0 c.loop-reader.invariant.3 (search rules) (search rules) tt;
     }
 
 -- a piece found no room or no memory
@@ -53,6 +53,7 @@ returns-in_err-refused g c =
       works = tt;
       fault = by_want call.want;
       reads = record {
+        all = tt;
         needed = λ e. lacks-front _ _ _ _ _ _ c.loop-reader.total c.in_ok-count.count c.args.most _ c.loop-reader.refused c.loop-reader.reader piece
             c.loop-reader.invariant.0 c.in_ok-count.ensures.bytes.0 (search rules) (search rules) (call.needed (err_again e));
         adds = piece-adds _ _ _ _ _ _ c.loop-reader.total c.in_ok-count.count c.args.most 0 c.loop-reader.refused c.loop-reader.reader piece
@@ -76,7 +77,7 @@ returns-in-Some g c =
           c.loop-reader.invariant.2
           c.in-Some.fault c.in-Some.is;
       reads = reading-ends _ _ _ _ _ _ _ c.loop-reader.invariant.0 c.loop-reader.invariant.3
-          (λ e. refused-not-full _ _ _ _ _ _ _ c.loop-reader.invariant.0 c.in-Some.fault c.in-Some.is (cc)) (search rules);
+          (λ e. refused-not-full _ _ _ _ _ _ _ c.loop-reader.invariant.0 c.in-Some.fault c.in-Some.is (cc)) (search rules) tt;
     }
 
 -- the end of the file
@@ -90,6 +91,9 @@ returns-in-None g c =
           c.loop-reader.invariant.2
           c.in-None.is _ call.fault;
       reads = record {
+        all = ended-holds _ _ _ _ _ _ _ _ _ _ _ _ _ c.loop-reader.invariant.0 (search rules) (search rules) c.in_ok-count.ensures.bytes
+            c.loop-reader.invariant.2
+            c.in-None.is c.finish.result call.ends.all;
         needed = λ e. ended-lacks _ _ _ _ _ _ _ _ _ _ _ _ _ c.loop-reader.invariant.0 (search rules) (search rules) c.in_ok-count.ensures.bytes
             c.loop-reader.invariant.2
             c.in-None.is (call.ends.needed e);

@@ -65,3 +65,7 @@ returns-clause-stores c =
           (λ P s. at_end (end-needs P (bytes_of c.args.self.pieces.lines) front.ended front.progress c.in_ok-take_rest.ensures.end s));
       keeps = keeps-then first.keeps call.keeps;
     }
+
+pub returns-in-Ok-clause-all : goal.returns-in-Ok-clause-all
+returns-in-Ok-clause-all c =
+    c.in-Ok.ensures.all (bytes_of c.args.self.pieces.lines) c.take_rest.new.self.ended c.in_ok-take_rest.ensures.end

@@ -1,14 +1,16 @@
-use Rattle.std.proofs.Common.{◌≡◌, ℕ, ◌^◌, max, List, ℤ, refl, inr, sym, ap, ◌∙◌, subst}
+use Rattle.std.proofs.Common.{◌≡◌, ℕ, suc, true, false, ◌+◌, ◌≤◌, ◌^◌, max, List, ℤ, refl, inr, sym, ap, ◌∙◌, subst}
 use Rattle.std.specs.Global.{Vec}
 use Rattle.std.proofs.lemmas.Result.{IfOk-weaker, err_from_is_err_and}
 use Rattle.life_base.specs.Lines.{LinesRead}
-use Rattle.life_base.specs.Tree.{Tree}
+use Rattle.life_base.specs.Text.{lines_of}
+use Rattle.life_base.specs.Tree.{Tree, depth, tree_cell}
 use Rattle.life_base.specs.declared.cell.Run.{Run}
 use Rattle.life_base.specs.declared.cell.TheConstants.{MAX_LEVEL}
 use Rattle.life_base.specs.declared.kind.Kind.{Kind}
 use Rattle.life_mc.specs.Cells.{root_level}
 use Rattle.life_mc.specs.Macrocell.{Macrocell, IsValid}
 use Rattle.life_mc.specs.Grammar.{IsFile}
+use Rattle.life_mc.specs.Reading.{AreMacrocell}
 use Rattle.life_mc.proofs.Accepted.{lines_are_valid}
 use Rattle.life_mc.proofs.Grammars.{grammars_agree}
 use Rattle.life_mc.specs.declared.line.Line.{Line}
@@ -22,21 +24,24 @@ use Rattle.life_strip.specs.Given.{by_columns, state_by}
 use Rattle.life_strip.specs.Needed.{SomeSquare}
 use Rattle.life_canon.specs.Files.{Says, as_rle, as_macrocell, is_macrocell}
 use Rattle.life_canon.specs.Filling.{AreSquaresOf}
-use Rattle.life_canon.specs.Needs.{SomeRoot, SomeAtEnd, of_plane, of_root, level_of_root}
+use Rattle.life_canon.specs.Needs.{SomeRoot, SomeAtEnd, grown_times, of_plane, of_root, level_of_root}
 use Rattle.life_canon.specs.Store.{IsKnown, content}
-use Rattle.life_canon.specs.Taking.{IsOpen, StandsFor, taken}
-use Rattle.life_canon.specs.Universe.{rle_universe, macrocell_universe}
+use Rattle.life_canon.specs.Taking.{IsEnd, IsOpen, StandsFor, taken}
+use Rattle.life_canon.specs.Universe.{least_level, rle_universe, macrocell_universe}
 use Rattle.life_canon.specs.declared.progress.Progress.{Progress}
 use Rattle.life_canon.specs.declared.progress.Progress.TheVariants as progress
 use Rattle.life_canon.proofs.PatternFacts.{undecided-lacks, end-kind, file-cells}
-use Rattle.life_canon.proofs.FrontFacts.{top-level, macrocell-level}
+use Rattle.life_canon.proofs.FrontFacts.{end-lines, end-says, top-level, macrocell-level}
+use Rattle.life_canon.proofs.Holding.{macrocell-holds, ok-both, rle-holds}
 use Rattle.life_canon.proofs.NeedFacts.{same-square}
+use Rattle.life_canon.proofs.Standing.{squares-stay}
 use Rattle.life_canon.proofs.Stored.{err_again}
 use Rattle.life_canon.proofs.progress.Progress.end.Goals as goal
 
 -- what the end of an RLE file with these runs gives
 record RleEnd (p : Progress) (runs : List Run) (file : Rle) : Type 1 where
   says : Says MAX_LEVEL (taken p) (rle_universe file)
+  format : is_macrocell (taken p) ≡ false
   cells : (x y : ℤ) → state_by runs x y ≡ (rle_universe file).cell x y
   plane : (P : Tree → Type 0) → SomeSquare P (2 ^ MAX_LEVEL) (by_columns (state_by runs)) → SomeAtEnd MAX_LEVEL P (taken p)
   root : {level : ℕ} → level ≡ MAX_LEVEL → (P : Tree → Type 0) → SomeRoot MAX_LEVEL P (rle_universe file) level → SomeAtEnd MAX_LEVEL P (taken p)
@@ -50,6 +55,7 @@ rle-end store {p} {reader} {builder} is begun stands file are =
     let same = file-cells reader.lines builder.runs file (subst (StandsFor (IsKnown store) (content store)) is stands).are are in
     record {
       says = whole;
+      format = format;
       cells = same;
       plane = λ P s. of_plane u whole format (same-square (2 ^ MAX_LEVEL) (state_by builder.runs) u.cell same s);
       root = λ e P s. of_root u whole (subst (SomeRoot MAX_LEVEL P u) (e ∙ sym (top-level (taken p) format)) s);
@@ -60,13 +66,16 @@ record MacrocellEnd (store : Nodes) (p : Progress) (ids : List Id) (file : Macro
   valid : IsValid MAX_LEVEL file
   there : AreSquaresOf (IsKnown store) (content store) file.lines ids
   says : Says MAX_LEVEL (taken p) (macrocell_universe file)
+  ends : (bytes : List ℕ) (ended : ℕ) → IsEnd bytes ended p → (is_macrocell (lines_of bytes) ≡ true) × AreMacrocell MAX_LEVEL (lines_of bytes) file
+  last : {level : ℕ} → level ≡ max 1 (root_level file.lines) → (bytes : List ℕ) (ended : ℕ) → IsEnd bytes ended p
+      → level ≡ level_of_root MAX_LEVEL (lines_of bytes)
   root : {level : ℕ} → level ≡ max 1 (root_level file.lines) → (P : Tree → Type 0) → SomeRoot MAX_LEVEL P (macrocell_universe file) level
       → SomeAtEnd MAX_LEVEL P (taken p)
 
 macrocell-end : (store : Nodes) {p : Progress} {reader : LinesRead} {ids : Vec Id} {here : List Id} → p ≡ progress.Macrocell reader ids → IsOpen p
     → StandsFor (IsKnown store) (content store) p → here ≡ ids.items → (file : Macrocell) → IsFile MAX_LEVEL reader.lines file
     → MacrocellEnd store p here file
-macrocell-end store {p} {reader} is begun stands same file found =
+macrocell-end store {p} {reader} {ids} is begun stands same file found =
     let u = macrocell_universe file in
     let are = (grammars_agree MAX_LEVEL reader.lines file).0 found in
     let whole : Says MAX_LEVEL (taken p) u = subst (λ (ls : List (List ℕ)). Says MAX_LEVEL ls u) (sym (ap taken is)) (as_macrocell file are) in
@@ -76,8 +85,24 @@ macrocell-end store {p} {reader} is begun stands same file found =
       valid = lines_are_valid MAX_LEVEL reader.lines file are;
       there = rw (are.squares, same) (subst (StandsFor (IsKnown store) (content store)) is stands);
       says = whole;
+      ends = λ bytes ended e.
+          let same = lines bytes ended (subst (IsEnd bytes ended) is e) in
+          (ap is_macrocell same ∙ (subst IsOpen is begun).format, subst (λ (ls : List (List ℕ)). AreMacrocell MAX_LEVEL ls file) (sym same) are);
+      last = λ e bytes ended end.
+          e ∙ level ∙ ap (level_of_root MAX_LEVEL) (ap taken is ∙ sym (lines bytes ended (subst (IsEnd bytes ended) is end)));
       root = λ e P s. of_root u whole (subst (SomeRoot MAX_LEVEL P u) (e ∙ level) s);
     }
+  where
+    lines : (bytes : List ℕ) (ended : ℕ) → IsEnd bytes ended (progress.Macrocell reader ids) → lines_of bytes ≡ reader.lines
+    lines bytes ended e = (e.going (λ v. v)).0
+
+-- the squares that are grown from a square of the store
+abbrev HasGrownIn : Nodes → Tree → ℕ → Type 0
+HasGrownIn store t level = (more : ℕ) → depth t + suc more ≤ level → (id : Id) × IsKnown store id × (content store id ≡ grown_times (suc more) t)
+
+grown-again : (store : Nodes) (root : Id) (was : Tree) (level : ℕ) → content store root ≡ was → HasGrownIn store was level
+    → HasGrownIn store (content store root) level
+grown-again store root was level same has = subst (λ (t : Tree). HasGrownIn store t level) (sym same) has
 
 pub returns-in-Undecided-clause-fault : goal.returns-in-Undecided-clause-fault
 returns-in-Undecided-clause-fault c = let u = undecided-lacks c.args.self c.in-Undecided.is in inr (refl, u.0, u.1)
@@ -144,3 +169,40 @@ returns-clause-stores c =
       adds = adds-as _ trims.adds (λ P s. ended.root level P (s _ (sym found.2) (last.cells found.0 ended.valid ended.there)));
       keeps = trims.keeps;
     }
+
+pub returns-in-Rle-clause-all : goal.returns-in-Rle-clause-all
+returns-in-Rle-clause-all c =
+    let found = c.in_ok-rule-in-Rle.ensures.file in
+    let ended = rle-end c.args.store.now c.in-Rle.is c.requires.begun c.requires.stands found.0 found.1 in
+    let u = rle_universe found.0 in
+    let filled = c.in_ok-root-in-Rle.ensures in
+    let cells = λ (x y : ℤ). filled.cells x y ∙ ended.cells x y in
+    let store = c.trimmed_pattern.new.squares in
+    let plane = c.in_ok-root-in-Rle.root in
+    let kept = c.trimmed_pattern.ensures.grows.keeps.contents plane filled.known in
+    ok-both c.trimmed_pattern.result (c.trimmed_pattern.ensures.pattern u (sym found.2) (sym found.3) cells) c.trimmed_pattern.ensures.grown
+    (λ pattern is grown bytes count end.
+    let more = end-lines bytes count c.args.self u end ended.says in
+    rle-holds store bytes u pattern plane (ap is_macrocell more.1 ∙ more.2 ∙ ended.format) (end-says bytes count c.args.self u end ended.says) is kept.0
+    (ap depth kept.1 ∙ filled.level) (λ x y. ap (λ (t : Tree). tree_cell t x y) kept.1 ∙ cells x y))
+
+pub returns-clause-all : goal.returns-clause-all
+returns-clause-all c =
+    let found = c.in_ok-rule-in-Macrocell.ensures.file in
+    let file = found.0 in
+    let ended = macrocell-end c.args.store.now c.in-Macrocell.is c.requires.begun c.requires.stands c.deref.ensures.value file found.1 in
+    let last = c.last_square-root.ensures in
+    let store = c.trimmed_pattern-in-Macrocell.new.squares in
+    let root = c.last_square-root.result in
+    let keeps = c.trimmed_pattern-in-Macrocell.ensures.grows.keeps.contents in
+    let kept = keeps root last.known in
+    let cells = last.cells file ended.valid ended.there in
+    ok-both c.trimmed_pattern-in-Macrocell.result (c.trimmed_pattern-in-Macrocell.ensures.pattern _ (sym found.2) (sym found.3) cells)
+    c.trimmed_pattern-in-Macrocell.ensures.grown
+    (λ pattern is grown bytes count end.
+    let whole = ended.ends bytes count end in
+    macrocell-holds store bytes file c.deref.result.now pattern root whole.0 whole.1 (squares-stay file.lines c.deref.result.now keeps ended.there) is kept.0
+    (subst (λ (t : Tree). 1 ≤ depth t) (sym kept.1) last.high)
+    (ap depth kept.1 ∙ ended.last (last.level file ended.valid ended.there) bytes count end)
+    (λ x y. ap (λ (t : Tree). tree_cell t x y) kept.1 ∙ cells x y)
+    (grown-again store root _ (least_level file.rule) kept.1 (subst (HasGrownIn store (content c.args.store.now root)) (ap least_level found.2) grown)))
