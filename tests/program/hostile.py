@@ -836,6 +836,12 @@ def misused(name, *words):
     return Case(name, list(words), 5, ANY, files={"input": FILES["input"]})
 
 
+def explained(name, message, call, *words):
+    """The same, and the text says what is wrong and how the program is called."""
+    text = b"error: %s\n\nUsage: %s\n" % (message, call)
+    return dataclasses.replace(misused(name, *words), error=re.compile(b"^" + re.escape(text), re.MULTILINE))
+
+
 def asked(name, text, *words):
     return Case(name, words or name, output=re.compile(text, re.MULTILINE))
 
@@ -873,6 +879,10 @@ MISUSED = [
     misused("the empty word", ""),
     misused("a word that is no UTF-8 text", "canon", NO_TEXT),
     misused("a word of 100000 bytes", "n" * 100_000),
+    explained("the text for a form that isn't there", b"the value of --form is placed, moved or turned", b"golly_canon <COMMAND>",
+              "canon", "input", "--form", "still"),
+    explained("the text for a format that isn't there", b"the value of --to is rle or mc", b"golly_canon <COMMAND>", "convert", "input", "--to", "png"),
+    explained("the text for keys of no file", b"a FILE or --from LIST has to be given", b"golly_canon keys [OPTIONS] [FILE]...", "keys"),
     Case("the line for a word that is no UTF-8 text", ["canon", NO_TEXT], 5, "error: a word of the command line is no UTF-8 text"),
 ]
 
@@ -899,6 +909,8 @@ ASKED = [
     *(asked(f"a short help that names {command}", rb"^  %s " % command.encode(), "-h")
       for command in ("canon", "convert", "same", "show", "step", "keys")),
     asked("keys --help", rb"Usage: golly_canon keys \[OPTIONS\] \[FILE\]\.\.\."),
+    asked("an example of canon", rb"^  golly_canon canon glider\.rle --form turned \| sha256sum$", "canon", "--help"),
+    asked("an example of keys", rb"^  golly_canon keys \*\.rle \*\.mc$", "keys", "--help"),
 ]
 
 
