@@ -79,7 +79,8 @@ fn write_keys_beside(
         plan,
         |origin| {
             progress.advance(rt);
-            open_no_folder(rt, held, origin)
+            let opened = open_no_folder(rt, held, origin)?;
+            Ok(Device::new(opened.input).expecting(opened.bytes))
         },
         &mut out,
         &mut err,

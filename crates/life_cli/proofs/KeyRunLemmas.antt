@@ -1,5 +1,5 @@
 -- What runs of the command `keys` come to and write, one after another.
-use Rattle.std.proofs.Common.{None, Bor, get_or, drop, drop-cons, add-one, ◌+◌, length, ◌<◌, ◌≡◌, ℕ, max, List, [], ◌∷◌, ◌++◌, ◌⊎◌, inl, inr, Bool, true, false, map, filter, not, Option, Result, Ok, Err, ◌^◌, IfOk, IfErr, OnOk, Some, refl, sym, ap, ◌∙◌, subst, arith}
+use Rattle.std.proofs.Common.{None, OnErr, IsTrue, ◌↔◌, ◌≤◌, zero, suc, Bor, get_or, drop, drop-cons, add-one, ◌+◌, length, ◌<◌, ◌≡◌, ℕ, max, List, [], ◌∷◌, ◌++◌, ◌⊎◌, inl, inr, Bool, true, false, map, filter, not, Option, Result, Ok, Err, ◌^◌, IfOk, IfErr, OnOk, Some, refl, sym, ap, ◌∙◌, subst, arith}
 use Rattle.std.specs.List.{FoldsTo}
 use Rattle.std.specs.Io.KnownBytes.{Appends, Keeps}
 use Rattle.std.proofs.KnownBytes.{Appends-nil, Appends-trans}
@@ -7,27 +7,29 @@ use Rattle.std.proofs.lemmas.Grind.{flat_map-append}
 use Rattle.std.proofs.lemmas.List.{append_assoc, append-nil, map-append, take_all}
 use Rattle.std.specs.declared.io.Error.{Error as IoError}
 use Rattle.std.specs.declared.io.ErrorKind.TheVariants as io
-use Rattle.life_base.specs.DeviceRuns.{sink_run}
+use Rattle.life_base.specs.DeviceRuns.{sink_run, source_run, SourceRun}
 use Rattle.life_base.specs.Text.{is_empty}
 use Rattle.life_base.specs.Inputs.{CameBeyond, ReadAll}
 use Rattle.life_base.specs.Refusal.{fault_of}
 use Rattle.life_base.specs.declared.kind.Kind.TheVariants as kinds
 use Rattle.life_base.specs.Writing.{WritesPrefix, WritesText}
+use Rattle.life_base.specs.declared.cell.TheConstants.{MAX_LEVEL}
+use Rattle.life_base.specs.declared.fault.Fault.{Fault}
 use Rattle.life_base.specs.declared.kind.Kind.{Kind}
 use Rattle.life_base.proofs.WritingLemmas.{prefix-after, prefix-grows}
 use Rattle.life_cli.specs.Faults.{fault_line, refusal_of, status_of, Tells}
-use Rattle.life_cli.specs.Jobs.{by_length, by_source, by_want}
-use Rattle.life_cli.specs.KeyRuns.{broken_off, bytes_of, by_call, by_memory, by_name, by_reading, Comes, error_line, errors_of, greatest_status, IsToldAs, LacksList, list_word, Listed, Name, names_among, names_in, names_of, outcome_status, output_line, output_of, Ran, ReadsList, Taken, Takes, TakesAll, TakesFiles, TellsOn, through, Took, Word, words_of, Writes}
+use Rattle.life_canon.specs.Laws.{RefusalsHaveKinds}
+use Rattle.life_cli.specs.Jobs.{by_length, by_source, by_want, HasNoText, HasText, InputRefuses, RefusesInForm}
+use Rattle.life_cli.specs.KeyRuns.{broken_off, bytes_of, by_call, by_name, by_reading, Comes, error_line, errors_of, greatest_status, IsOutcomeOf, IsToldAs, LacksBytes, LacksList, list_word, Listed, Name, names_among, names_in, names_of, outcome_status, output_line, output_of, Ran, ReadsList, Taken, Takes, TakesAll, TakesFiles, TellsOn, through, Took, Word, words_of, Writes}
 use Rattle.life_cli.specs.Origins.{Gives}
-use Rattle.life_cli.specs.declared.origins.Opened.{Opened}
 use Rattle.life_cli.specs.declared.origins.Origin.{Origin}
 use Rattle.life_cli.specs.declared.plans.Form.{Form}
 use Rattle.life_cli.specs.declared.plans.KeysPlan.{KeysPlan}
-use Rattle.life_cli.specs.Keys.{end_of, IsStatus, pieces_of}
+use Rattle.life_cli.specs.Keys.{end_of, IsKeyIn, IsStatus, pieces_of}
 use Rattle.life_cli.specs.declared.keys.outcome.Outcome.{Outcome}
 use Rattle.life_cli.specs.declared.keys.outcome.Outcome.TheVariants.{Key, Refused, Unopened}
 use Rattle.life_cli.specs.declared.keys.outputs.Outputs.{Outputs}
-use Rattle.life_cli.proofs.KeyLemmas.{kind_status}
+use Rattle.life_cli.proofs.KeyLemmas.{kind_status, read_failed}
 use Rattle.life_cli.proofs.KeyLines.{then_text}
 
 pub greatest_then : (xs ys : List Taken) → greatest_status (xs ++ ys) ≡ max (greatest_status xs) (greatest_status ys)
@@ -113,25 +115,25 @@ takes_then R a (x ∷ xs) b ys c p q = (p.0, p.1, takes_then R p.0 xs b ys c p.2
 one_line : (xs : List ℕ) → xs ≡ xs ++ []
 one_line xs = sym (append-nil xs)
 
-module _ {F R W E : Type 0} (step : F → Origin → Result (Opened R) IoError → F → Type 0) (remaining : R → Option (List ℕ))
+module _ {F R W E : Type 0} (step : F → Origin → Result R IoError → F → Type 0) (remaining : R → Option (List ℕ)) (reads_failed : R → ℕ)
     (held : W → Option (List ℕ)) (contents : E → Option (List ℕ)) (failures : E → ℕ) (stalled : E → Bool) where
   -- no file was taken yet
   pub takes_none : (form : Form) (names : List Name) (f : F) (w : W) (e : E) (o : Outputs) → (o.tells ≡ true → failures e ≡ 0)
-      → TakesFiles step remaining held contents failures stalled form names names f f w w e e o o (Ok tt)
+      → TakesFiles step remaining reads_failed held contents failures stalled form names names f f w w e e o o (Ok tt)
   takes_none form names f w e o hears =
       record { taken = []; split = refl; takes = refl; writes = writes_none held contents failures stalled w e o hears }
 
   -- files, and then further ones
   pub takes_more : (form : Form) (names rest last : List Name) (f g h : F) (u v w : W) (x y z : E) (a b c : Outputs) (result : Result (Unit {0}) Kind)
       → b.zero ≡ a.zero
-      → TakesFiles step remaining held contents failures stalled form names rest f g u v x y a b (Ok tt)
-      → TakesFiles step remaining held contents failures stalled form rest last g h v w y z b c result
-      → TakesFiles step remaining held contents failures stalled form names last f h u w x z a c result
+      → TakesFiles step remaining reads_failed held contents failures stalled form names rest f g u v x y a b (Ok tt)
+      → TakesFiles step remaining reads_failed held contents failures stalled form rest last g h v w y z b c result
+      → TakesFiles step remaining reads_failed held contents failures stalled form names last f h u w x z a c result
   takes_more form names rest last f g h u v w x y z a b c result same p q = record {
     taken = p.taken ++ q.taken;
     split = p.split ∙ ap (λ l. names_of p.taken ++ l) q.split ∙ sym (append_assoc (names_of p.taken) (names_of q.taken) last)
         ∙ ap (λ l. l ++ last) (sym (map-append (λ (t : Taken). t.name) p.taken q.taken));
-    takes = takes_then (Takes step remaining form) f p.taken g q.taken h p.takes q.takes;
+    takes = takes_then (Takes step remaining reads_failed form) f p.taken g q.taken h p.takes q.takes;
     writes = files_then held contents failures stalled u v w x y z a b c result a.zero p.taken q.taken p.writes
         (subst (λ ends. Writes held contents failures stalled v w y z b c result (output_of ends q.taken) (errors_of q.taken)
         (greatest_status q.taken)) same q.writes);
@@ -139,10 +141,10 @@ module _ {F R W E : Type 0} (step : F → Origin → Result (Opened R) IoError �
 
   -- one file
   pub takes_one : (form : Form) (name : Name) (told : Outcome) (rest : List Name) (f g : F) (u v : W) (x y : E) (a b : Outputs)
-      (result : Result (Unit {0}) Kind) → Takes step remaining form f (record { name = name; outcome = told }) g
+      (result : Result (Unit {0}) Kind) → Takes step remaining reads_failed form f (record { name = name; outcome = told }) g
       → Writes held contents failures stalled u v x y a b result (output_line a.zero (bytes_of name) told) (error_line (bytes_of name) told)
       (outcome_status told)
-      → TakesFiles step remaining held contents failures stalled form (name ∷ rest) rest f g u v x y a b result
+      → TakesFiles step remaining reads_failed held contents failures stalled form (name ∷ rest) rest f g u v x y a b result
   takes_one form name told rest f g u v x y a b result takes writes = record {
     taken = record { name = name; outcome = told } ∷ [];
     split = refl;
@@ -158,50 +160,51 @@ module _ {F R W E : Type 0} (step : F → Origin → Result (Opened R) IoError �
       at m n s is = omega (arith, is)
 
 -- want of memory for the line of a key is a fault of its file
-pub told_comes : {F R : Type 0} (step : F → Origin → Result (Opened R) IoError → F → Type 0) (remaining : R → Option (List ℕ)) (form : Form)
-    (given : Result (Opened R) IoError) (outcome told : Outcome) → IsToldAs outcome told → Comes step remaining form given outcome
-    → Comes step remaining form given told
-told_comes step remaining form given outcome told (inl is) comes = subst (Comes step remaining form given) (sym is) comes
-told_comes step remaining form (Ok opened) outcome told (inr (key, is, wants)) comes =
-    let had = subst (Comes step remaining form (Ok opened)) is comes in
-    subst (Comes step remaining form (Ok opened)) (sym wants) (had.0, had.1, by_want (inl refl))
-told_comes step remaining form (Err error) outcome told (inr (key, is, wants)) comes =
-    absurd (subst (Comes step remaining form (Err error)) is comes)
+pub told_comes : {F R : Type 0} (step : F → Origin → Result R IoError → F → Type 0) (remaining : R → Option (List ℕ)) (reads_failed : R → ℕ) (form : Form)
+    (given : Result R IoError) (outcome told : Outcome) → IsToldAs outcome told → Comes step remaining reads_failed form given outcome
+    → Comes step remaining reads_failed form given told
+told_comes step remaining reads_failed form given outcome told (inl is) comes = subst (Comes step remaining reads_failed form given) (sym is) comes
+told_comes step remaining reads_failed form (Ok source) outcome told (inr (key, is, wants)) comes =
+    let had = subst (Comes step remaining reads_failed form (Ok source)) is comes in
+    subst (Comes step remaining reads_failed form (Ok source)) (sym wants)
+    (had.0, record { comes = by_want (inl refl); read_fault = (λ same. cc, λ failed. absurd (had.1.read_fault.1 failed)) })
+told_comes step remaining reads_failed form (Err error) outcome told (inr (key, is, wants)) comes =
+    absurd (subst (Comes step remaining reads_failed form (Err error)) is comes)
 
 -- so what is told of a file is what it comes to
-pub told_takes : {F R : Type 0} (step : F → Origin → Result (Opened R) IoError → F → Type 0) (remaining : R → Option (List ℕ)) (form : Form)
-    (f g : F) (name : Name) (outcome told : Outcome) → IsToldAs outcome told → Takes step remaining form f (record { name = name; outcome = outcome }) g
-    → Takes step remaining form f (record { name = name; outcome = told }) g
-told_takes step remaining form f g name outcome told how (by_call origin given named called comes) =
-    by_call origin given named called (told_comes step remaining form given outcome told how comes)
-told_takes step remaining form f g name outcome told (inl is) (by_name bad same) =
+pub told_takes : {F R : Type 0} (step : F → Origin → Result R IoError → F → Type 0) (remaining : R → Option (List ℕ)) (reads_failed : R → ℕ) (form : Form)
+    (f g : F) (name : Name) (outcome told : Outcome) → IsToldAs outcome told → Takes step remaining reads_failed form f (record { name = name; outcome = outcome }) g
+    → Takes step remaining reads_failed form f (record { name = name; outcome = told }) g
+told_takes step remaining reads_failed form f g name outcome told how (by_call origin given named called comes) =
+    by_call origin given named called (told_comes step remaining reads_failed form given outcome told how comes)
+told_takes step remaining reads_failed form f g name outcome told (inl is) (by_name bad same) =
     by_name (bad.0, bad.1, bad.2, is ∙ bad.3) same
-told_takes step remaining form f g name outcome told (inr (key, is, wants)) (by_name bad same) =
+told_takes step remaining reads_failed form f g name outcome told (inr (key, is, wants)) (by_name bad same) =
     let both : Unopened io.InvalidFilename ≡ Key key = sym bad.3 ∙ is in absurd cc
 
-module _ {F R W E : Type 0} (step : F → Origin → Result (Opened R) IoError → F → Type 0) (remaining : R → Option (List ℕ))
+module _ {F R W E : Type 0} (step : F → Origin → Result R IoError → F → Type 0) (remaining : R → Option (List ℕ)) (reads_failed : R → ℕ)
     (held : W → Option (List ℕ)) (contents : E → Option (List ℕ)) (failures : E → ℕ) (stalled : E → Bool) where
   -- files, and then the next one
   pub takes_next : (form form' : Form) (names rest rest' : List Name) (name : Name) (bytes : List ℕ) (outcome : Outcome) (f g h : F) (u v w : W)
       (x y z : E) (a b c : Outputs) (result : Result (Unit {0}) Kind) → form' ≡ form → b.zero ≡ a.zero → rest ≡ name ∷ rest' → bytes ≡ bytes_of name
-      → TakesFiles step remaining held contents failures stalled form names rest f g u v x y a b (Ok tt)
-      → Takes step remaining form' g (record { name = name; outcome = outcome }) h
+      → TakesFiles step remaining reads_failed held contents failures stalled form names rest f g u v x y a b (Ok tt)
+      → Takes step remaining reads_failed form' g (record { name = name; outcome = outcome }) h
       → (told : Outcome) × IsToldAs outcome told × Writes held contents failures stalled v w y z b c result (output_line b.zero bytes told)
       (error_line bytes told) (outcome_status told)
-      → TakesFiles step remaining held contents failures stalled form names rest' f h u w x z a c result
+      → TakesFiles step remaining reads_failed held contents failures stalled form names rest' f h u w x z a c result
   takes_next form form' names rest rest' name bytes outcome f g h u v w x y z a b c result is_form is_zero split is before takes (told, how, writes) =
-      let these = told_takes step remaining form g h name outcome told how
-      (subst (λ k. Takes step remaining k g (record { name = name; outcome = outcome }) h) is_form takes) in
+      let these = told_takes step remaining reads_failed form g h name outcome told how
+      (subst (λ k. Takes step remaining reads_failed k g (record { name = name; outcome = outcome }) h) is_form takes) in
       let lines = subst (λ l. Writes held contents failures stalled v w y z b c result (output_line b.zero l told) (error_line l told) (outcome_status told))
       is writes in
-      takes_more step remaining held contents failures stalled form names rest rest' f g h u v w x y z a b c result is_zero before
-      (subst (λ l. TakesFiles step remaining held contents failures stalled form l rest' g h v w y z b c result) (sym split)
-      (takes_one step remaining held contents failures stalled form name told rest' g h v w y z b c result these lines))
+      takes_more step remaining reads_failed held contents failures stalled form names rest rest' f g h u v w x y z a b c result is_zero before
+      (subst (λ l. TakesFiles step remaining reads_failed held contents failures stalled form l rest' g h v w y z b c result) (sym split)
+      (takes_one step remaining reads_failed held contents failures stalled form name told rest' g h v w y z b c result these lines))
 
   -- which error it is doesn't count
   pub takes_err : (form : Form) (names rest : List Name) (f g : F) (u v : W) (x y : E) (a b : Outputs) (k k' : Kind)
-      → TakesFiles step remaining held contents failures stalled form names rest f g u v x y a b (Err k)
-      → TakesFiles step remaining held contents failures stalled form names rest f g u v x y a b (Err k')
+      → TakesFiles step remaining reads_failed held contents failures stalled form names rest f g u v x y a b (Err k)
+      → TakesFiles step remaining reads_failed held contents failures stalled form names rest f g u v x y a b (Err k')
   takes_err form names rest f g u v x y a b k k' p = record {
     taken = p.taken;
     split = p.split;
@@ -211,8 +214,8 @@ module _ {F R W E : Type 0} (step : F → Origin → Result (Opened R) IoError �
 
   -- nor what follows
   pub takes_longer : (form : Form) (names rest more : List Name) (f g : F) (u v : W) (x y : E) (a b : Outputs) (result : Result (Unit {0}) Kind)
-      → TakesFiles step remaining held contents failures stalled form names rest f g u v x y a b result
-      → TakesFiles step remaining held contents failures stalled form (names ++ more) (rest ++ more) f g u v x y a b result
+      → TakesFiles step remaining reads_failed held contents failures stalled form names rest f g u v x y a b result
+      → TakesFiles step remaining reads_failed held contents failures stalled form (names ++ more) (rest ++ more) f g u v x y a b result
   takes_longer form names rest more f g u v x y a b result p = record {
     taken = p.taken;
     split = ap (λ l. l ++ more) p.split ∙ append_assoc (names_of p.taken) rest more;
@@ -223,24 +226,24 @@ module _ {F R W E : Type 0} (step : F → Origin → Result (Opened R) IoError �
   -- the files of the words, and then those of the list
   pub takes_both : (form form' : Form) (words : List (List ℕ)) (list : List ℕ) (rest last : List Name) (f g h : F) (u v w : W)
       (x y z : E) (a b c : Outputs) (result : Result (Unit {0}) Kind) → form' ≡ form → b.zero ≡ a.zero → rest ≡ []
-      → TakesFiles step remaining held contents failures stalled form (map Word words) rest f g u v x y a b (Ok tt)
-      → TakesFiles step remaining held contents failures stalled form' (map Listed (names_in (end_of b.zero) list)) last g h v w y z b c result
-      → TakesFiles step remaining held contents failures stalled form (names_among a.zero words list) last f h u w x z a c result
+      → TakesFiles step remaining reads_failed held contents failures stalled form (map Word words) rest f g u v x y a b (Ok tt)
+      → TakesFiles step remaining reads_failed held contents failures stalled form' (map Listed (names_in (end_of b.zero) list)) last g h v w y z b c result
+      → TakesFiles step remaining reads_failed held contents failures stalled form (names_among a.zero words list) last f h u w x z a c result
   takes_both form form' words list rest last f g h u v w x y z a b c result is_form is_zero all p q =
       let more = map Listed (names_in (end_of a.zero) list) in
-      let first = subst (λ l. TakesFiles step remaining held contents failures stalled form (map Word words ++ more) (l ++ more) f g u v x y a b (Ok tt)) all
+      let first = subst (λ l. TakesFiles step remaining reads_failed held contents failures stalled form (map Word words ++ more) (l ++ more) f g u v x y a b (Ok tt)) all
       (takes_longer form (map Word words) rest more f g u v x y a b (Ok tt) p) in
-      let one = subst (λ k. TakesFiles step remaining held contents failures stalled k (map Listed (names_in (end_of b.zero) list)) last g h v w y z b c result)
+      let one = subst (λ k. TakesFiles step remaining reads_failed held contents failures stalled k (map Listed (names_in (end_of b.zero) list)) last g h v w y z b c result)
       is_form q in
-      let second = subst (λ ends. TakesFiles step remaining held contents failures stalled form (map Listed (names_in (end_of ends) list)) last
+      let second = subst (λ ends. TakesFiles step remaining reads_failed held contents failures stalled form (map Listed (names_in (end_of ends) list)) last
       g h v w y z b c result) is_zero one in
-      takes_more step remaining held contents failures stalled form (names_among a.zero words list) more last f g h u v w x y z a b c result
+      takes_more step remaining reads_failed held contents failures stalled form (names_among a.zero words list) more last f g h u v w x y z a b c result
       is_zero first second
 
   -- a flush hands on what was written, or fails, and then all of it was written
   pub takes_flushed : (form : Form) (names rest : List Name) (f g : F) (u v w : W) (x y : E) (a b : Outputs) (result : Result (Unit {0}) Kind)
-      → TakesFiles step remaining held contents failures stalled form names rest f g u v x y a b (Ok tt) → Keeps (held v) (held w)
-      → TakesFiles step remaining held contents failures stalled form names rest f g u w x y a b result
+      → TakesFiles step remaining reads_failed held contents failures stalled form names rest f g u v x y a b (Ok tt) → Keeps (held v) (held w)
+      → TakesFiles step remaining reads_failed held contents failures stalled form names rest f g u w x y a b result
   takes_flushed form names rest f g u v w x y a b result p keeps = record {
     taken = p.taken;
     split = p.split;
@@ -272,30 +275,54 @@ words_next words i d lt = ap (λ l. map Word (map (λ (word : Bor (List ℕ)). w
     ∙ ap (λ n. Word (get_or words i d).now ∷ map Word (map (λ (word : Bor (List ℕ)). word.now) (drop n words))) (sym (add-one i))
 
 -- the list of a run was read
-pub list_read : {F R A : Type 0} (step : F → Origin → Result (Opened R) IoError → F → Type 0) (remaining : R → Option (List ℕ)) (from : Option (List ℕ))
-    (word : List ℕ) (before after : F) (opened : Opened R) (old new : Option (List ℕ)) (items : A → List ℕ) (result : Result A Kind) → from ≡ Some word
-    → Gives step word before (Ok opened) after → old ≡ remaining opened.input → IfOk result (λ bytes. ReadAll (2 ^ 30) old new (items bytes))
-    → IfOk result (λ bytes. ReadsList step remaining from before (items bytes) after)
-list_read step remaining from word before after opened old new items (Ok bytes) some gives is read =
-    subst (λ w. ReadsList step remaining w before (items bytes) after) (sym some)
-    (opened, gives, (record { before = old; after = new; failures = 0 }, is, read))
-list_read step remaining from word before after opened old new items (Err kind) some gives is read = tt
+pub list_read : {F R B : Type 0} (step : F → Origin → Result R IoError → F → Type 0) (remaining : R → Option (List ℕ)) (reads_failed : R → ℕ)
+    (from : Option (List ℕ)) (word : List ℕ) (before after : F) (source end : R) (items : B → List ℕ) (result : Result B Kind) → from ≡ Some word
+    → Gives step word before (Ok source) after → IfOk result (λ bytes. ReadAll (2 ^ 30) (remaining source) (remaining end) (items bytes))
+    → OnOk result (reads_failed end ≡ 0) → IfOk result (λ bytes. ReadsList step remaining reads_failed from before (items bytes) after)
+list_read step remaining reads_failed from word before after source end items (Ok bytes) some gives read works =
+    subst (λ w. ReadsList step remaining reads_failed w before (items bytes) after) (sym some) (source, end, gives, read, works)
+list_read step remaining reads_failed from word before after source end items (Err kind) some gives read works = tt
 
 -- or not
-pub list_lacks : {F R A : Type 0} (step : F → Origin → Result (Opened R) IoError → F → Type 0) (remaining : R → Option (List ℕ)) (word : List ℕ)
-    (before after : F) (opened : Opened R) (old new : Option (List ℕ)) (failures : ℕ) (result : Result A Kind) → Gives step word before (Ok opened) after
-    → old ≡ remaining opened.input → IfErr result (λ kind. kind ≡ kinds.ReadFault → failures ≡ 1)
-    → IfErr result (λ kind. kind ≡ kinds.InputTooLong → CameBeyond (2 ^ 30) old new)
+pub list_lacks : {F R B : Type 0} (step : F → Origin → Result R IoError → F → Type 0) (remaining : R → Option (List ℕ)) (reads_failed : R → ℕ)
+    (word : List ℕ) (before after : F) (source end : R) (result : Result B Kind) → Gives step word before (Ok source) after
+    → IfErr result (LacksBytes (source_run remaining reads_failed source end)) → IfErr result (LacksList step remaining reads_failed word before)
+list_lacks step remaining reads_failed word before after source end (Ok bytes) gives lacks = tt
+list_lacks step remaining reads_failed word before after source end (Err kind) gives lacks = by_reading source after end gives lacks
+
+-- why a source has no bytes of a list
+pub lacks_bytes : {B : Type 0} (source : SourceRun) (result : Result B Kind) → IfErr result (λ kind. kind ≡ kinds.ReadFault → source.failures ≡ 1)
+    → IfErr result (λ kind. kind ≡ kinds.InputTooLong → CameBeyond (2 ^ 30) source.before source.after)
     → IfErr result (λ kind. (kind ≡ kinds.ReadFault) ⊎ ((kind ≡ kinds.InputTooLong) ⊎ (kind ≡ kinds.Memory)))
-    → IfErr result (LacksList step remaining word before)
-list_lacks step remaining word before after opened old new failures (Ok a) gives is failed long kind = tt
-list_lacks step remaining word before after opened old new failures (Err k) gives is failed long kind = elim kind [
-  | inl reads ↦ by_reading opened after (record { before = old; after = new; failures = failures }) gives is (by_source (ap fault_of reads) (failed reads))
-  | inr other ↦ elim other [
-    | inl more ↦ by_reading opened after (record { before = old; after = new; failures = failures }) gives is (by_length (ap fault_of more) (long more))
-    | inr wants ↦ by_memory wants
-  ]
-]
+    → OnErr result (source.failures ≡ 1 → IfErr result (λ kind. kind ≡ kinds.ReadFault)) → IfErr result (LacksBytes source)
+lacks_bytes source (Ok bytes) failed long of_kind reported = tt
+lacks_bytes source (Err kind) failed long of_kind reported = record { why = at of_kind; read_fault = (failed, reported) }
+  where
+    at : (kind ≡ kinds.ReadFault) ⊎ ((kind ≡ kinds.InputTooLong) ⊎ (kind ≡ kinds.Memory)) → InputRefuses source (fault_of kind) ⊎ (kind ≡ kinds.Memory)
+    at (inl is) = inl (by_source (ap fault_of is) (failed is))
+    at (inr (inl is)) = inl (by_length (ap fault_of is) (long is))
+    at (inr (inr is)) = inr is
+
+-- a source that isn't said to have failed works
+pub unfailed : (n : ℕ) (failed : Bool) → n ≤ 1 → IsTrue failed ↔ (n ≡ 1) → failed ≡ false → n ≡ 0
+unfailed n true most is fails = absurd cc
+unfailed n false most is fails = at n most (λ one. let bad : false ≡ true = is.1 one in absurd cc)
+  where
+    at : (n : ℕ) → n ≤ 1 → (n ≡ 1 → ⊥) → n ≡ 0
+    at zero most other = refl
+    at (suc zero) most other = absurd (other refl)
+    at (suc (suc n)) most other = absurd (omega (arith, most))
+
+-- what comes of a source that has a key
+pub outcome_of_key : (form : Form) (source : SourceRun) (key : List ℕ) → HasText (IsKeyIn form MAX_LEVEL) source key
+    → (source.failures ≡ 1 → ⊥) → IsOutcomeOf form source (Key key)
+outcome_of_key form source key has whole = record { comes = has; read_fault = (λ none. absurd none, whole) }
+
+-- what comes of a source that has no key
+pub outcome_of_fault : RefusalsHaveKinds MAX_LEVEL → (form : Form) (source : SourceRun) (fault : Fault) → HasNoText (RefusesInForm form) source fault
+    → (source.failures ≡ 1 → fault.kind ≡ kinds.ReadFault) → IsOutcomeOf form source (Refused fault)
+outcome_of_fault law form source fault refuses told =
+    record { comes = refuses; read_fault = (read_failed law form source fault refuses, told) }
 
 pub on_ok : {A B : Type 0} (P : Type 0) (r : Result A B) → P → OnOk r P
 on_ok P (Ok a) p = p
@@ -353,32 +380,32 @@ names_same z z' words words' list list' p q r = ap (λ e. names_among e (map (λ
 from_none : (m n g : ℕ) → n ≡ max m g → m ≡ 0 → n ≡ g
 from_none m n g is none = omega (arith, is, none)
 
-module _ {F R W E : Type 0} (step : F → Origin → Result (Opened R) IoError → F → Type 0) (remaining : R → Option (List ℕ))
+module _ {F R W E : Type 0} (step : F → Origin → Result R IoError → F → Type 0) (remaining : R → Option (List ℕ)) (reads_failed : R → ℕ)
     (held : W → Option (List ℕ)) (w-failures : W → ℕ) (w-stalled : W → Bool)
     (contents : E → Option (List ℕ)) (failures : E → ℕ) (stalled : E → Bool) where
   -- the files that a run took, from those that were taken after its list was read
   took_of : (plan : KeysPlan) (opener ready last : F) (list : List ℕ) (form : Form) (names rest : List Name) (u v : W) (x y : E) (a b : Outputs)
-      (result : Result (Unit {0}) Kind) → ReadsList step remaining (list_word plan) opener list ready → form ≡ plan.form
+      (result : Result (Unit {0}) Kind) → ReadsList step remaining reads_failed (list_word plan) opener list ready → form ≡ plan.form
       → names ≡ names_among plan.zero (words_of plan) list
-      → (p : TakesFiles step remaining held contents failures stalled form names rest ready last u v x y a b result)
-      → Took step remaining plan opener p.taken rest
+      → (p : TakesFiles step remaining reads_failed held contents failures stalled form names rest ready last u v x y a b result)
+      → Took step remaining reads_failed plan opener p.taken rest
   took_of plan opener ready last list form names rest u v x y a b result read is_form same p = record {
     list = list;
     ready = ready;
     last = last;
     read = read;
     names = sym same ∙ p.split;
-    takes = subst (λ k. TakesAll step remaining k ready p.taken last) is_form p.takes;
+    takes = subst (λ k. TakesAll step remaining reads_failed k ready p.taken last) is_form p.takes;
   }
 
   -- a run that comes to its end
   pub ran_through : (plan : KeysPlan) (opener ready last : F) (list : List ℕ) (form : Form) (names rest : List Name) (u v : W) (x y : E) (a b : Outputs)
-      (flushed : Bool) → ReadsList step remaining (list_word plan) opener list ready → form ≡ plan.form
+      (flushed : Bool) → ReadsList step remaining reads_failed (list_word plan) opener list ready → form ≡ plan.form
       → names ≡ names_among plan.zero (words_of plan) list → a.zero ≡ plan.zero → a.tells ≡ true → a.status ≡ 0 → rest ≡ []
-      → TakesFiles step remaining held contents failures stalled form names rest ready last u v x y a b (Ok tt) → flushed ≡ true
-      → Ran step remaining plan opener (sink_run held w-failures w-stalled u v) (sink_run contents failures stalled x y) flushed b.status
+      → TakesFiles step remaining reads_failed held contents failures stalled form names rest ready last u v x y a b (Ok tt) → flushed ≡ true
+      → Ran step remaining reads_failed plan opener (sink_run held w-failures w-stalled u v) (sink_run contents failures stalled x y) flushed b.status
   ran_through plan opener ready last list form names rest u v x y a b flushed read is_form same is_zero hears none all p is_flushed = through p.taken
-      (subst (Took step remaining plan opener p.taken) all (took_of plan opener ready last list form names rest u v x y a b (Ok tt) read is_form same p))
+      (subst (Took step remaining reads_failed plan opener p.taken) all (took_of plan opener ready last list form names rest u v x y a b (Ok tt) read is_form same p))
       (subst (λ z. Appends (held u) (held v) (output_of z p.taken)) is_zero p.writes.written) is_flushed
       (tells_all contents failures stalled b.tells x y (errors_of p.taken)
       (subst (λ t. TellsOn contents failures stalled t b.tells x y (errors_of p.taken)) hears p.writes.told))
@@ -386,13 +413,13 @@ module _ {F R W E : Type 0} (step : F → Origin → Result (Opened R) IoError �
 
   -- a run that is broken off
   pub ran_broken : (plan : KeysPlan) (opener ready last : F) (list : List ℕ) (form : Form) (names rest : List Name) (u v : W) (x y z : E) (a b : Outputs)
-      (flushed : Bool) (kind : Kind) (status : ℕ) → ReadsList step remaining (list_word plan) opener list ready → form ≡ plan.form
+      (flushed : Bool) (kind : Kind) (status : ℕ) → ReadsList step remaining reads_failed (list_word plan) opener list ready → form ≡ plan.form
       → names ≡ names_among plan.zero (words_of plan) list → a.zero ≡ plan.zero → a.tells ≡ true
-      → TakesFiles step remaining held contents failures stalled form names rest ready last u v x y a b (Err kind)
+      → TakesFiles step remaining reads_failed held contents failures stalled form names rest ready last u v x y a b (Err kind)
       → kind ≡ kinds.WriteFault → (w-failures v ≡ 1) ⊎ (w-stalled v ≡ true)
       → (b.tells ≡ true → Tells (sink_run contents failures stalled y z) (fault_line (refusal_of (fault_of kind)))) → (b.tells ≡ false → z ≡ y)
       → status ≡ status_of kind
-      → Ran step remaining plan opener (sink_run held w-failures w-stalled u v) (sink_run contents failures stalled x z) flushed status
+      → Ran step remaining reads_failed plan opener (sink_run held w-failures w-stalled u v) (sink_run contents failures stalled x z) flushed status
   ran_broken plan opener ready last list form names rest u v x y z a b flushed kind status read is_form same is_zero hears p is cause told silent is_status =
       broken_off p.taken rest (took_of plan opener ready last list form names rest u v x y a b (Err kind) read is_form same p)
       (subst (λ e. WritesPrefix (held u) (held v) (output_of e p.taken)) is_zero p.writes.written) cause
@@ -403,6 +430,6 @@ module _ {F R W E : Type 0} (step : F → Origin → Result (Opened R) IoError �
 
   -- and the status of one that comes to its end
   pub status_is : (form : Form) (names rest : List Name) (f g : F) (u v : W) (x y : E) (a b : Outputs) (result : Result (Unit {0}) Kind) → a.status ≡ 0
-      → TakesFiles step remaining held contents failures stalled form names rest f g u v x y a b result → IsStatus b.status
+      → TakesFiles step remaining reads_failed held contents failures stalled form names rest f g u v x y a b result → IsStatus b.status
   status_is form names rest f g u v x y a b result none p =
       subst IsStatus (sym (from_none a.status b.status (greatest_status p.taken) p.writes.status none)) (greatest_is p.taken)

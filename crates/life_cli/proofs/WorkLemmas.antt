@@ -1,22 +1,23 @@
 -- From the parts of a task to what it did, or why it is refused.
-use Rattle.std.proofs.Common.{◌≡◌, ◌<◌, arith, ℕ, ◌^◌, ◌⊎◌, inl, inr, List, [], Bool, true, false, Option, Some, None, IfSome, Result, Ok, Err, IfErr, IfOk, OnOk, IsErrAnd, ap, refl, IsTrue, ◌↔◌, subst, sym, ◌∙◌}
+use Rattle.std.proofs.Common.{◌≡◌, ◌≢◌, ◌<◌, ◌+◌, length, Contains, AllPairs, arith, ℕ, ◌^◌, ◌⊎◌, inl, inr, List, [], Bool, true, false, Option, Some, None, IfSome, Result, Ok, Err, IfErr, IfOk, OnOk, IsErrAnd, ap, refl, IsTrue, ◌↔◌, subst, sym, ◌∙◌}
 use Rattle.std.specs.Option.{option_map_or}
 use Rattle.std.specs.Io.KnownBytes.{Appends}
 use Rattle.life_base.specs.DeviceRuns.{SourceRun, SinkRun}
 use Rattle.life_base.specs.Inputs.{ReadAll}
 use Rattle.life_base.specs.Refusal.{fault_of, OrMemory}
 use Rattle.life_base.specs.Text.{lines_of}
-use Rattle.life_base.specs.Tree.{Tree}
+use Rattle.life_base.specs.Tree.{Tree, is_blank_tree}
 use Rattle.life_base.specs.declared.cell.TheConstants.{MAX_LEVEL}
 use Rattle.life_base.specs.declared.fault.Fault.{Fault}
 use Rattle.life_base.specs.declared.kind.Kind.{Kind}
 use Rattle.life_base.specs.declared.kind.Kind.TheVariants as kinds
 use Rattle.life_base.specs.declared.kind.Kind.TheVariants.{Full, Memory, TooManyCells, ReadFault, InputTooLong, WriteFault}
 use Rattle.life_base.specs.declared.rule.Rule.{Rule}
-use Rattle.life_quad.specs.Store.{Nodes}
+use Rattle.life_quad.specs.Store.{Nodes, held}
 use Rattle.life_canon.specs.Files.{Accepted, Reads, Refuses, is_file_kind}
 use Rattle.life_canon.specs.Laws.{RefusalsHaveKinds}
-use Rattle.life_canon.specs.Running.{HasRead, ReadRefuses, ReadsPattern, LacksForRead}
+use Rattle.life_canon.specs.Room.{room_for}
+use Rattle.life_canon.specs.Running.{AddsForRead, HasRead, ReadRefuses, ReadsPattern, ReadsSource}
 use Rattle.life_canon.specs.Running as reading
 use Rattle.life_canon.specs.Store.{IsRead, IsWant, content}
 use Rattle.life_canon.specs.Texts.{HasMoreCells, IsRleOf, IsShown}
@@ -39,15 +40,45 @@ use Rattle.life_cli.specs.Plans.{HasSecond, WritesPlacedText}
 use Rattle.life_step.specs.Stepped.{IsStepped, IsSteppedBy}
 use Rattle.life_cli.specs.Jobs.{InputRefuses, by_length, by_source, HasNoText, by_input, by_file, by_want, AreUncompared}
 use Rattle.life_cli.specs.Jobs.{by_first, by_second, by_form, by_first_shortage, by_second_shortage, RefusesInForm, RefusesSame}
-use Rattle.life_cli.specs.Jobs.{IsWantFor, WantsFor, RefusesMany, Compares, made_text, made_status, HasAnswer, TaskMakes, Writes, Worked, BreaksOff, HasText, FileRefuses, ComesOf}
+use Rattle.life_cli.specs.Jobs.{AreOfInput, IsTooSmallFor, IsWantFor, WantsFor, RefusesMany, Compares, made_text, made_status, HasAnswer, TaskMakes, Writes, Worked, BreaksOff, HasText, FileRefuses, ComesOf}
 use Rattle.life_cli.specs.Jobs.{by_comparing, by_reading, by_writing, by_telling, HasTextByTable, HasNoTextByTable, MadeOf}
 use Rattle.life_cli.specs.Jobs.{RefusesStep, HasTable, HasNoTable, table_by_input, table_by_lines}
 use Rattle.life_cli.specs.Jobs.{table_by_memory, CanonRefuses, OfFile, TaskRan, TaskRefuses}
 
+-- which squares a call leaves in the store that reads an input into it
+pub squares_of_input : (old new : Nodes) (input : Option (List ℕ)) → AddsForRead input old new → AllPairs ◌≢◌ (held new)
+    → ((t : Tree) → Contains (held new) t → is_blank_tree t ≡ false) → AreOfInput (held old) input (held new)
+squares_of_input old new input adds distinct not_blank = record {
+  bytes = adds.bytes;
+  left = adds.left;
+  came = adds.came;
+  distinct = distinct;
+  not_blank = not_blank;
+  needed = adds.adds.each;
+}
+
+-- a store that got full is too small for the input
+pub too_small : {X : Type 0} (old new : Nodes) (source : SourceRun) (result : Result X Fault) → ReadsSource (2 ^ 30) old new source result
+    → AreOfInput (held old) source.before (held new) → result ≡ Err (fault_of Full) → IsTooSmallFor (held old) source new
+too_small old new source result reads squares full =
+    let room = reads.room full in
+    record {
+      squares = squares;
+      lacks = reads.needed full;
+      read = room.bytes;
+      came = room.came;
+      tight = subst (λ limit. limit < length (held old) + room_for (length room.bytes)) (sym reads.keeps.limit) room.tight;
+    }
+
+pub too_small_alone : {X : Type 0} (old new : Nodes) (source : SourceRun) (result : Result X Fault) → ReadsSource (2 ^ 30) old new source result
+    → AreOfInput (held old) source.before (held new) → held old ≡ [] → result ≡ Err (fault_of Full) → IsTooSmallFor [] source new
+too_small_alone old new source result reads squares empty full =
+    subst (λ base. IsTooSmallFor base source new) empty (too_small old new source result reads squares full)
+
 -- nothing comes of an input of which a store makes no pattern
 pub no_pattern : (refuses : List ℕ → Fault → Type 0) (source : SourceRun) (store : Nodes) (fault : Fault) → store.limit ≡ 2 ^ 31
     → ((bytes : List ℕ) → Refuses MAX_LEVEL bytes fault → refuses bytes fault) → ReadRefuses MAX_LEVEL (2 ^ 30) store source fault
-    → (fault ≡ fault_of Full → LacksForRead MAX_LEVEL (2 ^ 30) store source) → HasNoText refuses source fault
+    → (fault ≡ fault_of Full → IsTooSmallFor [] source store) → HasNoText refuses source fault
 no_pattern refuses source store fault limit f (reading.by_file bytes read h) lacks = by_file bytes read (f bytes h)
 no_pattern refuses source store fault limit f (reading.by_want want) lacks = by_want (inr (store, limit, (want, lacks)))
 no_pattern refuses source store fault limit f (reading.by_length is came) lacks = by_input (by_length is came)
@@ -83,32 +114,46 @@ refused_text form source store pattern (Err fault) has (inl memory) = by_want (i
 refused_text form source store pattern (Err fault) has (inr refuses) = by_file has.bytes has.read (refuses has.bytes has.is)
 
 -- a fault of a kind that isn't a file's is none of a file
-pub no_file : (source : SourceRun) (store : Nodes) (fault : Fault) → RefusalsHaveKinds MAX_LEVEL → ReadRefuses MAX_LEVEL (2 ^ 30) store source fault
-    → (fault ≡ fault_of Full → LacksForRead MAX_LEVEL (2 ^ 30) store source)
+pub no_file : (base : List Tree) (source : SourceRun) (store : Nodes) (fault : Fault) → RefusalsHaveKinds MAX_LEVEL → ReadRefuses MAX_LEVEL (2 ^ 30) store source fault
+    → (fault ≡ fault_of Full → IsTooSmallFor base source store)
     → (fault.kind ≡ ReadFault) ⊎ ((fault.kind ≡ InputTooLong) ⊎ ((fault.kind ≡ Full) ⊎ (fault.kind ≡ Memory)))
-    → InputRefuses source fault ⊎ IsWantFor source store fault
-no_file source store fault law (reading.by_file bytes read h) lacks k = absurd (other fault.kind (law (lines_of bytes) fault h).0 k)
+    → InputRefuses source fault ⊎ IsWantFor base source store fault
+no_file base source store fault law (reading.by_file bytes read h) lacks k = absurd (other fault.kind (law (lines_of bytes) fault h).0 k)
   where
     other : (kind : Kind) → is_file_kind kind ≡ true → (kind ≡ ReadFault) ⊎ ((kind ≡ InputTooLong) ⊎ ((kind ≡ Full) ⊎ (kind ≡ Memory))) → ⊥
     other kind is (inl e) = let n : is_file_kind ReadFault ≡ true = subst (λ (k : Kind). is_file_kind k ≡ true) e is in cc
     other kind is (inr (inl e)) = let n : is_file_kind InputTooLong ≡ true = subst (λ (k : Kind). is_file_kind k ≡ true) e is in cc
     other kind is (inr (inr (inl e))) = let n : is_file_kind Full ≡ true = subst (λ (k : Kind). is_file_kind k ≡ true) e is in cc
     other kind is (inr (inr (inr e))) = let n : is_file_kind Memory ≡ true = subst (λ (k : Kind). is_file_kind k ≡ true) e is in cc
-no_file source store fault law (reading.by_want want) lacks k = inr (want, lacks)
-no_file source store fault law (reading.by_length is came) lacks k = inl (by_length is came)
-no_file source store fault law (reading.by_source is failed) lacks k = inl (by_source is failed)
+no_file base source store fault law (reading.by_want want) lacks k = inr (want, lacks)
+no_file base source store fault law (reading.by_length is came) lacks k = inl (by_length is came)
+no_file base source store fault law (reading.by_source is failed) lacks k = inl (by_source is failed)
 
 -- two files aren't compared
 pub no_first_input : (form : Form) (first second : SourceRun) (store : Nodes) (fault : Fault) → store.limit ≡ 2 ^ 31
-    → InputRefuses first fault ⊎ IsWantFor first store fault → AreUncompared form first second fault
+    → InputRefuses first fault ⊎ IsWantFor [] first store fault → AreUncompared form first second fault
 no_first_input form first second store fault limit (inl unread) = by_first unread
 no_first_input form first second store fault limit (inr want) = by_first_shortage (inr (store, limit, want))
 
-pub no_second_input : (form : Form) (first second : SourceRun) (a : List ℕ) (store : Nodes) (fault : Fault)
-    → ReadAll (2 ^ 30) first.before first.after a → store.limit ≡ 2 ^ 31 → InputRefuses second fault ⊎ IsWantFor second store fault
-    → AreUncompared form first second fault
-no_second_input form first second a store fault read limit (inl unread) = by_second a read unread
-no_second_input form first second a store fault read limit (inr want) = by_second_shortage a read (inr (store, limit, want))
+pub no_second_input : (form : Form) (first second : SourceRun) (a : List ℕ) (stored : List Tree) (store : Nodes) (fault : Fault)
+    → ReadAll (2 ^ 30) first.before first.after a → AreOfInput [] first.before stored → store.limit ≡ 2 ^ 31
+    → InputRefuses second fault ⊎ IsWantFor stored second store fault → AreUncompared form first second fault
+no_second_input form first second a stored store fault read are limit (inl unread) = by_second a read unread
+no_second_input form first second a stored store fault read are limit (inr want) = by_second_shortage a stored read are (inr (store, limit, want))
+
+below_none : (k : ℕ) → k < 0 → ⊥
+below_none k lt = omega (arith, lt)
+
+-- no squares are those of an input
+no_squares : (source : SourceRun) (bytes : List ℕ) → ReadAll (2 ^ 30) source.before source.after bytes → AreOfInput [] source.before []
+no_squares source bytes read = record {
+  bytes = bytes;
+  left = source.after;
+  came = read.taken;
+  distinct = λ i j d before within. absurd (below_none j within);
+  not_blank = λ t is. absurd (below_none is.0 is.1);
+  needed = λ t is. absurd (below_none is.0 is.1);
+}
 
 -- what a comparison answers is its status and its line
 answers : (form : Form) (a b : List ℕ) (answer : Bool) → IsTrue answer ↔ AreSameIn form MAX_LEVEL a b
@@ -154,7 +199,7 @@ module _ (form : Form) (first second : SourceRun) (store : Nodes) (a b : List �
           ⊎ ((f s : List ℕ) → IsRead MAX_LEVEL f store p → IsRead MAX_LEVEL s store q → RefusesSame form f s fault))
           → IfErr r (AreUncompared form first second)
       go (Ok answer) h = tt
-      go (Err fault) (inl memory) = by_second_shortage a one (inl memory)
+      go (Err fault) (inl memory) = by_second_shortage a [] one (no_squares first a one) (inl memory)
       go (Err fault) (inr refuses) =
           by_form a b one two (reads.universe, reads.reads) (others.universe, others.reads) (refuses a b reads others)
 
@@ -167,12 +212,12 @@ text_of_pattern gives items source store pattern (Err fault) has is = tt
 
 -- nothing comes of a file whose pattern wasn't read
 pub nothing_comes : {X : Type 0} (items : X → List ℕ) (gives : List ℕ → List ℕ → Type 0) (refuses : List ℕ → Fault → Type 0) (source : SourceRun)
-    (old new : Nodes) (fault : Fault) → old.limit ≡ 2 ^ 31 → ((bytes : List ℕ) → Refuses MAX_LEVEL bytes fault → refuses bytes fault)
+    (old new : Nodes) (fault : Fault) → old.limit ≡ 2 ^ 31 → held old ≡ [] → AreOfInput (held old) source.before (held new) → ((bytes : List ℕ) → Refuses MAX_LEVEL bytes fault → refuses bytes fault)
     → ReadsPattern (2 ^ 30) old new source (Err fault) → ComesOf items gives refuses source (Err fault)
-nothing_comes items gives refuses source old new fault limit f read = record {
+nothing_comes items gives refuses source old new fault limit empty squares f read = record {
   ok = tt;
   err = no_pattern refuses source new fault (read.reads.keeps.limit ∙ limit) f read.fault
-      (λ full. read.reads.needed (ap (λ (e : Fault). Err e) full));
+      (λ full. too_small_alone old new source (Err fault) read.reads squares empty (ap (λ (e : Fault). Err e) full));
   told = read.reads.told;
 }
 

@@ -1,16 +1,18 @@
 -- What a task writes, by the bytes of its files, and why it is refused.
-use Rattle.std.specs.Prelude.{◌≡◌, ◌⊎◌, ◌<◌, ◌^◌, ℕ, true, false, List, Some, Result, IfOk, IfErr, IsErrAnd, codes, if◌then◌else◌}
-use Rattle.std.specs.Io.KnownBytes.{Appends}
+use Rattle.std.specs.Prelude.{◌≡◌, ◌≢◌, ◌⊎◌, ◌<◌, ◌+◌, ◌^◌, ℕ, true, false, List, [], length, Contains, AllPairs, Option, Some, Result, IfOk, IfErr, IsErrAnd, codes, if◌then◌else◌}
+use Rattle.std.specs.Io.KnownBytes.{Appends, Consumes}
 use Rattle.life_base.specs.DeviceRuns.{SourceRun, SinkRun}
 use Rattle.life_base.specs.Inputs.{ReadAll, CameBeyond}
 use Rattle.life_base.specs.Refusal.{fault_of}
 use Rattle.life_base.specs.Text.{lines_of}
+use Rattle.life_base.specs.Tree.{Tree, is_blank_tree}
 use Rattle.life_base.specs.Writing.{WritesPrefix}
 use Rattle.life_base.specs.declared.fault.Fault.{Fault}
 use Rattle.life_base.specs.declared.cell.TheConstants.{MAX_LEVEL}
 use Rattle.life_base.specs.declared.kind.Kind.TheVariants.{Full, InputTooLong, Memory, ReadFault, WriteFault, TooManyCells}
-use Rattle.life_quad.specs.Store.{Nodes}
+use Rattle.life_quad.specs.Store.{Nodes, held}
 use Rattle.life_canon.specs.Files.{Accepted, Reads, Refuses}
+use Rattle.life_canon.specs.Room.{IsOfFile, room_for}
 use Rattle.life_canon.specs.Running.{RunRefuses, LacksForRead}
 use Rattle.life_canon.specs.Store.{IsRead, IsWant}
 use Rattle.life_canon.specs.Texts.{IsCanonical, IsRleOf, IsShown, HasMoreCells}
@@ -82,13 +84,31 @@ pub data InputRefuses (source : SourceRun) (fault : Fault) : Type 0 where
   by_length : fault ≡ fault_of InputTooLong → CameBeyond (2 ^ 30) source.before source.after → InputRefuses source fault
   by_source : fault ≡ fault_of ReadFault → source.failures ≡ 1 → InputRefuses source fault
 
--- the store holds its limit and lacks a square which the bytes need that were read of the file, or a growth of memory was refused
-abbrev pub IsWantFor : SourceRun → Nodes → Fault → Type 0
-IsWantFor source store fault = IsWant store fault × (fault ≡ fault_of Full → LacksForRead MAX_LEVEL (2 ^ 30) store source)
+-- The squares are all different and none is blank. Each is one of `base`, or one that a prefix of the input needs: of what was left to read before.
+pub record AreOfInput (base : List Tree) (input : Option (List ℕ)) (squares : List Tree) : Type 0 where
+  pub bytes : List ℕ
+  pub left : Option (List ℕ)
+  pub came : Consumes input left bytes
+  pub distinct : AllPairs ◌≢◌ squares
+  pub not_blank : (t : Tree) → Contains squares t → is_blank_tree t ≡ false
+  pub needed : (t : Tree) → Contains squares t → Contains base t ⊎ IsOfFile bytes t
+
+-- The store holds only squares that the input needs, beside those of `base`, and lacks one which the bytes need that were read. Its limit is below the
+-- number of squares that so many bytes may need, beside those of `base`.
+pub record IsTooSmallFor (base : List Tree) (source : SourceRun) (store : Nodes) : Type 0 where
+  pub squares : AreOfInput base source.before (held store)
+  pub lacks : LacksForRead MAX_LEVEL (2 ^ 30) store source
+  pub read : List ℕ
+  pub came : Consumes source.before source.after read
+  pub tight : store.limit < length base + room_for (length read)
+
+-- the store holds its limit, and is too small for what was read of the input, beside the squares of `base`; or a growth of memory was refused
+abbrev pub IsWantFor : List Tree → SourceRun → Nodes → Fault → Type 0
+IsWantFor base source store fault = IsWant store fault × (fault ≡ fault_of Full → IsTooSmallFor base source store)
 
 -- that of a store of 2^31 squares, or a growth of memory was refused elsewhere
-abbrev pub Wants : SourceRun → Fault → Type 0
-Wants source fault = (fault ≡ fault_of Memory) ⊎ ((store : Nodes) × (store.limit ≡ 2 ^ 31) × IsWantFor source store fault)
+abbrev pub Wants : List Tree → SourceRun → Fault → Type 0
+Wants base source fault = (fault ≡ fault_of Memory) ⊎ ((store : Nodes) × (store.limit ≡ 2 ^ 31) × IsWantFor base source store fault)
 
 -- a prefix of the text was written, and the sink failed or took no bytes
 pub record BreaksOff (output : SinkRun) (text : List ℕ) (fault : Fault) : Type 0 where
@@ -106,7 +126,7 @@ pub record HasText (gives : List ℕ → List ℕ → Type 0) (source : SourceRu
 pub data HasNoText (refuses : List ℕ → Fault → Type 0) (source : SourceRun) (fault : Fault) : Type 0 where
   by_input : InputRefuses source fault → HasNoText refuses source fault
   by_file : (bytes : List ℕ) → ReadAll (2 ^ 30) source.before source.after bytes → refuses bytes fault → HasNoText refuses source fault
-  by_want : Wants source fault → HasNoText refuses source fault
+  by_want : Wants [] source fault → HasNoText refuses source fault
 
 -- what comes of a file: what `gives` relates to its bytes, or why there is nothing; and where its source failed, that is told
 pub record ComesOf {A : Type 0} (items : A → List ℕ) (gives : List ℕ → List ℕ → Type 0) (refuses : List ℕ → Fault → Type 0) (source : SourceRun)
@@ -153,8 +173,9 @@ pub data AreUncompared (form : Form) (first second : SourceRun) (fault : Fault) 
       → Refuses MAX_LEVEL a fault ⊎ (Accepted MAX_LEVEL a × Refuses MAX_LEVEL b fault) → AreUncompared form first second fault
   by_form : (a b : List ℕ) → ReadAll (2 ^ 30) first.before first.after a → ReadAll (2 ^ 30) second.before second.after b
       → Accepted MAX_LEVEL a → Accepted MAX_LEVEL b → RefusesSame form a b fault → AreUncompared form first second fault
-  by_first_shortage : Wants first fault → AreUncompared form first second fault
-  by_second_shortage : (a : List ℕ) → ReadAll (2 ^ 30) first.before first.after a → Wants second fault → AreUncompared form first second fault
+  by_first_shortage : Wants [] first fault → AreUncompared form first second fault
+  by_second_shortage : (a : List ℕ) (stored : List Tree) → ReadAll (2 ^ 30) first.before first.after a → AreOfInput [] first.before stored
+      → Wants stored second fault → AreUncompared form first second fault
 
 -- why the comparison of two files is refused: there is none, or its line could not be written
 pub data SameRefuses (form : Form) (first second : SourceRun) (output : SinkRun) (fault : Fault) : Type 0 where
@@ -175,7 +196,7 @@ RefusesInForm Turned bytes fault = RefusesMany bytes fault
 -- why a run of `run_canon` in a store of 2^31 squares is refused
 abbrev pub CanonRefuses : SourceRun → SinkRun → Fault → Type 0
 CanonRefuses first output fault = (store : Nodes) × (store.limit ≡ 2 ^ 31) × RunRefuses MAX_LEVEL (2 ^ 30) store first output fault
-    × (fault ≡ fault_of Full → LacksForRead MAX_LEVEL (2 ^ 30) store first)
+    × (fault ≡ fault_of Full → IsTooSmallFor [] first store)
 
 -- why bytes aren't stepped under their own rule: they are no file, room or memory is wanted, or they are one whose pattern has no next
 -- generation

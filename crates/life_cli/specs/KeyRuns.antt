@@ -1,11 +1,11 @@
 -- What a run of the command `keys` comes to, file by file, and what it writes of that. The project's own.
-use Rattle.std.specs.Prelude.{◌≡◌, ◌⊎◌, ◌^◌, ℕ, Bool, true, false, not, max, List, [], ◌∷◌, ◌++◌, map, filter, flat_map, option_map, Option, Some, None, Result, Ok, Err, OnOk, IsUtf8}
+use Rattle.std.specs.Prelude.{◌≡◌, ◌⊎◌, ◌↔◌, ◌^◌, ℕ, Bool, true, false, not, max, List, [], ◌∷◌, ◌++◌, map, filter, flat_map, option_map, Option, Some, None, Result, Ok, Err, OnOk, IsUtf8}
 use Rattle.std.specs.List.{FoldsTo}
 use Rattle.std.specs.IoError.{error_kind}
 use Rattle.std.specs.Io.KnownBytes.{Appends}
 use Rattle.std.specs.declared.io.Error.{Error as IoError}
 use Rattle.std.specs.declared.io.ErrorKind.TheVariants as io
-use Rattle.life_base.specs.DeviceRuns.{SinkRun, SourceRun}
+use Rattle.life_base.specs.DeviceRuns.{SinkRun, SourceRun, source_run}
 use Rattle.life_base.specs.Inputs.{ReadAll}
 use Rattle.life_base.specs.Refusal.{fault_of}
 use Rattle.life_base.specs.Text.{is_empty}
@@ -21,7 +21,6 @@ use Rattle.life_cli.specs.declared.keys.outputs.Outputs.{Outputs}
 use Rattle.life_cli.specs.declared.keys.runs.Run.{Run}
 use Rattle.life_cli.specs.declared.keys.outcome.Outcome.{Outcome}
 use Rattle.life_cli.specs.declared.keys.outcome.Outcome.TheVariants.{Key, Refused, Unopened}
-use Rattle.life_cli.specs.declared.origins.Opened.{Opened}
 use Rattle.life_cli.specs.declared.origins.Origin.{Origin}
 use Rattle.life_cli.specs.declared.origins.Origin.TheVariants.{Standard, File}
 use Rattle.life_cli.specs.declared.plans.Form.{Form}
@@ -110,17 +109,34 @@ IsNamed (Listed name) (File text) = text.now ≡ name
 abbrev pub IsNoText : Taken → Type 0
 IsNoText taken = (bytes : List ℕ) × (taken.name ≡ Listed bytes) × (¬ IsUtf8 bytes) × (taken.outcome ≡ Unopened io.InvalidFilename)
 
-module _ {F R : Type 0} (step : F → Origin → Result (Opened R) IoError → F → Type 0) (remaining : R → Option (List ℕ)) (form : Form) where
-  -- what comes of what an opener gave: a key in the form, or why there is none
-  abbrev pub Comes : Result (Opened R) IoError → Outcome → Type 0
-  Comes (Ok opened) (Key key) = (source : SourceRun) × (source.before ≡ remaining opened.input) × HasText (IsKeyIn form MAX_LEVEL) source key
-  Comes (Ok opened) (Refused fault) = (source : SourceRun) × (source.before ≡ remaining opened.input) × HasNoText (RefusesInForm form) source fault
+-- what comes of a source that was opened: its key in the form, or why it has none
+abbrev pub ComesOfSource : Form → SourceRun → Outcome → Type 0
+ComesOfSource form source (Key key) = HasText (IsKeyIn form MAX_LEVEL) source key
+ComesOfSource form source (Refused fault) = HasNoText (RefusesInForm form) source fault
+ComesOfSource form source (Unopened kind) = ⊥
+
+-- the file is reported as one of which a read failed
+abbrev pub IsReadFault : Outcome → Type 0
+IsReadFault (Refused fault) = fault.kind ≡ kinds.ReadFault
+IsReadFault _ = ⊥
+
+-- This comes of a source that was opened, and it is reported as a read fault exactly where a read of it failed.
+pub record IsOutcomeOf (form : Form) (source : SourceRun) (outcome : Outcome) : Type 0 where
+  pub comes : ComesOfSource form source outcome
+  pub read_fault : IsReadFault outcome ↔ (source.failures ≡ 1)
+
+module _ {F R : Type 0} (step : F → Origin → Result R IoError → F → Type 0) (remaining : R → Option (List ℕ)) (reads_failed : R → ℕ)
+    (form : Form) where
+  -- What comes of what an opener gave. A source that was opened is `end` after it was read. A contract says this for every type R, so that it can
+  -- have an `end` that has failed only from a read that failed.
+  abbrev pub Comes : Result R IoError → Outcome → Type 0
+  Comes (Ok source) outcome = (end : R) × IsOutcomeOf form (source_run remaining reads_failed source end) outcome
   Comes (Err error) (Unopened kind) = kind ≡ error_kind error
   Comes _ _ = ⊥
 
   -- a file was taken: the opener was called for what the name names, and this came of it; or the name is no text, and it wasn't called
   pub data Takes (before : F) (taken : Taken) (after : F) : Type 0 where
-    by_call : (origin : Origin) (given : Result (Opened R) IoError) → IsNamed taken.name origin → step before origin given after
+    by_call : (origin : Origin) (given : Result R IoError) → IsNamed taken.name origin → step before origin given after
         → Comes given taken.outcome → Takes before taken after
     by_name : IsNoText taken → after ≡ before → Takes before taken after
 
@@ -145,19 +161,23 @@ words_of plan = map (λ word. word.now) plan.files.items
 abbrev pub list_word : KeysPlan → Option (List ℕ)
 list_word plan = option_map (λ word. word.now) plan.from
 
-module _ {F R : Type 0} (step : F → Origin → Result (Opened R) IoError → F → Type 0) (remaining : R → Option (List ℕ)) where
-  -- the bytes of the list that a word names; without such a word there are none
+-- Why a list that was opened isn't read: too much came, a read failed, or memory was refused. It is a read fault exactly where a read of it failed.
+pub record LacksBytes (source : SourceRun) (kind : Kind) : Type 0 where
+  pub why : InputRefuses source (fault_of kind) ⊎ (kind ≡ kinds.Memory)
+  pub read_fault : (kind ≡ kinds.ReadFault) ↔ (source.failures ≡ 1)
+
+module _ {F R : Type 0} (step : F → Origin → Result R IoError → F → Type 0) (remaining : R → Option (List ℕ)) (reads_failed : R → ℕ) where
+  -- the bytes of the list that a word names, of which no read failed; without such a word there are none
   abbrev pub ReadsList : Option (List ℕ) → F → List ℕ → F → Type 0
   ReadsList None before bytes after = (bytes ≡ []) × (after ≡ before)
-  ReadsList (Some word) before bytes after = (opened : Opened R) × Gives step word before (Ok opened) after
-      × ((source : SourceRun) × (source.before ≡ remaining opened.input) × ReadAll (2 ^ 30) source.before source.after bytes)
+  ReadsList (Some word) before bytes after = (source : R) × (end : R) × Gives step word before (Ok source) after
+      × ReadAll (2 ^ 30) (remaining source) (remaining end) bytes × (reads_failed end ≡ 0)
 
-  -- why there is no list: it can't be opened, or it isn't read to its end, or memory is wanted
+  -- why there is no list: it can't be opened, or it was opened and isn't read
   pub data LacksList (word : List ℕ) (before : F) (kind : Kind) : Type 0 where
     by_opening : (error : IoError) (after : F) → Gives step word before (Err error) after → kind ≡ kinds.ReadFault → LacksList word before kind
-    by_reading : (opened : Opened R) (after : F) (source : SourceRun) → Gives step word before (Ok opened) after
-        → source.before ≡ remaining opened.input → InputRefuses source (fault_of kind) → LacksList word before kind
-    by_memory : kind ≡ kinds.Memory → LacksList word before kind
+    by_reading : (source : R) (after : F) (end : R) → Gives step word before (Ok source) after
+        → LacksBytes (source_run remaining reads_failed source end) kind → LacksList word before kind
 
   -- After the list was read files were taken, one after another, in the order of the names, but for the last names, `rest`.
   pub record Took (plan : KeysPlan) (opener : F) (taken : List Taken) (rest : List Name) : Type 0 where
@@ -166,7 +186,7 @@ module _ {F R : Type 0} (step : F → Origin → Result (Opened R) IoError → F
     pub last : F
     pub read : ReadsList (list_word plan) opener list ready
     pub names : names_among plan.zero (words_of plan) list ≡ names_of taken ++ rest
-    pub takes : TakesAll step remaining plan.form ready taken last
+    pub takes : TakesAll step remaining reads_failed plan.form ready taken last
 
   -- What a run did with its files and outputs, and the status that it answered.
   pub data Ran (plan : KeysPlan) (opener : F) (output error : SinkRun) (flushed : Bool) (status : ℕ) : Type 0 where
@@ -183,14 +203,14 @@ module _ {F R : Type 0} (step : F → Origin → Result (Opened R) IoError → F
         → Tells error (fault_line (refusal_of (fault_of kind))) → status ≡ status_of kind → output.after ≡ output.before
         → Ran plan opener output error flushed status
 
-module _ {F R W E : Type 0} (step : F → Origin → Result (Opened R) IoError → F → Type 0) (remaining : R → Option (List ℕ))
+module _ {F R W E : Type 0} (step : F → Origin → Result R IoError → F → Type 0) (remaining : R → Option (List ℕ)) (reads_failed : R → ℕ)
     (held : W → Option (List ℕ)) (contents : E → Option (List ℕ)) (failures : E → ℕ) (stalled : E → Bool) where
   -- Files were taken, one after another, in the order of these names, but for the last names, `rest`; and this was written of them.
   pub record TakesFiles (form : Form) (names rest : List Name) (opener_old opener_new : F) (out_old out_new : W) (err_old err_new : E)
       (old new : Outputs) (result : Result (Unit {0}) Kind) : Type 0 where
     pub taken : List Taken
     pub split : names ≡ names_of taken ++ rest
-    pub takes : TakesAll step remaining form opener_old taken opener_new
+    pub takes : TakesAll step remaining reads_failed form opener_old taken opener_new
     pub writes : Writes held contents failures stalled out_old out_new err_old err_new old new result (output_of old.zero taken) (errors_of taken)
         (greatest_status taken)
 

@@ -13,18 +13,18 @@ abbrev pub IsOriginOf : List ℕ → Origin → Type 0
 IsOriginOf word Standard = word ≡ codes "-"
 IsOriginOf word (File name) = (name.now ≡ word) × (word ≢ codes "-")
 
-module _ {F R : Type 0} (step : F → Origin → Result (Opened R) IoError → F → Type 0) where
-  -- a call of an opener, from one of its states to the next, gave this for what the word names
-  abbrev pub Gives : List ℕ → F → Result (Opened R) IoError → F → Type 0
-  Gives word before given after = (origin : Origin) × IsOriginOf word origin × step before origin given after
+-- a call of an opener, from one of its states to the next, gave this for what the word names
+abbrev pub Gives : {F X : Type 0} → (F → Origin → Result X IoError → F → Type 0) → List ℕ → F → Result X IoError → F → Type 0
+Gives step word before given after = (origin : Origin) × IsOriginOf word origin × step before origin given after
 
+module _ {F R : Type 0} (step : F → Origin → Result (Opened R) IoError → F → Type 0) where
   -- the call gave what the device reads
   abbrev pub Opens : List ℕ → F → Device R → F → Type 0
-  Opens word before device after = (opened : Opened R) × Gives word before (Ok opened) after × (device_inner device ≡ opened.input)
+  Opens word before device after = (opened : Opened R) × Gives step word before (Ok opened) after × (device_inner device ≡ opened.input)
 
   -- the call gave nothing to read
   abbrev pub Fails : List ℕ → F → Type 0
-  Fails word before = (error : IoError) × (after : F) × Gives word before (Err error) after
+  Fails word before = (error : IoError) × (after : F) × Gives step word before (Err error) after
 
   -- the second file, if there is one, was opened
   abbrev pub OpensSecond : Option (List ℕ) → F → Option (Device R) → Type 0

@@ -7,16 +7,17 @@ pub use Rattle.life_base.specs.Inputs.{ReadAll}
 pub use Rattle.life_base.specs.Refusal.{fault_of, IsMemory}
 pub use Rattle.life_base.specs.Writing.{LeavesSink, WritesText}
 pub use Rattle.life_canon.specs.Files.{Refuses}
+pub use Rattle.life_canon.specs.Running.{AreWorking, ReadsPattern, RunsCanon}
 pub use Rattle.life_canon.specs.Store.{content, IsOfFile, IsRead, IsTrimmed, IsWant, Keeps, universe_in}
 pub use Rattle.life_canon.specs.Texts.{IsRleOf, IsShown}
 pub use Rattle.life_cli.specs.CommandLine.{canon_line, convert_line, files_line, files_rule, flag, HasRule, keys_line, named, one_file_line, option}
 pub use Rattle.life_cli.specs.CommandLine.{program, ReadsAs, required_file, required_option, same_line, step_line, two_files_line}
 pub use Rattle.life_cli.specs.Faults.{fault_line, is_of_table, line_word, refusal_of, status_of, Tells}
 pub use Rattle.life_cli.specs.Forms.{AreSameIn, HasTooMany, IsMovedText, IsTextIn}
-pub use Rattle.life_cli.specs.Jobs.{AreUncompared, BreaksOff, CanonRefuses, ComesOf, HasNoTable, HasNoTextByTable, HasTable, HasTextByTable, InputRefuses}
+pub use Rattle.life_cli.specs.Jobs.{AreOfInput, AreUncompared, BreaksOff, CanonRefuses, ComesOf, HasNoTable, HasNoTextByTable, HasTable, HasTextByTable, InputRefuses}
 pub use Rattle.life_cli.specs.Jobs.{IsPatternIn, IsWantFor, TaskRan, TaskRefuses, made_status, made_text, MadeOf, TaskMakes, OfFile, OfTable, RefusesInForm}
 pub use Rattle.life_cli.specs.Jobs.{RefusesMany, RefusesSame, RefusesStep, RefusesStepBy, Worked}
-pub use Rattle.life_cli.specs.KeyRuns.{CanTake, Comes, error_line, IsToldAs, LacksList, Listed, names_among, names_in, outcome_status, output_line, Ran, ReadsList}
+pub use Rattle.life_cli.specs.KeyRuns.{CanTake, Comes, error_line, IsOutcomeOf, IsToldAs, LacksBytes, LacksList, Listed, names_among, names_in, outcome_status, output_line, Ran, ReadsList}
 pub use Rattle.life_cli.specs.KeyRuns.{Takes, TakesNames, TellsOn, Word, Writes}
 pub use Rattle.life_cli.specs.Keys.{end_of, escaped, escaped_byte, fault_text, is_special, IsKeyIn, IsStatus, key_line, name_mark, pieces_of, reason_of}
 pub use Rattle.life_cli.specs.Keys.{refused_line, unopened_line}
@@ -29,6 +30,7 @@ pub use Rattle.life_cli.specs.Usages.{is_asked, is_out_of_memory, text_line, tex
 pub use Rattle.life_cli.specs.declared.refusals.Refusal.{Refusal}
 pub use Rattle.life_forms.specs.Needed.{LacksForMoved}
 pub use Rattle.life_quad.specs.Cells.{population}
+pub use Rattle.life_quad.specs.Store.{held}
 pub use Rattle.life_step.specs.Stepped.{IsStepped, IsSteppedBy}
 pub use Rattle.std.specs.Io.KnownBytes.{Appends}
 pub use Rattle.std.specs.List.{list_any}

@@ -3,12 +3,12 @@
 ghost use Rattle.std.specs.Prelude.{◌≡◌, ◌⊎◌, ◌↔◌, ◌^◌, ◌<◌, ◌≤◌, Err, IfOk, IfErr, OnOk, IsTrue, List, ℕ};
 ghost use Rattle.life_cli.specs.Words.{source_run, fault_of, population, IsOfFile, IsRead, IsTrimmed, IsWant, Keeps, content, universe_in, LacksForMoved, AreSameIn, HasTooMany, IsMovedText, IsTextIn, ComesOf, RefusesInForm, RefusesSame};
 
-use crate::jobs::MOST_SQUARES;
+use crate::jobs::{MOST_SQUARES, pattern_of};
 use crate::plans::Form;
 use crate::seeds::Seeds;
 use life_base::{Fault, Kind, MAX_LEVEL, Source};
 use life_canon::laws::{files_are_on_plane, files_are_unique, patterns_fit, patterns_tell_files};
-use life_canon::{Pattern, are_same, read_from, text_of};
+use life_canon::{Pattern, are_same, text_of};
 use life_forms::{are_shifts, are_turns, moved_of, turned_text};
 use life_quad::Shared;
 use std::alloc::Global;
@@ -65,7 +65,7 @@ pub(crate) fn text_of_source<A: Source>(
         (source_run A.remaining A.failures first.old first.new) result }
 {
     let mut store = Shared::seeded(alloc, seeds.squares, MOST_SQUARES);
-    let pattern = read_from(alloc, &mut store, first)?;
+    let pattern = pattern_of(alloc, &mut store, first)?;
     text_in(alloc, &mut store, form, &pattern)
 }
 

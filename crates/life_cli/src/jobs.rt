@@ -1,7 +1,7 @@
 //! The work of a task.
 
 ghost use Rattle.std.specs.Prelude.{◌≡◌, ◌≢◌, ◌⊎◌, ◌<◌, ◌↔◌, ◌^◌, IsSome, IfSome, IfOk, IfErr, OnOk, IsErrAnd, IsTrue, Ok, Err, true, false};
-ghost use Rattle.life_cli.specs.Words.{Appends, SourceRun, source_run, optional_source_run, sink_run, Refusal, Refuses, Keeps, IsRleOf, IsShown, fault_line, refusal_of, status_of, Tells, made_status, made_text, MadeOf, TaskMakes, Worked, OfFile, InputRefuses, BreaksOff, ComesOf, AreUncompared, CanonRefuses, IsPatternIn, IsWantFor, TaskRan, TaskRefuses, RefusesMany, HasSecond, WritesPlacedText, task_of};
+ghost use Rattle.life_cli.specs.Words.{Appends, SourceRun, source_run, optional_source_run, sink_run, Refusal, Refuses, Keeps, held, AreWorking, ReadsPattern, RunsCanon, AreOfInput, IsRleOf, IsShown, fault_line, refusal_of, status_of, Tells, made_status, made_text, MadeOf, TaskMakes, Worked, OfFile, InputRefuses, BreaksOff, ComesOf, AreUncompared, CanonRefuses, IsPatternIn, IsWantFor, TaskRan, TaskRefuses, RefusesMany, HasSecond, WritesPlacedText};
 
 use crate::forms::{are_same_in, text_of_source};
 use crate::plans::{Form, Job, Target, Task};
@@ -66,6 +66,45 @@ fn write_whole<W: Sink>(writer: &mut W, text: &[u8]) -> Result<(), Refusal>
     }
 }
 
+/// The pattern of a source, read into the store.
+pub(crate) fn pattern_of<A: Source>(
+    alloc: Global,
+    store: &mut Shared,
+    source: &mut A,
+) -> Result<Pattern, Fault>
+    requires { A.failures source.old ≡ 0 }
+    ensures reads { ReadsPattern (2 ^ 30) store.old store.new
+        (source_run A.remaining A.failures source.old source.new) result }
+    ensures squares { AreOfInput (held store.old) (A.remaining source.old) (held store.new) }
+{
+    let pattern = read_from(alloc, store, source);
+    // Its contract says that a store holds each square once, and none that is blank.
+    let _ = store.len();
+    pattern
+}
+
+/// Reads the pattern of a source into the store, and writes its canonical text.
+pub(crate) fn write_canonical<A: Source, O: Sink>(
+    alloc: Global,
+    store: &mut Shared,
+    source: &mut A,
+    out: &mut O,
+) -> Result<(), Fault>
+    requires { AreWorking A.failures O.failures O.stalled source.old out.old }
+    ensures runs { RunsCanon (2 ^ 30) store.old store.new
+        (source_run A.remaining A.failures source.old source.new)
+        (sink_run O.contents O.failures O.stalled out.old out.new) result }
+    ensures squares { AreOfInput (held store.old) (A.remaining source.old) (held store.new) }
+    ensures flushed { OnOk result (O.flushed out.new ≡ true) }
+    ensures unwritten { IfErr result
+        (λ fault. fault.kind ≢ Kind.WriteFault → out.new ≡ out.old) }
+{
+    let ran = run_canon(alloc, store, source, out);
+    // As in `pattern_of`.
+    let _ = store.len();
+    ran
+}
+
 /// The text in extended RLE of a source's pattern.
 fn rle_of_source<A: Source>(alloc: Global, seeds: &Seeds, first: &mut A) -> Result<Vec<u8>, Fault>
     requires { A.failures first.old ≡ 0 }
@@ -73,7 +112,7 @@ fn rle_of_source<A: Source>(alloc: Global, seeds: &Seeds, first: &mut A) -> Resu
         (source_run A.remaining A.failures first.old first.new) result }
 {
     let mut store = Shared::seeded(alloc, seeds.squares, MOST_SQUARES);
-    let pattern = read_from(alloc, &mut store, first)?;
+    let pattern = pattern_of(alloc, &mut store, first)?;
     rle_of(alloc, &store, &pattern)
 }
 
@@ -88,7 +127,7 @@ fn five_lines_of_source<A: Source>(
         (source_run A.remaining A.failures first.old first.new) result }
 {
     let mut store = Shared::seeded(alloc, seeds.squares, MOST_SQUARES);
-    let pattern = read_from(alloc, &mut store, first)?;
+    let pattern = pattern_of(alloc, &mut store, first)?;
     five_lines_of(alloc, &store, &pattern)
 }
 
@@ -114,13 +153,15 @@ fn pattern_in<A: Source>(
         (IsPatternIn store.new (source_run A.remaining A.failures source.old source.new)) }
     ensures err { IfErr result (λ fault. InputRefuses
         (source_run A.remaining A.failures source.old source.new) fault
-        ⊎ IsWantFor (source_run A.remaining A.failures source.old source.new) store.new fault) }
+        ⊎ IsWantFor (held store.old) (source_run A.remaining A.failures source.old source.new)
+        store.new fault) }
     ensures told { A.failures source.new ≡ 1
         → IsErrAnd result (λ fault. fault.kind ≡ Kind.ReadFault) }
+    ensures squares { AreOfInput (held store.old) (A.remaining source.old) (held store.new) }
     ensures keeps { Keeps store.old store.new }
 {
     refusals_have_kinds();
-    match read_from(alloc, store, source) {
+    match pattern_of(alloc, store, source) {
         Ok(pattern) => Ok(Ok(pattern)),
         Err(fault) if is_of_no_file(fault.kind) => Err(fault),
         Err(fault) => Ok(Err(fault)),
@@ -251,7 +292,7 @@ fn run_canonical<A: Source, O: Sink>(
         → IsErrAnd result (λ refusal. refusal.fault.kind ≡ Kind.WriteFault) }
 {
     let mut store = Shared::seeded(alloc, seeds.squares, MOST_SQUARES);
-    run_canon(alloc, &mut store, first, out)?;
+    write_canonical(alloc, &mut store, first, out)?;
     Ok(0)
 }
 

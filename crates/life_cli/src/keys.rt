@@ -4,12 +4,11 @@ ghost use Rattle.std.specs.Prelude.{◌≡◌};
 ghost use Rattle.life_cli.specs.Words.{source_run, ComesOf, RefusesInForm, IsKeyIn};
 
 use crate::forms::text_of_source;
-use crate::jobs::MOST_SQUARES;
+use crate::jobs::{MOST_SQUARES, write_canonical};
 use crate::plans::Form;
 use crate::seeds::Seeds;
 use key_sink::KeySink;
 use life_base::{Fault, MAX_LEVEL, Source};
-use life_canon::run_canon;
 use life_quad::Shared;
 use sha2::{Digest, Sha256};
 use std::alloc::Global;
@@ -31,7 +30,7 @@ fn placed_key<A: Source>(alloc: Global, seeds: &Seeds, source: &mut A) -> Result
 {
     let mut store = Shared::seeded(alloc, seeds.squares, MOST_SQUARES);
     let mut sink = KeySink::new();
-    run_canon(alloc, &mut store, source, &mut sink)?;
+    write_canonical(alloc, &mut store, source, &mut sink)?;
     Ok(sink.key())
 }
 

@@ -3,11 +3,10 @@
 ghost use Rattle.std.specs.Prelude.{◌≡◌, ◌⊎◌, ◌^◌, IfOk, IfErr, IsErrAnd};
 ghost use Rattle.life_cli.specs.Words.{source_run, ReadAll, fault_of, IsStepped, IsSteppedBy, InputRefuses, OfTable, ComesOf, RefusesStep, RefusesStepBy, HasTable, HasNoTable, HasTextByTable, HasNoTextByTable};
 
-use crate::jobs::MOST_SQUARES;
+use crate::jobs::{MOST_SQUARES, pattern_of};
 use crate::refusals::Refusal;
 use crate::seeds::Seeds;
 use life_base::{Fault, Kind, Source, read_within};
-use life_canon::read_from;
 use life_quad::Shared;
 use life_step::{next_by_rule, next_by_table};
 use life_table::{Table, read_table_seeded};
@@ -27,7 +26,7 @@ pub(crate) fn next_of<A: Source>(
         (source_run A.remaining A.failures first.old first.new) result }
 {
     let mut store = Shared::seeded(alloc, seeds.squares, MOST_SQUARES);
-    let pattern = read_from(alloc, &mut store, first)?;
+    let pattern = pattern_of(alloc, &mut store, first)?;
     next_by_rule(alloc, &mut store, pattern)
 }
 
@@ -43,7 +42,7 @@ fn next_by<A: Source>(
         (source_run A.remaining A.failures first.old first.new) result }
 {
     let mut store = Shared::seeded(alloc, seeds.squares, MOST_SQUARES);
-    let pattern = read_from(alloc, &mut store, first)?;
+    let pattern = pattern_of(alloc, &mut store, first)?;
     next_by_table(alloc, &mut store, pattern, table)
 }
 

@@ -7,6 +7,7 @@ use Rattle.life_base.specs.Inputs.{ReadAll, CameBeyond}
 use Rattle.life_base.specs.Kinds.{kind_name}
 use Rattle.life_base.specs.Text.{lines_of}
 use Rattle.life_base.specs.Writing.{WritesPrefix}
+use Rattle.life_base.specs.Tree.{Tree}
 use Rattle.life_base.specs.declared.fault.Fault.{Fault}
 use Rattle.life_base.specs.declared.kind.Kind.{Kind}
 use Rattle.life_base.specs.declared.kind.Kind.TheVariants as kinds
@@ -127,9 +128,9 @@ pub data Origin (task : Task) (first second : SourceRun) (output : SinkRun) (ref
   from_sink : refusal.fault ≡ fault_of kinds.WriteFault → (status : ℕ) (text : List ℕ) → layer.HasAnswer task first second status text
       → WritesPrefix output.before output.after text → (output.failures ≡ 1) ⊎ (output.stalled ≡ true) → Origin task first second output refusal
 
-wanted : (source : SourceRun) (fault : Fault) → layer.Wants source fault → IsWant fault
-wanted source fault (inl e) = inr e
-wanted source fault (inr h) = want_as h.0 fault h.2.0
+wanted : (base : List Tree) (source : SourceRun) (fault : Fault) → layer.Wants base source fault → IsWant fault
+wanted base source fault (inl e) = inr e
+wanted base source fault (inr h) = want_as h.0 fault h.2.0
 
 -- bytes that were read are those of the file, and so is why they are none
 read_as : (before after : Option (List ℕ)) (bytes file : List ℕ) (fault : Fault) → ReadAll (2 ^ 30) before after bytes → before ≡ Some file
@@ -199,7 +200,7 @@ module _ (laws : LayersAgree) (task : Task) (first second : SourceRun) (output :
     of_no_text : layer.HasNoText refuses first refusal.fault → Comes
     of_no_text (layer.by_input h) = of_first_input h
     of_no_text (layer.by_file bytes read h) = by bytes read h
-    of_no_text (layer.by_want want) = from_want (wanted first refusal.fault want)
+    of_no_text (layer.by_want want) = from_want (wanted [] first refusal.fault want)
 
     of_file : layer.FileRefuses gives refuses first output refusal.fault → Comes
     of_file (layer.by_reading h) = of_no_text h
@@ -301,8 +302,8 @@ module _ (laws : LayersAgree) (first second : SourceRun) (output : SinkRun) (ref
           r.1,
         )),
       ))
-  of_files_compared form e (layer.by_first_shortage want) = from_want (wanted first refusal.fault want)
-  of_files_compared form e (layer.by_second_shortage a read want) = from_want (wanted second refusal.fault want)
+  of_files_compared form e (layer.by_first_shortage want) = from_want (wanted [] first refusal.fault want)
+  of_files_compared form e (layer.by_second_shortage a stored read are want) = from_want (wanted stored second refusal.fault want)
 
   of_same : (form : Form) → refusal.in_table ≡ false → layer.SameRefuses form first second output refusal.fault
       → Origin (tasks.Same form) first second output refusal
@@ -365,7 +366,7 @@ module _ (laws : LayersAgree) (first second : SourceRun) (output : SinkRun) (ref
     of_table_text : layer.HasNoText (layer.RefusesStepBy table) first refusal.fault → Origin tasks.StepTable first second output refusal
     of_table_text (layer.by_input h) = of_first_input laws tasks.StepTable first second output refusal h
     of_table_text (layer.by_file bytes read h) = of_step_by bytes read h
-    of_table_text (layer.by_want want) = from_want (wanted first refusal.fault want)
+    of_table_text (layer.by_want want) = from_want (wanted [] first refusal.fault want)
 
   of_table_task : layer.TaskRefuses tasks.StepTable first second output refusal → Origin tasks.StepTable first second output refusal
   of_table_task (inl (inl h)) = of_no_table h.0.0 h.0.1

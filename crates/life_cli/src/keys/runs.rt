@@ -6,13 +6,13 @@ ghost use Rattle.life_cli.specs.Words.{sink_run, CanTake, LeavesSink, IsStatus, 
 use super::files::Files;
 use super::names::first_name;
 use super::outputs::Outputs;
-use crate::origins::{Opened, Origin, origin_of};
+use crate::origins::{Origin, origin_of};
 use crate::plans::KeysPlan;
 use crate::reports::refuse;
 use crate::seeds::Seeds;
-use life_base::{Kind, Sink};
+use life_base::{Kind, Sink, Source};
 use std::alloc::Global;
-use std::io::{Read, Result as IoResult};
+use std::io::Result as IoResult;
 
 /// A run: its files, and what it writes of them.
 #[derive(Drop)]
@@ -21,7 +21,7 @@ pub struct Run<F> {
     outputs: Outputs,
 }
 
-impl<R: Read + Drop, F: FnMut(Origin<'_>) -> IoResult<Opened<R>> + Drop> Run<F> {
+impl<R: Source + Drop, F: FnMut(Origin<'_>) -> IoResult<R> + Drop> Run<F> {
     /// Takes the files that the words name.
     fn take_words<W: Sink, E: Sink>(
         &mut self,
@@ -33,7 +33,7 @@ impl<R: Read + Drop, F: FnMut(Origin<'_>) -> IoResult<Opened<R>> + Drop> Run<F> 
         ensures zero { self.new.outputs.zero ≡ self.old.outputs.zero }
         ensures form { self.new.files.form ≡ self.old.files.form }
         ensures callable { F.IsAlwaysCallable self.new.files.opener }
-        ensures took { TakesNames F.step R.remaining W.contents E.contents E.failures E.stalled
+        ensures took { TakesNames F.step R.remaining R.failures W.contents E.contents E.failures E.stalled
             self.old.files.form (map Word (map (λ word. word.now) words.now))
             self.old.files.opener self.new.files.opener out.old out.new err.old err.new
             self.old.outputs self.new.outputs result }
@@ -55,7 +55,7 @@ impl<R: Read + Drop, F: FnMut(Origin<'_>) -> IoResult<Opened<R>> + Drop> Run<F> 
     ) -> Result<(), Kind>
         requires { CanTake F.IsAlwaysCallable self.old (W.failures out.old) (E.failures err.old) }
         ensures callable { F.IsAlwaysCallable self.new.files.opener }
-        ensures took { TakesNames F.step R.remaining W.contents E.contents E.failures E.stalled
+        ensures took { TakesNames F.step R.remaining R.failures W.contents E.contents E.failures E.stalled
             self.old.files.form (map Listed (names_in (end_of self.old.outputs.zero) list.now))
             self.old.files.opener self.new.files.opener out.old out.new err.old err.new
             self.old.outputs self.new.outputs result }
@@ -85,7 +85,7 @@ impl<R: Read + Drop, F: FnMut(Origin<'_>) -> IoResult<Opened<R>> + Drop> Run<F> 
         requires callable { F.IsAlwaysCallable self.old.files.opener }
         requires works { W.failures out.old ≡ 0 }
         requires hears { self.old.outputs.tells ≡ true → E.failures err.old ≡ 0 }
-        ensures took { TakesNames F.step R.remaining W.contents E.contents E.failures E.stalled
+        ensures took { TakesNames F.step R.remaining R.failures W.contents E.contents E.failures E.stalled
             self.old.files.form
             (names_among self.old.outputs.zero (map (λ word. word.now) words.now) list.now)
             self.old.files.opener self.new.files.opener out.old out.new err.old err.new
@@ -100,7 +100,8 @@ impl<R: Read + Drop, F: FnMut(Origin<'_>) -> IoResult<Opened<R>> + Drop> Run<F> 
 }
 
 /// Writes a line for each file that the plan names, in their order: its key and its name. Files that are refused or can't be opened are told on
-/// `err` and passed over. Answers the status that the program ends with.
+/// `err` and passed over. A file that `opener` opens is reported as `ReadFault` exactly where a read of it fails. Answers the status that the program
+/// ends with.
 pub fn write_keys<R, F, W, E>(
     alloc: Global,
     seeds: &Seeds,
@@ -110,8 +111,8 @@ pub fn write_keys<R, F, W, E>(
     err: &mut E,
 ) -> u8
 where
-    R: Read + Drop,
-    F: FnMut(Origin<'_>) -> IoResult<Opened<R>> + Drop,
+    R: Source + Drop,
+    F: FnMut(Origin<'_>) -> IoResult<R> + Drop,
     W: Sink,
     E: Sink,
     requires callable { F.IsAlwaysCallable opener }
@@ -119,7 +120,7 @@ where
     requires takes { W.stalled out.old ≡ false }
     requires tells { E.failures err.old ≡ 0 }
     requires hears { E.stalled err.old ≡ false }
-    ensures ran { Ran F.step R.remaining plan.now opener
+    ensures ran { Ran F.step R.remaining R.failures plan.now opener
         (sink_run W.contents W.failures W.stalled out.old out.new)
         (sink_run E.contents E.failures E.stalled err.old err.new) (W.flushed out.new) result }
     ensures status { IsStatus result }

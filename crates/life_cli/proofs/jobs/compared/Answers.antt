@@ -7,13 +7,15 @@ use Rattle.life_cli.proofs.jobs.compared.Goals as goal
 pub returns-in_err-a-clause-err : goal.returns-in_err-a-clause-err
 returns-in_err-a-clause-err g c =
     let p = err_from_is_err_and c.from_residual.result c.from_residual.ensures.1 in
-    rw (p.1, p.2) (no_first_input c.args.form _ _ c.pattern_in.new.store _ (c.pattern_in.ensures.keeps.limit ∙ c.seeded-store.ensures.most) c.in_err-a.ensures.err)
+    rw (p.1, p.2) (no_first_input c.args.form _ _ c.pattern_in.new.store _ (c.pattern_in.ensures.keeps.limit ∙ c.seeded-store.ensures.most)
+    (rw c.seeded-store.ensures.stored at c.in_err-a.ensures.err))
 
 pub returns-in_err-b-clause-err : goal.returns-in_err-b-clause-err
 returns-in_err-b-clause-err g c =
     let p = err_from_is_err_and c.from_residual-in_err-b.result c.from_residual-in_err-b.ensures.1 in
     let a = c.in_ok-a.ensures.pattern in
-    rw (p.1, p.2) (no_second_input c.args.form _ _ a.bytes c.pattern_in-2.new.store _ a.read
+    rw (p.1, p.2) (no_second_input c.args.form _ _ a.bytes _ c.pattern_in-2.new.store _ a.read
+    (rw c.seeded-store.ensures.stored at c.pattern_in.ensures.squares)
     (c.pattern_in-2.ensures.keeps.limit ∙ c.pattern_in.ensures.keeps.limit ∙ c.seeded-store.ensures.most) c.in_err-b.ensures.err)
 
 pub returns-in_err-a-2-clause-err : goal.returns-in_err-a-2-clause-err

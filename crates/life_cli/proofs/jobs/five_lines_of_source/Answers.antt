@@ -8,13 +8,14 @@ use Rattle.life_cli.proofs.jobs.five_lines_of_source.Goals as goal
 pub returns-in_err-pattern : goal.returns-in_err-pattern
 returns-in_err-pattern g c =
     let p = err_from_is_err_and c.from_residual.result c.from_residual.ensures.1 in
-    rw (p.1, p.2) (nothing_comes _ (IsShown MAX_LEVEL) (Refuses MAX_LEVEL) _ _ _ _ c.seeded-store.ensures.most (λ bytes refuses. refuses) c.in_err-pattern.ensures)
+    rw (p.1, p.2) (nothing_comes _ (IsShown MAX_LEVEL) (Refuses MAX_LEVEL) _ _ _ _ c.seeded-store.ensures.most c.seeded-store.ensures.stored
+    c.pattern_of.ensures.squares (λ bytes refuses. refuses) c.in_err-pattern.ensures.reads)
 
 pub five_lines_of-requires : goal.five_lines_of-requires
-five_lines_of-requires g c = (c.in_ok-pattern.ensures.pattern.bytes, c.in_ok-pattern.ensures.pattern.is)
+five_lines_of-requires g c = (c.in_ok-pattern.ensures.reads.pattern.bytes, c.in_ok-pattern.ensures.reads.pattern.is)
 
 pub returns : goal.returns
 returns g c =
-    comes_of_pattern _ (IsShown MAX_LEVEL) (Refuses MAX_LEVEL) _ c.read_from.new.store c.in_ok-pattern.pattern c.five_lines_of.result
-    c.in_ok-pattern.ensures.pattern c.in_ok-pattern.ensures.works c.five_lines_of.ensures.text
+    comes_of_pattern _ (IsShown MAX_LEVEL) (Refuses MAX_LEVEL) _ c.pattern_of.new.store c.in_ok-pattern.pattern c.five_lines_of.result
+    c.in_ok-pattern.ensures.reads.pattern c.in_ok-pattern.ensures.reads.works c.five_lines_of.ensures.text
     (refused_lines _ c.five_lines_of.result c.five_lines_of.ensures.memory)

@@ -1,7 +1,10 @@
-use Rattle.life_cli.proofs.WorkLemmas.{no_file}
+use Rattle.std.proofs.Common.{ap, Err}
+use Rattle.life_base.specs.declared.fault.Fault.{Fault}
+use Rattle.life_cli.proofs.WorkLemmas.{no_file, too_small}
 use Rattle.life_cli.proofs.jobs.pattern_in.Goals as goal
 
 pub returns-in-Err-clause-err : goal.returns-in-Err-clause-err
 returns-in-Err-clause-err g c =
-    no_file _ c.read_from.new.store c.in-Err.fault c.refusals_have_kinds.ensures c.in-Err.ensures.fault (λ e. c.in-Err.ensures.reads.needed (cc))
+    no_file _ _ c.pattern_of.new.store c.in-Err.fault c.refusals_have_kinds.ensures c.in-Err.ensures.reads.fault
+    (λ full. too_small _ _ _ _ c.in-Err.ensures.reads.reads c.pattern_of.ensures.squares (ap (λ (f : Fault). Err f) full))
     (c.is_of_no_file.ensures.0 c.if-is_of_no_file.true)

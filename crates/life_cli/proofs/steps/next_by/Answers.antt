@@ -12,18 +12,18 @@ use Rattle.life_cli.proofs.steps.next_by.Goals as goal
 pub returns-in_err-pattern : goal.returns-in_err-pattern
 returns-in_err-pattern g c =
     let p = err_from_is_err_and c.from_residual.result c.from_residual.ensures.1 in
-    rw (p.1, p.2) (nothing_comes _ (IsSteppedBy c.args.table.now) (RefusesStepBy c.args.table.now) _ _ _ _ c.seeded-store.ensures.most
-    (λ bytes refuses. inl refuses) c.in_err-pattern.ensures)
+    rw (p.1, p.2) (nothing_comes _ (IsSteppedBy c.args.table.now) (RefusesStepBy c.args.table.now) _ _ _ _ c.seeded-store.ensures.most c.seeded-store.ensures.stored
+    c.pattern_of.ensures.squares (λ bytes refuses. inl refuses) c.in_err-pattern.ensures.reads)
 
 pub next_by_table-requires : goal.next_by_table-requires
-next_by_table-requires g c = (c.in_ok-pattern.ensures.pattern.bytes, c.in_ok-pattern.ensures.pattern.is)
+next_by_table-requires g c = (c.in_ok-pattern.ensures.reads.pattern.bytes, c.in_ok-pattern.ensures.reads.pattern.is)
 
 pub returns : goal.returns
 returns g c =
-    comes_of_pattern _ (IsSteppedBy c.args.table.now) (RefusesStepBy c.args.table.now) _ c.read_from.new.store c.in_ok-pattern.pattern c.next_by_table.result
-    c.in_ok-pattern.ensures.pattern c.in_ok-pattern.ensures.works c.next_by_table.ensures.stepped
+    comes_of_pattern _ (IsSteppedBy c.args.table.now) (RefusesStepBy c.args.table.now) _ c.pattern_of.new.store c.in_ok-pattern.pattern c.next_by_table.result
+    c.in_ok-pattern.ensures.reads.pattern c.in_ok-pattern.ensures.reads.works c.next_by_table.ensures.stepped
     (refused_step (LacksForTable c.args.table.now)
-    (λ bytes fault. (u : Universe) × Reads MAX_LEVEL bytes u × TableRefusal MAX_LEVEL c.args.table.now u (Some fault)) _ c.read_from.new.store
-    c.next_by_table.new.store c.in_ok-pattern.pattern c.next_by_table.result c.in_ok-pattern.ensures.pattern
-    (c.next_by_table.ensures.keeps.limit ∙ c.read_from.ensures.reads.keeps.limit ∙ c.seeded-store.ensures.most)
+    (λ bytes fault. (u : Universe) × Reads MAX_LEVEL bytes u × TableRefusal MAX_LEVEL c.args.table.now u (Some fault)) _ c.pattern_of.new.store
+    c.next_by_table.new.store c.in_ok-pattern.pattern c.next_by_table.result c.in_ok-pattern.ensures.reads.pattern
+    (c.next_by_table.ensures.keeps.limit ∙ c.pattern_of.ensures.reads.reads.keeps.limit ∙ c.seeded-store.ensures.most)
     c.next_by_table.ensures.refused c.next_by_table.ensures.needed)

@@ -1,4 +1,4 @@
-use Rattle.std.proofs.Common.{◌∙◌, ap, refl, option_map}
+use Rattle.std.proofs.Common.{ap, refl, option_map}
 use Rattle.life_cli.specs.KeyRuns.{by_opening}
 use Rattle.life_cli.proofs.KeyRunLemmas.{err_by, list_lacks, list_read}
 use Rattle.life_cli.proofs.keys.files.Files.list.Goals as goal
@@ -12,13 +12,11 @@ returns-in_default-opener-clause-err g c = (
 )
 
 pub returns-clause-ok : goal.returns-clause-ok
-returns-clause-ok g c = list_read (goal.F-step g) g.R.Read.remaining _ _ c.args.self.now.opener c.opener.new.self c.in-Ok.opened _ _ _
-    c.read_within.result (ap (option_map (λ word. word.now)) c.in-Some.is)
-    (c.origin_of.result, c.origin_of.ensures, rw c.in-Ok.is at c.opener.ensures)
-    (ap g.R.Read.remaining (c.expecting-source.ensures.inner ∙ c.new-2.ensures.inner)) c.read_within.ensures.ok
+returns-clause-ok g c = list_read (goal.F-step g) g.R.Source.remaining g.R.Source.failures _ _ c.args.self.now.opener c.opener.new.self c.in-Ok.source
+    c.list_bytes.new.source _ c.list_bytes.result (ap (option_map (λ word. word.now)) c.in-Some.is)
+    (c.origin_of.result, c.origin_of.ensures, rw c.in-Ok.is at c.opener.ensures) c.list_bytes.ensures.ok c.list_bytes.ensures.works
 
 pub returns-clause-err : goal.returns-clause-err
-returns-clause-err g c = err_by _ _ c.read_within.result (λ kind lacks. (c.in-Some.name.now, ap (option_map (λ word. word.now)) c.in-Some.is, lacks))
-    (list_lacks _ _ _ _ _ c.in-Ok.opened _ _ _ c.read_within.result (c.origin_of.result, c.origin_of.ensures, rw c.in-Ok.is at c.opener.ensures)
-    (ap g.R.Read.remaining (c.expecting-source.ensures.inner ∙ c.new-2.ensures.inner)) c.read_within.ensures.failed c.read_within.ensures.long
-    c.read_within.ensures.kinds)
+returns-clause-err g c = err_by _ _ c.list_bytes.result (λ kind lacks. (c.in-Some.name.now, ap (option_map (λ word. word.now)) c.in-Some.is, lacks))
+    (list_lacks _ _ _ _ _ _ c.in-Ok.source c.list_bytes.new.source c.list_bytes.result
+    (c.origin_of.result, c.origin_of.ensures, rw c.in-Ok.is at c.opener.ensures) c.list_bytes.ensures.err)

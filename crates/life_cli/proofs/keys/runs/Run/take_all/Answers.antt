@@ -22,7 +22,7 @@ returns-in_err-take_words-clause-took g c =
     rw p.1 (
       first.0 ++ map Listed (names_in (end_of c.args.self.now.outputs.zero) c.args.list.now),
       tt,
-      takes_err _ _ _ _ _ _ _ _ _ _ _ _ _ _ _ _ _ _ _ (takes_longer _ _ _ _ _ _ _ _ _ _ _ _ _ _ _ _ _ _ _ first.2),
+      takes_err _ _ _ _ _ _ _ _ _ _ _ _ _ _ _ _ _ _ _ _ (takes_longer _ _ _ _ _ _ _ _ _ _ _ _ _ _ _ _ _ _ _ _ first.2),
     )
 
 pub returns-in_err-take_list-clause-took : goal.returns-in_err-take_list-clause-took
@@ -33,7 +33,7 @@ returns-in_err-take_list-clause-took g c =
     rw p.1 (
       second.0,
       tt,
-      takes_err _ _ _ _ _ _ _ _ _ _ _ _ _ _ _ _ _ _ _ (takes_both _ _ _ _ _ _ _ _ _ _ _ _ _ _ _ _ _ _ _ _ _ _ _ _ _ c.in_ok-take_words.ensures.form
+      takes_err _ _ _ _ _ _ _ _ _ _ _ _ _ _ _ _ _ _ _ _ (takes_both _ _ _ _ _ _ _ _ _ _ _ _ _ _ _ _ _ _ _ _ _ _ _ _ _ _ c.in_ok-take_words.ensures.form
           c.in_ok-take_words.ensures.zero first.1 first.2 second.2),
     )
 
@@ -43,6 +43,6 @@ returns-clause-took g c =
     let second = c.in_ok-take_list.ensures.took in (
       second.0,
       on_ok _ c.flush.result second.1,
-      takes_flushed _ _ _ _ _ _ _ _ _ _ _ _ _ _ _ _ _ _ _ (takes_both _ _ _ _ _ _ _ _ _ _ _ _ _ _ _ _ _ _ _ _ _ _ _ _ _ c.in_ok-take_words.ensures.form
+      takes_flushed _ _ _ _ _ _ _ _ _ _ _ _ _ _ _ _ _ _ _ _ (takes_both _ _ _ _ _ _ _ _ _ _ _ _ _ _ _ _ _ _ _ _ _ _ _ _ _ _ c.in_ok-take_words.ensures.form
           c.in_ok-take_words.ensures.zero first.1 first.2 second.2) c.flush.ensures.bytes,
     )

@@ -16,7 +16,7 @@ loop-rest-init g c = record {
     | then-self w ↦ search rules
     | else-self w ↦ search rules
   ];
-  took = takes_none _ _ _ _ _ _ _ _ _ _ _ _ c.requires.hears;
+  took = takes_none _ _ _ _ _ _ _ _ _ _ _ _ _ c.requires.hears;
 }
 
 pub loop-rest-preserved-in-Continue-1 : goal.loop-rest-preserved-in-Continue-1
@@ -30,7 +30,7 @@ loop-rest-preserved-in-Continue-1 g c = record {
   zero = c.in_ok-put.ensures.zero ∙ c.loop-rest.invariant.zero;
   form = c.listed_outcome-outcome.ensures.form ∙ c.loop-rest.invariant.form;
   ends = c.loop-rest.invariant.ends;
-  took = takes_next _ _ _ _ _ _ _ _ _ _ _ _ _ _ _ _ _ _ _ _ _ _ _ _ _ _ _
+  took = takes_next _ _ _ _ _ _ _ _ _ _ _ _ _ _ _ _ _ _ _ _ _ _ _ _ _ _ _ _
       c.loop-rest.invariant.form c.loop-rest.invariant.zero
       (names_next _ _ c.loop-rest.rest.now c.first_name.result.0.now c.first_name.result.1.now c.loop-rest.invariant.ends c.first_name.ensures.first
       (search rules)) refl c.loop-rest.invariant.took c.listed_outcome-outcome.ensures.takes c.in_ok-put.ensures.taken;
@@ -42,7 +42,7 @@ returns-in_err-put-clause-took g c =
     rw p.1 (
       map Listed (names_in (end_of c.args.self.now.outputs.zero) c.first_name.result.1.now),
       tt,
-      takes_err _ _ _ _ _ _ _ _ _ _ _ _ _ _ _ _ _ _ _ (takes_next _ _ _ _ _ _ _ _ _ _ _ _ _ _ _ _ _ _ _ _ _ _ _ _ _ _ _
+      takes_err _ _ _ _ _ _ _ _ _ _ _ _ _ _ _ _ _ _ _ _ (takes_next _ _ _ _ _ _ _ _ _ _ _ _ _ _ _ _ _ _ _ _ _ _ _ _ _ _ _ _
           c.loop-rest.invariant.form c.loop-rest.invariant.zero
           (names_next _ _ c.loop-rest.rest.now c.first_name.result.0.now c.first_name.result.1.now c.loop-rest.invariant.ends c.first_name.ensures.first
           (search rules)) refl c.loop-rest.invariant.took c.listed_outcome-outcome.ensures.takes c.in_err-put.ensures.taken),
