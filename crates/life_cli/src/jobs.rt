@@ -1,7 +1,7 @@
 //! The work of a task.
 
 ghost use Rattle.std.specs.Prelude.{◌≡◌, ◌≢◌, ◌⊎◌, ◌<◌, ◌↔◌, ◌^◌, IsSome, IfSome, IfOk, IfErr, OnOk, IsErrAnd, IsTrue, Ok, Err, true, false};
-ghost use Rattle.life_cli.specs.Words.{Appends, SourceRun, source_run, optional_source_run, sink_run, Refusal, Refuses, Keeps, held, AreWorking, ReadsPattern, RunsCanon, AreOfInput, IsRleOf, IsShown, fault_line, refusal_of, status_of, Tells, made_status, made_text, MadeOf, TaskMakes, Worked, OfFile, InputRefuses, BreaksOff, ComesOf, AreUncompared, CanonRefuses, IsPatternIn, IsWantFor, TaskRan, TaskRefuses, RefusesMany, HasSecond, WritesPlacedText};
+ghost use Rattle.life_cli.specs.Words.{Appends, SourceRun, source_run, optional_source_run, sink_run, Refusal, Refuses, Keeps, held, AreWorking, ReadsPattern, RunsCanon, AreOfInput, IsRleOf, IsShown, fault_line, refusal_of, status_of, Tells, made_status, made_text, MadeOf, TaskMakes, Worked, OfFile, InputRefuses, BreaksOff, ComesOf, AreUncompared, CanonRefuses, IsPatternIn, IsWantFor, TaskRan, TaskRefuses, RefusesMany, HasSecond, WritesPlacedText, task_of};
 
 use crate::forms::{are_same_in, text_of_source};
 use crate::plans::{Form, Job, Target, Task};
