@@ -62,7 +62,8 @@ squares-more [] more some = absurd (omega (arith, some))
 squares-more (header ∷ front) more some = (_, filter_map-append square_on front more)
 
 -- the Id of a line names the square that the lines before it say
-module _ (store : Nodes) (file : Macrocell) (ids : List Id) (good : IsValid MAX_LEVEL file) (are : AreSquaresOf (IsKnown store) (content store) file.lines ids) where
+module _ (store : Nodes) (file : Macrocell) (ids : List Id) (good : IsValid MAX_LEVEL file)
+    (are : AreSquaresOf (IsKnown store) (content store) file.lines ids) where
   line-known : (before : List (List ℕ)) (square : Line) (rest : List Line) (rule : Rule) (generation : ℕ)
       → IsValid MAX_LEVEL (record { rule = rule; generation = generation; lines = squares_of before ++ square ∷ [] })
       → file.lines ≡ (squares_of before ++ square ∷ []) ++ rest

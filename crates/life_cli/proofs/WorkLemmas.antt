@@ -114,7 +114,8 @@ refused_text form source store pattern (Err fault) has (inl memory) = by_want (i
 refused_text form source store pattern (Err fault) has (inr refuses) = by_file has.bytes has.read (refuses has.bytes has.is)
 
 -- a fault of a kind that isn't a file's is none of a file
-pub no_file : (base : List Tree) (source : SourceRun) (store : Nodes) (fault : Fault) → RefusalsHaveKinds MAX_LEVEL → ReadRefuses MAX_LEVEL (2 ^ 30) store source fault
+pub no_file : (base : List Tree) (source : SourceRun) (store : Nodes) (fault : Fault) → RefusalsHaveKinds MAX_LEVEL → ReadRefuses MAX_LEVEL
+    (2 ^ 30) store source fault
     → (fault ≡ fault_of Full → IsTooSmallFor base source store)
     → (fault.kind ≡ ReadFault) ⊎ ((fault.kind ≡ InputTooLong) ⊎ ((fault.kind ≡ Full) ⊎ (fault.kind ≡ Memory)))
     → InputRefuses source fault ⊎ IsWantFor base source store fault
@@ -212,7 +213,8 @@ text_of_pattern gives items source store pattern (Err fault) has is = tt
 
 -- nothing comes of a file whose pattern wasn't read
 pub nothing_comes : {X : Type 0} (items : X → List ℕ) (gives : List ℕ → List ℕ → Type 0) (refuses : List ℕ → Fault → Type 0) (source : SourceRun)
-    (old new : Nodes) (fault : Fault) → old.limit ≡ 2 ^ 31 → held old ≡ [] → AreOfInput (held old) source.before (held new) → ((bytes : List ℕ) → Refuses MAX_LEVEL bytes fault → refuses bytes fault)
+    (old new : Nodes) (fault : Fault) → old.limit ≡ 2 ^ 31 → held old ≡ [] → AreOfInput (held old) source.before (held new) →
+        ((bytes : List ℕ) → Refuses MAX_LEVEL bytes fault → refuses bytes fault)
     → ReadsPattern (2 ^ 30) old new source (Err fault) → ComesOf items gives refuses source (Err fault)
 nothing_comes items gives refuses source old new fault limit empty squares f read = record {
   ok = tt;

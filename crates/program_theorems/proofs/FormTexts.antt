@@ -109,7 +109,8 @@ module _ (laws : LayersAgree) (file text : List ℕ) where
         exchange = t.exchange;
         columns = t.columns;
         rows = t.rows;
-        is = moved_to (image t.exchange t.columns t.rows p.pattern) (layer.image t u) form text (image_says p.pattern u t says) formed h.is.turned.moved h.is.is;
+        is = moved_to (image t.exchange t.columns t.rows p.pattern) (layer.image t u) form text
+            (image_says p.pattern u t says) formed h.is.turned.moved h.is.is;
         least = λ exchange columns rows other m.
             let s : Turn = turn_of exchange columns rows in
             let one = image_says p.pattern u s says in

@@ -384,7 +384,8 @@ module _ (laws : LayersAgree) (first second : SourceRun) (output : SinkRun) (ref
       })
       breaks.written breaks.cause
 
-pub origin_of : LayersAgree → (task : Task) (first second : SourceRun) (output : SinkRun) (refusal : Refusal) → layer.TaskRefuses task first second output refusal
+pub origin_of : LayersAgree → (task : Task) (first second : SourceRun) (output : SinkRun) (refusal : Refusal)
+    → layer.TaskRefuses task first second output refusal
     → Origin task first second output refusal
 origin_of laws (tasks.Canon Placed) first second output refusal h =
     of_canon laws (tasks.Canon Placed) first second output refusal (λ bytes other text c. (refl, c)) (λ has. has) h.0

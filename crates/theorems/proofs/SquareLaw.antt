@@ -194,7 +194,25 @@ row_is a b c d e f g h pa pb pc pd pe pf pg ph =
 
 leaf_is : (s : Square) → HasLevel 1 (suc (suc (suc zero))) s → flat_map leaf_row (state_rows s) ≡ flat_map row_text (rows_of (tree s))
 unfolding rows_of
-leaf_is _ (quarters_level (quarters_level (quarters_level (point_level {state = s00} h00) (point_level {state = s10} h10) (point_level {state = s01} h01) (point_level {state = s11} h11)) (quarters_level (point_level {state = s20} h20) (point_level {state = s30} h30) (point_level {state = s21} h21) (point_level {state = s31} h31)) (quarters_level (point_level {state = s02} h02) (point_level {state = s12} h12) (point_level {state = s03} h03) (point_level {state = s13} h13)) (quarters_level (point_level {state = s22} h22) (point_level {state = s32} h32) (point_level {state = s23} h23) (point_level {state = s33} h33))) (quarters_level (quarters_level (point_level {state = s40} h40) (point_level {state = s50} h50) (point_level {state = s41} h41) (point_level {state = s51} h51)) (quarters_level (point_level {state = s60} h60) (point_level {state = s70} h70) (point_level {state = s61} h61) (point_level {state = s71} h71)) (quarters_level (point_level {state = s42} h42) (point_level {state = s52} h52) (point_level {state = s43} h43) (point_level {state = s53} h53)) (quarters_level (point_level {state = s62} h62) (point_level {state = s72} h72) (point_level {state = s63} h63) (point_level {state = s73} h73))) (quarters_level (quarters_level (point_level {state = s04} h04) (point_level {state = s14} h14) (point_level {state = s05} h05) (point_level {state = s15} h15)) (quarters_level (point_level {state = s24} h24) (point_level {state = s34} h34) (point_level {state = s25} h25) (point_level {state = s35} h35)) (quarters_level (point_level {state = s06} h06) (point_level {state = s16} h16) (point_level {state = s07} h07) (point_level {state = s17} h17)) (quarters_level (point_level {state = s26} h26) (point_level {state = s36} h36) (point_level {state = s27} h27) (point_level {state = s37} h37))) (quarters_level (quarters_level (point_level {state = s44} h44) (point_level {state = s54} h54) (point_level {state = s45} h45) (point_level {state = s55} h55)) (quarters_level (point_level {state = s64} h64) (point_level {state = s74} h74) (point_level {state = s65} h65) (point_level {state = s75} h75)) (quarters_level (point_level {state = s46} h46) (point_level {state = s56} h56) (point_level {state = s47} h47) (point_level {state = s57} h57)) (quarters_level (point_level {state = s66} h66) (point_level {state = s76} h76) (point_level {state = s67} h67) (point_level {state = s77} h77)))) =
+leaf_is _ (quarters_level (quarters_level (quarters_level (point_level {state = s00} h00) (point_level {state = s10} h10)
+    (point_level {state = s01} h01) (point_level {state = s11} h11))
+    (quarters_level (point_level {state = s20} h20) (point_level {state = s30} h30) (point_level {state = s21} h21) (point_level {state = s31} h31))
+    (quarters_level (point_level {state = s02} h02) (point_level {state = s12} h12) (point_level {state = s03} h03) (point_level {state = s13} h13))
+    (quarters_level (point_level {state = s22} h22) (point_level {state = s32} h32) (point_level {state = s23} h23) (point_level {state = s33} h33)))
+    (quarters_level (quarters_level (point_level {state = s40} h40) (point_level {state = s50} h50) (point_level {state = s41} h41)
+    (point_level {state = s51} h51)) (quarters_level (point_level {state = s60} h60) (point_level {state = s70} h70) (point_level {state = s61} h61)
+    (point_level {state = s71} h71)) (quarters_level (point_level {state = s42} h42) (point_level {state = s52} h52) (point_level {state = s43} h43)
+    (point_level {state = s53} h53)) (quarters_level (point_level {state = s62} h62) (point_level {state = s72} h72) (point_level {state = s63} h63)
+    (point_level {state = s73} h73))) (quarters_level (quarters_level (point_level {state = s04} h04) (point_level {state = s14} h14)
+    (point_level {state = s05} h05) (point_level {state = s15} h15))
+    (quarters_level (point_level {state = s24} h24) (point_level {state = s34} h34) (point_level {state = s25} h25) (point_level {state = s35} h35))
+    (quarters_level (point_level {state = s06} h06) (point_level {state = s16} h16) (point_level {state = s07} h07) (point_level {state = s17} h17))
+    (quarters_level (point_level {state = s26} h26) (point_level {state = s36} h36) (point_level {state = s27} h27) (point_level {state = s37} h37)))
+    (quarters_level (quarters_level (point_level {state = s44} h44) (point_level {state = s54} h54) (point_level {state = s45} h45)
+    (point_level {state = s55} h55)) (quarters_level (point_level {state = s64} h64) (point_level {state = s74} h74) (point_level {state = s65} h65)
+    (point_level {state = s75} h75)) (quarters_level (point_level {state = s46} h46) (point_level {state = s56} h56) (point_level {state = s47} h47)
+    (point_level {state = s57} h57)) (quarters_level (point_level {state = s66} h66) (point_level {state = s76} h76) (point_level {state = s67} h67)
+    (point_level {state = s77} h77)))) =
     λ i.
     row_is s00 s10 s20 s30 s40 s50 s60 s70 h00 h10 h20 h30 h40 h50 h60 h70 i ++ (
     row_is s01 s11 s21 s31 s41 s51 s61 s71 h01 h11 h21 h31 h41 h51 h61 h71 i ++ (

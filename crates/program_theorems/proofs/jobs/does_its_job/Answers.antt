@@ -57,7 +57,8 @@ returns-clause-refused g c =
         status_is = told.1 ∙ sym (same_status told.0.fault.kind);
         line_is = reason.line;
       },
-      λ heard h. held_by (sink_run g.E.Sink.contents g.E.Sink.failures g.E.Sink.stalled c.args.run.now.err c.work_seeded.new.err) heard (fault_line told.0) told.7 h,
+      λ heard h. held_by (sink_run g.E.Sink.contents g.E.Sink.failures g.E.Sink.stalled c.args.run.now.err c.work_seeded.new.err) heard
+          (fault_line told.0) told.7 h,
     )
 
 pub returns-clause-unwritten : goal.returns-clause-unwritten

@@ -10,7 +10,8 @@ invariant-loop-rest g l = record {
   stalled : g.W.Sink.stalled l.out ≡ g.W.Sink.stalled l.initial.out;
   zero : l.self.outputs.zero ≡ l.initial.self.outputs.zero;
   form : l.self.files.form ≡ l.initial.self.files.form;
-  took : TakesFiles (goal.F-step g) g.R.Source.remaining g.R.Source.failures g.W.Sink.contents g.E.Sink.contents g.E.Sink.failures g.E.Sink.stalled l.initial.self.files.form
+  took : TakesFiles (goal.F-step g) g.R.Source.remaining g.R.Source.failures g.W.Sink.contents g.E.Sink.contents g.E.Sink.failures g.E.Sink.stalled
+      l.initial.self.files.form
       (map Listed (names_in (end_of l.initial.self.outputs.zero) l.list)) (map Listed (names_in (end_of l.initial.self.outputs.zero) l.rest))
       l.initial.self.files.opener l.self.files.opener l.initial.out l.out l.initial.err l.err l.initial.self.outputs l.self.outputs (Ok tt);
 }
