@@ -148,7 +148,7 @@ items_are left x y [] = refl
 items_are left x y (c ∷ cells) =
     let rest = items_from left (c.x +ℤ pos 1) c.y cells in
     ap (λ (t : List Item). cond (int_eq c.y y) (gap (nat_abs (c.x -ℤ x))) (row_ends (nat_abs (c.y -ℤ y)) ∷ gap (nat_abs (c.x -ℤ left)))
-        ++ after_run 1 c.state t)
+    ++ after_run 1 c.state t)
     (items_are left (c.x +ℤ pos 1) c.y cells)
     ∙ ap (λ (t : List Item). cond (int_eq c.y y) (gap (nat_abs (c.x -ℤ x))) (row_ends (nat_abs (c.y -ℤ y)) ∷ gap (nat_abs (c.x -ℤ left))) ++ t)
     (run_is 1 c.state rest)
@@ -191,7 +191,7 @@ module _ (rule_is : (rule : LayerRule) → rule_text (rule_in rule) ≡ layer_ru
       ∙ (λ i. append_assoc sides (codes ", y = ") (decimal height) i ++ (codes ", rule = " ++ rule_is rule i)) in
       λ i. first i ∷ second i
       ∷ (ap (λ (t : List (List ℕ)). in_lines [] (t ++ codes "!" ∷ [])) (texts_are rule items) ∙ lines_are []
-          (map (layer_item_text rule) items ++ codes "!" ∷ []))
+      (map (layer_item_text rule) items ++ codes "!" ∷ []))
       i
 
   pub rle_of_pattern : (rule : LayerRule) (generation : ℕ) (cell : ℤ → ℤ → ℕ) (cells : List Cell) → AreCells cell cells

@@ -53,8 +53,15 @@ quarters-held store a b c d u live of_a of_b of_c of_d id known is (inl same) =
 quarters-held store a b c d u live of_a of_b of_c of_d id known is (inr rest) = by (names store id known.0)
   where
     child : (i : ℕ) (q : Id) → i ≤ length store.nodes → IsEarlier store.log i q → IsKnown store q
-    child i q le h = (record { sound = known.0.sound; named = record { below = omega (arith, le, h.named.below); blank = h.named.blank }; joined
-        = h.joined }, known.1)
+    child i q le h = (
+      record {
+        sound = known.0.sound;
+        named = record { below = omega (arith, le, h.named.below); blank = h.named.blank };
+        joined
+            = h.joined;
+      },
+      known.1,
+    )
 
     by : Names store id → Contains (held store) u
     by (the_state l e) = absurd (point≢quad (sym e ∙ is))

@@ -100,8 +100,14 @@ module _ {A B : Type 0} {old new : Nodes} where
 
   -- what is done behind the reading and doesn't change the store
   pub reads-still : {bytes : List ℕ} {x : A} {r : Result B Fault} → ReadsInto bytes old new (Ok x) → (r ≡ Err (fault_of Full) → ⊥) → ReadsInto bytes old new r
-  reads-still {r = r} call none = record { all = whatever-comes r call.all; needed = λ e. absurd (none e); adds = call.adds; room = λ e. absurd
-      (none e); keeps = call.keeps }
+  reads-still {r = r} call none = record {
+    all = whatever-comes r call.all;
+    needed = λ e. absurd (none e);
+    adds = call.adds;
+    room = λ e. absurd
+        (none e);
+    keeps = call.keeps;
+  }
 
   pub source-still : {most : ℕ} {source : SourceRun} {x : A} {r : Result B Fault} → ReadsSource most old new source (Ok x)
       → (r ≡ Err (fault_of Full) → ⊥) → ReadsSource most old new source r

@@ -174,7 +174,7 @@ told_comes step remaining reads_failed form (Err error) outcome told (inr (key, 
 -- so what is told of a file is what it comes to
 pub told_takes : {F R : Type 0} (step : F → Origin → Result R IoError → F → Type 0) (remaining : R → Option (List ℕ)) (reads_failed : R → ℕ) (form : Form)
     (f g : F) (name : Name) (outcome told : Outcome) → IsToldAs outcome told → Takes step remaining reads_failed form f
-        (record { name = name; outcome = outcome }) g
+    (record { name = name; outcome = outcome }) g
     → Takes step remaining reads_failed form f (record { name = name; outcome = told }) g
 told_takes step remaining reads_failed form f g name outcome told how (by_call origin given named called comes) =
     by_call origin given named called (told_comes step remaining reads_failed form given outcome told how comes)
@@ -233,10 +233,10 @@ module _ {F R W E : Type 0} (step : F → Origin → Result R IoError → F → 
   takes_both form form' words list rest last f g h u v w x y z a b c result is_form is_zero all p q =
       let more = map Listed (names_in (end_of a.zero) list) in
       let first = subst (λ l. TakesFiles step remaining reads_failed held contents failures stalled form (map Word words ++ more)
-          (l ++ more) f g u v x y a b (Ok tt)) all
+      (l ++ more) f g u v x y a b (Ok tt)) all
       (takes_longer form (map Word words) rest more f g u v x y a b (Ok tt) p) in
       let one = subst (λ k. TakesFiles step remaining reads_failed held contents failures stalled k
-          (map Listed (names_in (end_of b.zero) list)) last g h v w y z b c result)
+      (map Listed (names_in (end_of b.zero) list)) last g h v w y z b c result)
       is_form q in
       let second = subst (λ ends. TakesFiles step remaining reads_failed held contents failures stalled form (map Listed (names_in (end_of ends) list)) last
       g h v w y z b c result) is_zero one in
@@ -409,7 +409,7 @@ module _ {F R W E : Type 0} (step : F → Origin → Result R IoError → F → 
       → Ran step remaining reads_failed plan opener (sink_run held w-failures w-stalled u v) (sink_run contents failures stalled x y) flushed b.status
   ran_through plan opener ready last list form names rest u v x y a b flushed read is_form same is_zero hears none all p is_flushed = through p.taken
       (subst (Took step remaining reads_failed plan opener p.taken) all
-          (took_of plan opener ready last list form names rest u v x y a b (Ok tt) read is_form same p))
+      (took_of plan opener ready last list form names rest u v x y a b (Ok tt) read is_form same p))
       (subst (λ z. Appends (held u) (held v) (output_of z p.taken)) is_zero p.writes.written) is_flushed
       (tells_all contents failures stalled b.tells x y (errors_of p.taken)
       (subst (λ t. TellsOn contents failures stalled t b.tells x y (errors_of p.taken)) hears p.writes.told))

@@ -214,7 +214,7 @@ text_of_pattern gives items source store pattern (Err fault) has is = tt
 -- nothing comes of a file whose pattern wasn't read
 pub nothing_comes : {X : Type 0} (items : X → List ℕ) (gives : List ℕ → List ℕ → Type 0) (refuses : List ℕ → Fault → Type 0) (source : SourceRun)
     (old new : Nodes) (fault : Fault) → old.limit ≡ 2 ^ 31 → held old ≡ [] → AreOfInput (held old) source.before (held new) →
-        ((bytes : List ℕ) → Refuses MAX_LEVEL bytes fault → refuses bytes fault)
+    ((bytes : List ℕ) → Refuses MAX_LEVEL bytes fault → refuses bytes fault)
     → ReadsPattern (2 ^ 30) old new source (Err fault) → ComesOf items gives refuses source (Err fault)
 nothing_comes items gives refuses source old new fault limit empty squares f read = record {
   ok = tt;

@@ -207,7 +207,7 @@ form_outputs laws form task other_task first second other_first other_second sta
 pub shown_outputs : LayersAgree → (task other_task : Task) (first second other_first other_second : SourceRun) (status other_status : ℕ)
     (text lines file : List ℕ)
     → HasAnswer task first second status text → HasAnswer other_task other_first other_second other_status lines → task ≡ tasks.Canon Placed
-        → other_task ≡ tasks.Show
+    → other_task ≡ tasks.Show
     → first.before ≡ Some file → other_first.before ≡ Some file
     → (pattern : Pattern) × (pattern_of file ≡ Ok pattern) × IsShown pattern (node_lines text) lines
 shown_outputs laws task other_task first second other_first other_second status other_status text lines file h k is other_is e f =

@@ -40,7 +40,7 @@ squares_are : (rule : LayerRule) (s : Square) → map tree (first_visits [] (wal
 unfolding listed
 squares_are rule s =
     visits_are [] (walk (least_level (rule_in rule)) s) ∙ ap (with_all [])
-        (walk_is (least_level (rule_in rule)) s ∙ ap (λ m. tree_walk (tree s) m) (least_is rule))
+    (walk_is (least_level (rule_in rule)) s ∙ ap (λ m. tree_walk (tree s) m) (least_is rule))
 
 text_is : (rule : LayerRule) (generation : ℕ) {level : ℕ} (s : Square) → HasLevel (largest_state rule) level s
     → square_text (rule_in rule) generation s ≡ mc_text (square_file rule generation (tree s))
@@ -61,7 +61,7 @@ middle_is : (f : ℤ → ℤ → ℕ) (k : ℕ) → tree (middle_square f (suc k
 unfolding centred corner
 middle_is f k =
     ap (λ n. tree (square_at f (suc k) (neg_ℤ (pos (2 ^ n))) (neg_ℤ (pos (2 ^ n))))) (less_one k) ∙ square_is f (suc k) (neg_ℤ (pos (2 ^ k)))
-        (neg_ℤ (pos (2 ^ k)))
+    (neg_ℤ (pos (2 ^ k)))
 
 twice : (k : ℕ) → 2 ^ suc k ≡ 2 ^ k + 2 ^ k
 twice k = omega arith
@@ -166,9 +166,12 @@ rle_of_file file text h =
     let p = files_agree file u h.reads in
     let same : record { rule = rule_in u.rule; generation = u.generation; cell = u.cell } ≡ p.pattern =
     λ i. record { rule = sym p.rule i; generation = sym p.generation i; cell = λ x y. sym (p.cells x y) i } in
-    let own = rle_of_pattern rule_text_is u.rule u.generation u.cell h.cells (same_cells u.cell u.cell h.cells refl h.are) in
-    (p.pattern, p.is, subst (λ (t : List ℕ). IsRleOfPattern p.pattern t) (sym h.is)
-        (subst (λ (q : Pattern). IsRleOfPattern q (rle_text u.rule u.generation h.cells)) same own))
+    let own = rle_of_pattern rule_text_is u.rule u.generation u.cell h.cells (same_cells u.cell u.cell h.cells refl h.are) in (
+      p.pattern,
+      p.is,
+      subst (λ (t : List ℕ). IsRleOfPattern p.pattern t) (sym h.is)
+          (subst (λ (q : Pattern). IsRleOfPattern q (rle_text u.rule u.generation h.cells)) same own),
+    )
 
 -- a pattern has one text
 pub one_text_of : (pattern : Pattern) (s t : List ℕ) → IsTextOfPattern pattern s → IsTextOfPattern pattern t → s ≡ t

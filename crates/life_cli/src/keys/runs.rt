@@ -33,8 +33,8 @@ impl<R: Source + Drop, F: FnMut(Origin<'_>) -> IoResult<R> + Drop> Run<F> {
         ensures zero { self.new.outputs.zero ≡ self.old.outputs.zero }
         ensures form { self.new.files.form ≡ self.old.files.form }
         ensures callable { F.IsAlwaysCallable self.new.files.opener }
-        ensures took { TakesNames F.step R.remaining R.failures W.contents E.contents E.failures E.stalled
-            self.old.files.form (map Word (map (λ word. word.now) words.now))
+        ensures took { TakesNames F.step R.remaining R.failures W.contents E.contents E.failures
+            E.stalled self.old.files.form (map Word (map (λ word. word.now) words.now))
             self.old.files.opener self.new.files.opener out.old out.new err.old err.new
             self.old.outputs self.new.outputs result }
         ensures sink { LeavesSink W.failures W.stalled out.old out.new result }
@@ -55,8 +55,8 @@ impl<R: Source + Drop, F: FnMut(Origin<'_>) -> IoResult<R> + Drop> Run<F> {
     ) -> Result<(), Kind>
         requires { CanTake F.IsAlwaysCallable self.old (W.failures out.old) (E.failures err.old) }
         ensures callable { F.IsAlwaysCallable self.new.files.opener }
-        ensures took { TakesNames F.step R.remaining R.failures W.contents E.contents E.failures E.stalled
-            self.old.files.form (map Listed (names_in (end_of self.old.outputs.zero) list.now))
+        ensures took { TakesNames F.step R.remaining R.failures W.contents E.contents E.failures
+            E.stalled self.old.files.form (map Listed (names_in (end_of self.old.outputs.zero) list.now))
             self.old.files.opener self.new.files.opener out.old out.new err.old err.new
             self.old.outputs self.new.outputs result }
         ensures sink { LeavesSink W.failures W.stalled out.old out.new result }
@@ -85,8 +85,8 @@ impl<R: Source + Drop, F: FnMut(Origin<'_>) -> IoResult<R> + Drop> Run<F> {
         requires callable { F.IsAlwaysCallable self.old.files.opener }
         requires works { W.failures out.old ≡ 0 }
         requires hears { self.old.outputs.tells ≡ true → E.failures err.old ≡ 0 }
-        ensures took { TakesNames F.step R.remaining R.failures W.contents E.contents E.failures E.stalled
-            self.old.files.form
+        ensures took { TakesNames F.step R.remaining R.failures W.contents E.contents E.failures
+            E.stalled self.old.files.form
             (names_among self.old.outputs.zero (map (λ word. word.now) words.now) list.now)
             self.old.files.opener self.new.files.opener out.old out.new err.old err.new
             self.old.outputs self.new.outputs result }

@@ -77,26 +77,26 @@ pub next_of_middle-returns-in_err-nw-clause-needed : goal.next_of_middle-returns
 next_of_middle-returns-in_err-nw-clause-needed g m c =
     on_err_any c.from_residual.result
     (of_north_west (g.S.Squares.needs_node c.next_of.new.squares) c.args.rule.now
-        (g.S.Squares.content c.args.squares.now) c.args.level c.front.ensures c.western.ensures c.in_err-nw.ensures.needed)
+    (g.S.Squares.content c.args.squares.now) c.args.level c.front.ensures c.western.ensures c.in_err-nw.ensures.needed)
 
 pub next_of_middle-returns-in_err-ne-clause-needed : goal.next_of_middle-returns-in_err-ne-clause-needed
 next_of_middle-returns-in_err-ne-clause-needed g m c =
     on_err_any c.from_residual-in_err-ne.result
     (of_north_east (g.S.Squares.needs_node c.next_of-2.new.squares) c.args.rule.now c.in_ok-nw.ensures.keeps c.requires.known c.front-2.ensures
-        c.eastern.ensures c.in_err-ne.ensures.needed)
+    c.eastern.ensures c.in_err-ne.ensures.needed)
 
 pub next_of_middle-returns-in_err-sw-clause-needed : goal.next_of_middle-returns-in_err-sw-clause-needed
 next_of_middle-returns-in_err-sw-clause-needed g m c =
     on_err_any c.from_residual-in_err-sw.result
     (of_south_west (g.S.Squares.needs_node c.next_of-3.new.squares) c.args.rule.now
-        (keeps-then c.in_ok-nw.ensures.keeps c.in_ok-ne.ensures.keeps) c.requires.known c.rear.ensures c.western-2.ensures
+    (keeps-then c.in_ok-nw.ensures.keeps c.in_ok-ne.ensures.keeps) c.requires.known c.rear.ensures c.western-2.ensures
     c.in_err-sw.ensures.needed)
 
 pub next_of_middle-returns-in_err-se-clause-needed : goal.next_of_middle-returns-in_err-se-clause-needed
 next_of_middle-returns-in_err-se-clause-needed g m c =
     on_err_any c.from_residual-in_err-se.result
     (of_south_east (g.S.Squares.needs_node c.next_of-4.new.squares) c.args.rule.now
-        (keeps-then (keeps-then c.in_ok-nw.ensures.keeps c.in_ok-ne.ensures.keeps) c.in_ok-sw.ensures.keeps) c.requires.known c.rear-2.ensures
+    (keeps-then (keeps-then c.in_ok-nw.ensures.keeps c.in_ok-ne.ensures.keeps) c.in_ok-sw.ensures.keeps) c.requires.known c.rear-2.ensures
     c.eastern-2.ensures c.in_err-se.ensures.needed)
 
 pub next_of_middle-returns-clause-needed : goal.next_of_middle-returns-clause-needed
@@ -110,18 +110,18 @@ pub next_of-returns-in_err-next-clause-adds : goal.next_of-returns-in_err-next-c
 next_of-returns-in_err-next-clause-adds g t c =
     let level : c.args.level - 1 + 1 ≡ c.args.level = omega (arith, c.requires.low) in
     adds-as _ c.in_err-next.ensures.adds (λ P. of_quarters P c.args.rule.now (g.S.Squares.content c.args.squares.now)
-        (c.args.level - 1) level c.quarters-sixteen.ensures.pieces)
+    (c.args.level - 1) level c.quarters-sixteen.ensures.pieces)
 
 pub next_of-returns-clause-adds : goal.next_of-returns-clause-adds
 next_of-returns-clause-adds g t c =
     let level : c.args.level - 1 + 1 ≡ c.args.level = omega (arith, c.requires.low) in
     adds-as _ c.in_ok-next.ensures.adds (λ P. of_quarters P c.args.rule.now (g.S.Squares.content c.args.squares.now)
-        (c.args.level - 1) level c.quarters-sixteen.ensures.pieces)
+    (c.args.level - 1) level c.quarters-sixteen.ensures.pieces)
 
 pub next_of_middle-returns-in_err-nw-clause-adds : goal.next_of_middle-returns-in_err-nw-clause-adds
 next_of_middle-returns-in_err-nw-clause-adds g m c =
     adds-as _ c.in_err-nw.ensures.adds (λ P. of_north_west P c.args.rule.now
-        (g.S.Squares.content c.args.squares.now) c.args.level c.front.ensures c.western.ensures)
+    (g.S.Squares.content c.args.squares.now) c.args.level c.front.ensures c.western.ensures)
 
 pub next_of_middle-returns-in_err-ne-clause-adds : goal.next_of_middle-returns-in_err-ne-clause-adds
 next_of_middle-returns-in_err-ne-clause-adds g m c =

@@ -10,7 +10,7 @@ pub returns-in_err-pattern : goal.returns-in_err-pattern
 returns-in_err-pattern g c =
     let p = err_from_is_err_and c.from_residual.result c.from_residual.ensures.1 in
     rw (p.1, p.2) (nothing_comes _ (IsTextIn c.args.form MAX_LEVEL)
-        (RefusesInForm c.args.form) _ _ _ _ c.seeded-store.ensures.most c.seeded-store.ensures.stored
+    (RefusesInForm c.args.form) _ _ _ _ c.seeded-store.ensures.most c.seeded-store.ensures.stored
     c.pattern_of.ensures.squares (λ bytes refuses. refused_in c.args.form bytes _ refuses) c.in_err-pattern.ensures.reads)
 
 pub text_in-requires-clause-read : goal.text_in-requires-clause-read

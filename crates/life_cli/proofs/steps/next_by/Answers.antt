@@ -13,7 +13,7 @@ pub returns-in_err-pattern : goal.returns-in_err-pattern
 returns-in_err-pattern g c =
     let p = err_from_is_err_and c.from_residual.result c.from_residual.ensures.1 in
     rw (p.1, p.2) (nothing_comes _ (IsSteppedBy c.args.table.now)
-        (RefusesStepBy c.args.table.now) _ _ _ _ c.seeded-store.ensures.most c.seeded-store.ensures.stored
+    (RefusesStepBy c.args.table.now) _ _ _ _ c.seeded-store.ensures.most c.seeded-store.ensures.stored
     c.pattern_of.ensures.squares (λ bytes refuses. inl refuses) c.in_err-pattern.ensures.reads)
 
 pub next_by_table-requires : goal.next_by_table-requires

@@ -10,9 +10,9 @@ returns-in_err-bytes-clause-err g c =
 pub returns-clause-ok : goal.returns-clause-ok
 returns-clause-ok g c =
     read_as_table _ c.in_ok-bytes.bytes.items c.read_table_seeded.result c.in_ok-bytes.ensures.ok
-        (rw c.as_slice.ensures.value at c.read_table_seeded.ensures.ok)
+    (rw c.as_slice.ensures.value at c.read_table_seeded.ensures.ok)
 
 pub returns-clause-err : goal.returns-clause-err
 returns-clause-err g c =
     refused_table _ c.in_ok-bytes.bytes.items c.read_table_seeded.result c.in_ok-bytes.ensures.ok
-        (rw c.as_slice.ensures.value at c.read_table_seeded.ensures.err)
+    (rw c.as_slice.ensures.value at c.read_table_seeded.ensures.err)

@@ -8,7 +8,7 @@ pub returns-clause-stepped : goal.returns-clause-stepped
 returns-clause-stepped c =
     map_ok c.step_table.result
     (λ text h. stepped_text c.files_are_on_plane.ensures c.tables_read.ensures c.tables_decide.ensures c.args.rules.now c.args.file.now text.items
-        c.in_ok-table.table
+    c.in_ok-table.table
     ((c.grammars_agree.ensures (lines_of c.args.rules.now) c.in_ok-table.table).0 c.in_ok-table.ensures.ok) h) c.step_table.ensures.stepped
 
 pub returns-clause-refused : goal.returns-clause-refused
