@@ -56,7 +56,8 @@ impl<R: Source + Drop, F: FnMut(Origin<'_>) -> IoResult<R> + Drop> Run<F> {
         requires { CanTake F.IsAlwaysCallable self.old (W.failures out.old) (E.failures err.old) }
         ensures callable { F.IsAlwaysCallable self.new.files.opener }
         ensures took { TakesNames F.step R.remaining R.failures W.contents E.contents E.failures
-            E.stalled self.old.files.form (map Listed (names_in (end_of self.old.outputs.zero) list.now))
+            E.stalled self.old.files.form
+            (map Listed (names_in (end_of self.old.outputs.zero) list.now))
             self.old.files.opener self.new.files.opener out.old out.new err.old err.new
             self.old.outputs self.new.outputs result }
         ensures sink { LeavesSink W.failures W.stalled out.old out.new result }
