@@ -12,7 +12,7 @@ use Rattle.life_quad.specs.Refused.{TrimmedTo}
 use Rattle.life_quad.specs.Store.{Nodes}
 use Rattle.life_table.specs.Meaning.{Becomes}
 use Rattle.life_table.specs.declared.table.Table.{Table}
-use Rattle.life_sweep.specs.Generation.{next_life, AnswersAt}
+use Rattle.life_sweep.specs.Generation.{next_life, states_at, AnswersAt, TableAnswers, TableAnswersAt}
 use Rattle.life_block.specs.Needed.{level_behind}
 use Rattle.life_canon.specs.Files.{Reads}
 use Rattle.life_canon.specs.Store.{content, IsRead}
@@ -34,10 +34,10 @@ step-lacks Lacks bytes store pattern r l =
     (r.universe, r.reads, subst (λ q. Lacks q (whole MAX_LEVEL r.universe)) r.is.rule (subst (λ t. Lacks pattern.rule t) r.is.root l))
 
 -- the square to which that of the next generation is trimmed is one that the step needs
-pub root-by_rule : (P : Tree → Type 0) {rule : Rule} {life : OuterTotalistic} {root next : Tree} → rule ≡ Life life → IsFull next
+pub root-by_rule : (P : Tree → Type 0) (root : Tree) {rule : Rule} {life : OuterTotalistic} {next : Tree} → rule ≡ Life life → IsFull next
     → depth next ≡ level_behind (depth root) → ((x y : ℤ) → tree_cell next x y ≡ next_life life (tree_cell root) x y)
     → TrimmedTo P next (least_level rule) → SomeByRule P rule root
-root-by_rule P {root = root} {next = next} is full level cells smaller =
+root-by_rule P root {next = next} is full level cells smaller =
     subst (λ q. SomeByRule P q root) (sym is)
     (of_root (record { square = next; full = full; is = level; cells = cells; smaller = subst (λ q. TrimmedTo P next (least_level q)) is smaller }))
 
@@ -55,3 +55,11 @@ root-by_table P table {next = next} is full level cells smaller = (
         smaller = subst (λ q. TrimmedTo P next (least_level q)) is smaller;
       }),
 )
+
+-- the next states by a table are those by the same table in the words of a generation
+pub answered-by_table : TableAnswersAt → (law table : Table) (t next : Tree) → law ≡ table
+    → ((x y : ℤ) → TableAnswers law (states_at (tree_cell t) x y) (Becomes (tree_cell next x y)))
+    → (x y : ℤ) → AnswersAt table (tree_cell t) x y (Becomes (tree_cell next x y))
+answered-by_table answers law table t next same cells x y =
+    (answers table (tree_cell t) x y (Becomes (tree_cell next x y))).0
+    (subst (λ (T : Table). TableAnswers T (states_at (tree_cell t) x y) (Becomes (tree_cell next x y))) same (cells x y))

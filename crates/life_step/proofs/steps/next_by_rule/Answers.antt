@@ -97,7 +97,7 @@ returns-in_err-square-clause-needed c full =
 pub returns-clause-needed : goal.returns-clause-needed
 returns-clause-needed c full =
     let square = c.in_ok-square.ensures in
-    root-by_rule (IsNew c.text_of_square.new.store) c.in-Life.is (known_squares_are_full c.next_life_generation.new.squares _ square.known.0).0 square.level
+    root-by_rule (IsNew c.text_of_square.new.store) (content c.args.store.now c.args.pattern.root) c.in-Life.is (known_squares_are_full c.next_life_generation.new.squares _ square.known.0).0 square.level
     square.next (c.text_of_square.ensures.needed full)
 
 pub returns-in_err-square-clause-adds : goal.returns-in_err-square-clause-adds
@@ -111,4 +111,4 @@ returns-clause-adds c =
     let square = c.in_ok-square.ensures in
     adds-then _ square.adds c.text_of_square.ensures.adds
     (λ P some. subst (λ q. SomeByRule P q root) (sym c.in-Life.is) (of_generation some))
-    (λ P. root-by_rule P c.in-Life.is (known_squares_are_full c.next_life_generation.new.squares _ square.known.0).0 square.level square.next)
+    (λ P. root-by_rule P root c.in-Life.is (known_squares_are_full c.next_life_generation.new.squares _ square.known.0).0 square.level square.next)

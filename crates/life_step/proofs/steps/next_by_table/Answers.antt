@@ -8,14 +8,14 @@ use Rattle.life_table.specs.declared.table.Table.{Table}
 use Rattle.life_table.specs.Meaning.{Becomes}
 use Rattle.life_quad.proofs.LawLemmas.{known_squares_are_full}
 use Rattle.life_sweep.specs.Refused.{GenerationRefusal}
-use Rattle.life_sweep.specs.Generation.{AnswersAt, TableAnswers, states_at}
+use Rattle.life_sweep.specs.Generation.{TableAnswers, states_at}
 use Rattle.life_quad.proofs.KeepingLemmas.{keeps-then, adds-as, adds-then}
 use Rattle.life_canon.specs.Files.{Reads}
 use Rattle.life_canon.specs.Needs.{IsNew}
 use Rattle.life_canon.specs.Store.{content, IsRead}
 use Rattle.life_canon.specs.Universe.{Universe}
 use Rattle.life_step.specs.Refusals.{SomeOfTable, of_next, TableRefusal}
-use Rattle.life_step.proofs.NeedFacts.{handed-on, root-by_table}
+use Rattle.life_step.proofs.NeedFacts.{answered-by_table, handed-on, root-by_table}
 use Rattle.life_step.proofs.StateFacts.{cell-byte}
 use Rattle.life_step.proofs.StepFacts.{root-high, table-last, table-refused-read, table-stepped-read}
 use Rattle.life_step.proofs.steps.next_by_table.Goals as goal
@@ -97,24 +97,13 @@ returns-in_err-square-clause-needed c full =
           (of_next (handed-on _ c.from_residual-in_err-square.ensures.1 c.in_err-square.ensures.needed full)),
     )
 
--- the next states, by the table that was given
-next-states : (c : goal.After-text_of_square) → let t = content c.args.store.now c.args.pattern.root in
-    let next = content c.next_generation.new.squares c.in_ok-square.square in
-    (x y : ℤ) → AnswersAt c.args.table.now (tree_cell t) x y (Becomes (tree_cell next x y))
-next-states c =
-    let table = c.args.table.now in
-    let t = content c.args.store.now c.args.pattern.root in
-    let next = content c.next_generation.new.squares c.in_ok-square.square in
-    let cells = subst (λ (T : Table). (x y : ℤ) → TableAnswers T (states_at (tree_cell t) x y) (Becomes (tree_cell next x y))) c.in_ok-by_table.ensures.table
-    c.in_ok-square.ensures.next in
-    λ x y. (c.table_answers_at.ensures table (tree_cell t) x y _).0 (cells x y)
-
 pub returns-clause-needed : goal.returns-clause-needed
 returns-clause-needed c full =
     let square = c.in_ok-square.ensures in
+    let states = answered-by_table c.table_answers_at.ensures c.in_ok-by_table.by_table c.args.table.now _ _ c.in_ok-by_table.ensures.table square.next in
     root-by_table (IsNew c.text_of_square.new.store) c.args.table.now (c.is_rule_of.ensures.0 c.if-not-is_rule_of.false)
     (known_squares_are_full c.next_generation.new.squares _ square.known.0).0 square.level
-    (next-states (goal.at.returns-clause-needed c).After-text_of_square) (c.text_of_square.ensures.needed full)
+    states (c.text_of_square.ensures.needed full)
 
 pub returns-in_err-square-clause-adds : goal.returns-in_err-square-clause-adds
 returns-in_err-square-clause-adds c =
@@ -130,7 +119,8 @@ returns-clause-adds c =
     let root = content c.args.store.now c.args.pattern.root in
     let square = c.in_ok-square.ensures in
     let is = c.is_rule_of.ensures.0 c.if-not-is_rule_of.false in
+    let states = answered-by_table c.table_answers_at.ensures c.in_ok-by_table.by_table c.args.table.now _ _ c.in_ok-by_table.ensures.table square.next in
     adds-then _ square.adds c.text_of_square.ensures.adds
     (λ P some. (is, subst (λ (T : Table). SomeOfTable P T root) c.in_ok-by_table.ensures.table (of_next some)))
     (λ P. root-by_table P c.args.table.now is (known_squares_are_full c.next_generation.new.squares _ square.known.0).0 square.level
-    (next-states (goal.at.returns-clause-adds c).After-text_of_square))
+    states)
