@@ -3,10 +3,10 @@ use Rattle.life_cli.proofs.plans.requests.plan.Goals as goal
 
 pub returns-in-Ok-Work-clause-refused : goal.returns-in-Ok-Work-clause-refused
 returns-in-Ok-Work-clause-refused g c =
-    no_plan_of_form _ _ c.in-Ok-Work.plan c.as_they_lie.result c.in-Ok-Work.ensures.faultless c.in-Ok-Work.ensures.ok c.in-Ok-Work.ensures.once
-    c.as_they_lie.ensures.err
+    let is = rw c.in-Ok-Work.field-0-is at c.in-Ok-Work.ensures.ok in
+    no_plan_of_form _ _ c.in-Ok-Work.plan c.as_they_lie.result c.in-Ok-Work.ensures.faultless is c.in-Ok-Work.ensures.once c.as_they_lie.ensures.err
 
 pub returns-in-Ok-Keys-clause-refused : goal.returns-in-Ok-Keys-clause-refused
 returns-in-Ok-Keys-clause-refused g c =
-    no_plan_of_keys _ _ c.in-Ok-Keys.field-0-0 c.no_job.result c.in-Ok-Keys.ensures.faultless c.in-Ok-Keys.ensures.ok c.in-Ok-Keys.ensures.once
-    c.no_job.ensures
+    let is = rw c.in-Ok-Keys.field-0-is at c.in-Ok-Keys.ensures.ok in
+    no_plan_of_keys _ _ c.in-Ok-Keys.field-0-0 c.no_job.result c.in-Ok-Keys.ensures.faultless is c.in-Ok-Keys.ensures.once c.no_job.ensures
