@@ -51,3 +51,4 @@ mod RoomCount
 mod Adding
 pub mod Spots
 mod Rows
+pub mod WholeSquares

@@ -15,7 +15,6 @@ use Rattle.life_mc.specs.declared.line.Line.TheVariants.{Leaf}
 use Rattle.life_canon.specs.Universe.{square}
 use Rattle.life_canon.specs.Listing.{same_tree, is_in, is_small, with_new, with_all, place, number_of, rows_of, quad_line, line_of}
 use Rattle.life_canon.specs.Listing.{walk as tree_walk}
-use Rattle.life_canon.proofs.Trees.{joined}
 use Rattle.claims.specs.Canonical.{Square, point, quarters, square_at, square_level, is_blank_square, same_square, walk, first_visits, child_number, state_rows, leaf_row, square_line}
 use Rattle.claims.proofs.Bits.{all_over, all_over_at, bit}
 use Rattle.claims.proofs.RuleLaw.{rule_in}
@@ -29,6 +28,9 @@ pub data HasLevel (most : ℕ) : ℕ → Square → Type 0 where
   point_level : {state : ℕ} → state ≤ most → HasLevel most zero (point state)
   quarters_level : {level : ℕ} {nw ne sw se : Square} → HasLevel most level nw → HasLevel most level ne → HasLevel most level sw → HasLevel most level se
       → HasLevel most (suc level) (quarters nw ne sw se)
+
+joined : {a b c d e f g h : Tree} → a ≡ e → b ≡ f → c ≡ g → d ≡ h → quad a b c d ≡ quad e f g h
+joined p q r s = cc
 
 pub square_is : (f : ℤ → ℤ → ℕ) (level : ℕ) (x y : ℤ) → tree (square_at f level x y) ≡ square f level x y
 unfolding square

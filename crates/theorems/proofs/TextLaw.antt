@@ -1,8 +1,8 @@
 -- The canonical text of a pattern is that of the layers.
-use Rattle.std.proofs.Common.{◌≡◌, ℕ, zero, suc, ◌+◌, ◌-◌, ◌^◌, ◌<◌, ◌≤◌, List, [], ◌++◌, map, true, ◌&&◌, refl, ap, ◌∙◌, sym, subst, arith, ◌⊎◌, inl, inr}
+use Rattle.std.proofs.Common.{◌≡◌, ℕ, zero, suc, ◌+◌, ◌-◌, ◌^◌, ◌<◌, ◌≤◌, List, [], ◌++◌, map, Bool, true, ◌&&◌, refl, ap, ◌∙◌, sym, subst, arith, ◌⊎◌, inl, inr}
 use Rattle.std.specs.Prelude.{ℤ, pos, neg_ℤ, ◌+ℤ◌, ◌≤ℤ◌, ◌<ℤ◌, int_le, int_lt, codes, flat_map}
 use Rattle.std.proofs.lemmas.Int.{ints}
-use Rattle.std.proofs.lemmas.Bool.{and_from, true≢false}
+use Rattle.std.proofs.lemmas.Bool.{and_from, cases_Bool, true≢false}
 use Rattle.life_base.specs.Tree.{Tree, depth}
 use Rattle.life_base.specs.declared.rule.Rule.{Rule as LayerRule}
 use Rattle.life_base.specs.declared.rule.Rule.TheVariants.{Life, Named}
@@ -15,10 +15,7 @@ use Rattle.life_canon.specs.Laws.{FilesAreOnPlane}
 use Rattle.life_canon.specs.Texts.{IsCanonical, IsRleOf}
 use Rattle.life_canon.specs.Listing.{walk as tree_walk}
 use Rattle.life_canon.specs.Listing.{canonical_file, canon_text, line_of, listed, square_file, with_all}
-use Rattle.life_canon.proofs.TreeWords.{trimmed_to}
-use Rattle.life_canon.proofs.Trees.{bool_cases, centred-depth, centred-trimmed, depth_is, trimmed-centred, and_left, and_right}
-use Rattle.life_canon.proofs.Canonical.{IsWhole, whole-is, whole-trimmed, least-high}
-use Rattle.life_canon.proofs.Content.{least-one}
+use Rattle.life_canon.proofs.WholeSquares.{IsLeastSquare, least_square}
 use Rattle.claims.specs.Pattern.{Pattern}
 use Rattle.claims.specs.Canonical.{Square, square_at, middle_square, is_in_middle, HoldsAllCells, least_level, walk, first_visits, square_line, square_text, IsTextOfPattern}
 use Rattle.claims.proofs.RuleLaw.{rule_in}
@@ -94,55 +91,46 @@ from_within k x w =
     ap (λ n. int_le (neg_ℤ (pos (2 ^ n))) x && int_lt x (pos (2 ^ n))) (less_one k)
     ∙ both_of x (2 ^ k) w.0 (side_back x (2 ^ k) (2 ^ suc k) (twice k) w.1)
 
+and_left : (a b : Bool) → (a && b) ≡ true → a ≡ true
+and_left a b h = grind arith
+
+and_right : (a b : Bool) → (a && b) ≡ true → b ≡ true
+and_right a b h = grind arith
+
 holds_all : (f : ℤ → ℤ → ℕ) (k : ℕ) → IsBlankOutside (suc k) f → HoldsAllCells f (suc k)
 holds_all f k outside x y e =
     outside x y (λ w. true≢false (sym (and_from (is_in_middle (suc k) x) (is_in_middle (suc k) y) (from_within k x w.0) (from_within k y w.1)) ∙ e))
 
 outside_all : (f : ℤ → ℤ → ℕ) (k : ℕ) → HoldsAllCells f (suc k) → IsBlankOutside (suc k) f
-outside_all f k holds x y never = elim (bool_cases (is_in_middle (suc k) x && is_in_middle (suc k) y)) [
+outside_all f k holds x y never = elim (cases_Bool (is_in_middle (suc k) x && is_in_middle (suc k) y)) [
   | inl e ↦ absurd (never (to_within k x (and_left (is_in_middle (suc k) x) _ e), to_within k y (and_right (is_in_middle (suc k) x) _ e)))
   | inr e ↦ holds x y e
 ]
 
--- the whole square of a pattern is no wider than any square that holds all cells
-module _ (u : Universe) (on : IsOnPlane 62 u) where
-  abbrev w : IsWhole 62 u (whole 62 u)
-  w = whole-is 61 u (least-high u.rule 62 (omega arith)) on
+-- no square with a line has level 0
+no_zero : (rule : LayerRule) → layer_least rule ≤ zero → ⊥
+no_zero (Life sets) h = omega (arith, h)
+no_zero (Named name) h = omega (arith, h)
 
-  no_wider : (lower : ℕ) → layer_least u.rule ≤ lower → HoldsAllCells u.cell lower → suc w.level ≤ lower
-  no_wider zero h holds = let one = least-one u.rule in absurd (omega (arith, h, one))
-  no_wider (suc j) h holds = elim (within 62 (suc j)) [ inl low ↦ narrow low | inr high ↦ let most = w.most in omega (arith, most, high) ]
-    where
-      within : (a b : ℕ) → (b ≤ a) ⊎ (a < b)
-      within a b = grind arith
-
-      narrow : suc j ≤ 62 → suc w.level ≤ suc j
-      narrow low =
-          let outside = outside_all u.cell j holds in
-          let one = least-one u.rule in
-          let t = trimmed-centred u.cell (layer_least u.rule) j one h outside in
-          let n : (61 - j) + j ≡ 61 = omega (arith, low) in
-          let same : centred u.cell (suc w.level) ≡ centred u.cell (suc t.level) =
-          sym w.is ∙ whole-trimmed 62 u ∙ sym (ap (λ k. trimmed_to (centred u.cell (suc k)) (layer_least u.rule)) n)
-          ∙ centred-trimmed u.cell (layer_least u.rule) (61 - j) j one h outside ∙ t.is in
-          let levels : suc w.level ≡ suc t.level =
-          sym (depth_is (centred-depth u.cell (suc w.level))) ∙ ap depth same ∙ depth_is (centred-depth u.cell (suc t.level)) in
-          let most = t.most in
-          omega (arith, levels, most)
-
-  -- the canonical text is that of the pattern
-  pub own_text : IsTextOfPattern (record { rule = rule_in u.rule; generation = u.generation; cell = u.cell }) (canon_text 62 u)
-  unfolding canon_text canonical_file
-  own_text =
-      let s = middle_square u.cell (suc w.level) in
-      record {
-        level = suc w.level;
-        high = subst (λ n. n ≤ suc w.level) (sym (least_is u.rule)) w.least;
-        holds = holds_all u.cell w.level w.outside;
-        least = λ lower h holds. no_wider lower (subst (λ n. n ≤ lower) (least_is u.rule) h) holds;
-        is = ap (λ (t : Tree). mc_text (square_file u.rule u.generation t)) (w.is ∙ sym (middle_is u.cell w.level))
-            ∙ sym (text_is u.rule u.generation s (level_at u.cell (largest_state u.rule) on.states (suc w.level) _ _));
-      }
+-- the canonical text is that of the pattern
+pub own_text : (u : Universe) → IsOnPlane 62 u
+    → IsTextOfPattern (record { rule = rule_in u.rule; generation = u.generation; cell = u.cell }) (canon_text 62 u)
+unfolding canon_text canonical_file
+own_text u on =
+    let w = least_square u on in
+    let s = middle_square u.cell (suc w.level) in
+    record {
+      level = suc w.level;
+      high = subst (λ n. n ≤ suc w.level) (sym (least_is u.rule)) w.high;
+      holds = holds_all u.cell w.level w.outside;
+      least = λ lower h holds. no_lower w lower (subst (λ n. n ≤ lower) (least_is u.rule) h) holds;
+      is = ap (λ (t : Tree). mc_text (square_file u.rule u.generation t)) (w.is ∙ sym (middle_is u.cell w.level))
+          ∙ sym (text_is u.rule u.generation s (level_at u.cell (largest_state u.rule) on.states (suc w.level) _ _));
+    }
+  where
+    no_lower : (w : IsLeastSquare u) (lower : ℕ) → layer_least u.rule ≤ lower → HoldsAllCells u.cell lower → suc w.level ≤ lower
+    no_lower w zero h holds = absurd (no_zero u.rule h)
+    no_lower w (suc j) h holds = let l = w.least j h (outside_all u.cell j holds) in omega (arith, l)
 
 -- and of each pattern that agrees with it
 pub text_of_pattern : (u : Universe) (pattern : Pattern) (text : List ℕ) → IsOnPlane 62 u → pattern.rule ≡ rule_in u.rule
