@@ -113,12 +113,14 @@ enum {
     GOLLY_CANON_TURNED = 2  /* of the pattern's eight turns and reflections, each moved, the one whose canonical text is least, byte by byte */
 };
 
-/* `limit`, of each call: how many different squares the store of the call may hold, those on the way to the answer too. A call that comes to
- * more is refused as Full; one on files of which no line has a cell that isn't 0 never is. A limit of `14 * length + 264` suffices to read a file; for
- * two files it is the sum of both, and for a stream `length` is that of all that is fed. That is proved: with so much, canon, to_rle, show, same, and
- * the calls with a form but for moved, are never Full. None is given for the next generation, nor for the form moved: the squares of the one, and of
- * the pattern moved, come on top of those of reading. A limit above 2^62 counts as 2^62; but beyond some 2^32 squares the answer is Memory, whatever
- * the limit. As measured, a square takes 32 to 39 bytes of the store, or less where it has at most 4 x 4 cells of the states 0 and 1.
+/* `limit`, of each call: how many different squares the store of the call may hold, those on the way to the answer too. Squares in which each cell
+ * is 0 don't count. It is proved that a call is refused as Full only where it needs more different squares than the limit; and that it gives a text, a
+ * key or a comparison only where no more than the limit are needed to read the files. So a call on files of which no line has a cell that isn't 0 is
+ * never Full. A limit of `14 * length + 264` suffices to read a file; for two files it is the sum of both, and for a stream `length` is that of all
+ * that is fed. That is proved too: with so much, canon, to_rle, show, same, and the calls with a form but for moved, are never Full. None is given for
+ * the next generation, nor for the form moved: the squares of the one, and of the pattern moved, come on top of those of reading. A limit above 2^62
+ * counts as 2^62; but beyond some 2^32 squares the answer is Memory, whatever the limit. As measured, a square takes 32 to 39 bytes of the store, or
+ * less where it has at most 4 x 4 cells of the states 0 and 1.
  *
  * `seed`, of each call: a number by which the call finds its squares, and the names of its table. What a call answers never depends on it. Where
  * strangers write the files, hand in a random number (as by getentropy, arc4random_buf or Python's secrets.randbits(64)) that they can't know, one for

@@ -1,7 +1,7 @@
 -- The words of the contracts of this crate.
 pub use Rattle.golly_canon_c.specs.Naming.{status_name}
-pub use Rattle.library_calls.specs.Texts.{IsCanonicalText, IsRleText, RefusesRleWithin, RefusesWithin}
-pub use Rattle.library_calls.specs.Comparing.{compared, ComparesWithin}
+pub use Rattle.library_calls.specs.Texts.{Fits, IsCanonicalText, IsRleText, RefusesRleWithin, RefusesWithin, SomeToRead, TellsText}
+pub use Rattle.library_calls.specs.Comparing.{compared, ComparesWithin, SomeToReadBoth}
 pub use Rattle.library_calls.specs.ComparingInForm.{ComparesInForm, ComparesInNone}
 pub use Rattle.library_calls.specs.Outputs.{text_in}
 pub use Rattle.library_calls.specs.InForm.{form_numbered, IsKeyInForm, IsTextInForm, AnswersInForm}

@@ -1,7 +1,7 @@
 //! The calls on whole files: their texts, their next generations, their forms, and what two of them are.
 
-ghost use Rattle.std.specs.Prelude.{MatchOption};
-ghost use Rattle.golly_canon_c.specs.Words.{IsCanonicalText, IsRleText, RefusesWithin, RefusesRleWithin, Answers, told, IsShown, RefusesStepWithin, StepsByTable, IsStepped, compared, ComparesInForm, ComparesInNone, form_numbered, IsKeyInForm, IsTextInForm, AnswersInForm, ComparesWithin};
+ghost use Rattle.std.specs.Prelude.{◌≡◌, MatchOption};
+ghost use Rattle.golly_canon_c.specs.Words.{IsCanonicalText, IsRleText, RefusesWithin, RefusesRleWithin, Answers, Fits, SomeToRead, SomeToReadBoth, TellsText, told, IsShown, RefusesStepWithin, StepsByTable, IsStepped, compared, ComparesInForm, ComparesInNone, form_numbered, IsKeyInForm, IsTextInForm, AnswersInForm, ComparesWithin};
 
 use crate::told::{tell, tell_compared};
 use library_calls::{
@@ -21,8 +21,9 @@ pub extern "C" fn golly_canon_canon(
     needed: &mut usize,
     line: &mut u64,
 ) -> u32
-    ensures { Answers (IsCanonicalText bytes.now) (RefusesWithin limit bytes.now) out.old out.new
-        (told result needed.new line.new) }
+    ensures answers { Answers (IsCanonicalText bytes.now) (RefusesWithin limit bytes.now) out.old
+        out.new (told result needed.new line.new) }
+    ensures fits { TellsText (told result needed.new line.new) → Fits (SomeToRead bytes.now) limit }
 {
     let answer = canon(alloc, bytes, Options { limit, seed }, out);
     tell(answer, needed, line)
@@ -39,8 +40,9 @@ pub extern "C" fn golly_canon_to_rle(
     needed: &mut usize,
     line: &mut u64,
 ) -> u32
-    ensures { Answers (IsRleText bytes.now) (RefusesRleWithin limit bytes.now) out.old out.new
-        (told result needed.new line.new) }
+    ensures answers { Answers (IsRleText bytes.now) (RefusesRleWithin limit bytes.now) out.old
+        out.new (told result needed.new line.new) }
+    ensures fits { TellsText (told result needed.new line.new) → Fits (SomeToRead bytes.now) limit }
 {
     let answer = to_rle(alloc, bytes, Options { limit, seed }, out);
     tell(answer, needed, line)
@@ -57,8 +59,9 @@ pub extern "C" fn golly_canon_show(
     needed: &mut usize,
     line: &mut u64,
 ) -> u32
-    ensures { Answers (IsShown MAX_LEVEL bytes.now) (RefusesWithin limit bytes.now) out.old
+    ensures answers { Answers (IsShown MAX_LEVEL bytes.now) (RefusesWithin limit bytes.now) out.old
         out.new (told result needed.new line.new) }
+    ensures fits { TellsText (told result needed.new line.new) → Fits (SomeToRead bytes.now) limit }
 {
     let answer = show(alloc, bytes, Options { limit, seed }, out);
     tell(answer, needed, line)
@@ -75,8 +78,9 @@ pub extern "C" fn golly_canon_step(
     needed: &mut usize,
     line: &mut u64,
 ) -> u32
-    ensures { Answers (IsStepped bytes.now) (RefusesStepWithin limit bytes.now) out.old out.new
-        (told result needed.new line.new) }
+    ensures answers { Answers (IsStepped bytes.now) (RefusesStepWithin limit bytes.now) out.old
+        out.new (told result needed.new line.new) }
+    ensures fits { TellsText (told result needed.new line.new) → Fits (SomeToRead bytes.now) limit }
 {
     let answer = step(alloc, bytes, Options { limit, seed }, out);
     tell(answer, needed, line)
@@ -96,8 +100,9 @@ pub extern "C" fn golly_canon_step_by_table(
     line: &mut u64,
     in_table: &mut u32,
 ) -> u32
-    ensures { StepsByTable limit bytes.now table.now in_table.new out.old out.new
+    ensures steps { StepsByTable limit bytes.now table.now in_table.new out.old out.new
         (told result needed.new line.new) }
+    ensures fits { TellsText (told result needed.new line.new) → Fits (SomeToRead bytes.now) limit }
 {
     let (answer, of_table) = step_by_table(alloc, bytes, table, Options { limit, seed }, out);
     *in_table = of_table;
@@ -116,8 +121,9 @@ pub extern "C" fn golly_canon_canon_form(
     needed: &mut usize,
     line: &mut u64,
 ) -> u32
-    ensures { AnswersInForm IsTextInForm form limit bytes.now out.old out.new
+    ensures answers { AnswersInForm IsTextInForm form limit bytes.now out.old out.new
         (told result needed.new line.new) }
+    ensures fits { TellsText (told result needed.new line.new) → Fits (SomeToRead bytes.now) limit }
 {
     let answer = canon_form(alloc, bytes, form, Options { limit, seed }, out);
     tell(answer, needed, line)
@@ -135,8 +141,9 @@ pub extern "C" fn golly_canon_key(
     needed: &mut usize,
     line: &mut u64,
 ) -> u32
-    ensures { AnswersInForm IsKeyInForm form limit bytes.now out.old out.new
+    ensures answers { AnswersInForm IsKeyInForm form limit bytes.now out.old out.new
         (told result needed.new line.new) }
+    ensures fits { TellsText (told result needed.new line.new) → Fits (SomeToRead bytes.now) limit }
 {
     let answer = key(alloc, bytes, form, Options { limit, seed }, out);
     tell(answer, needed, line)
@@ -154,10 +161,11 @@ pub extern "C" fn golly_canon_same_form(
     is_same: &mut u32,
     line: &mut u64,
 ) -> u32
-    ensures { MatchOption (form_numbered form)
+    ensures compares { MatchOption (form_numbered form)
         (ComparesInNone (compared result is_same.new line.new))
         (λ form. ComparesInForm form limit first.now second.now
         (compared result is_same.new line.new)) }
+    ensures fits { result ≡ 0 → Fits (SomeToReadBoth first.now second.now) limit }
 {
     let answer = same_form(alloc, first, second, form, Options { limit, seed });
     tell_compared(answer, is_same, line)
@@ -174,7 +182,9 @@ pub extern "C" fn golly_canon_same(
     is_same: &mut u32,
     line: &mut u64,
 ) -> u32
-    ensures { ComparesWithin limit first.now second.now (compared result is_same.new line.new) }
+    ensures compares { ComparesWithin limit first.now second.now
+        (compared result is_same.new line.new) }
+    ensures fits { result ≡ 0 → Fits (SomeToReadBoth first.now second.now) limit }
 {
     let answer = same(alloc, first, second, Options { limit, seed });
     tell_compared(answer, is_same, line)

@@ -1,27 +1,21 @@
 -- From what a call of the library answers to what its export tells.
 use Rattle.std.proofs.Common.{◌≡◌, ℕ, ◌+◌, ◌<◌, ◌⊎◌, inl, inr, List, [], length, Option, Some, MatchOption, refl, sym, ap, ◌∙◌, subst, arith, Result, Ok, Err, IfOk, IfErr}
-use Rattle.std.specs.Prelude.{◌↔◌, Bool, true, false, IsTrue, if◌then◌else◌}
+use Rattle.std.specs.Prelude.{OnOk, OnErr, ◌↔◌, Bool, true, false, IsTrue, if◌then◌else◌}
+use Rattle.life_base.specs.Kinds.{kind_number}
 use Rattle.life_base.specs.Refusal.{fault_of}
-use Rattle.life_base.specs.declared.cell.TheConstants.{MAX_LEVEL}
 use Rattle.life_base.specs.declared.fault.Fault.{Fault}
 use Rattle.life_base.specs.declared.kind.Kind.TheVariants.{Full, Memory}
 use Rattle.life_base.specs.Tree.{Tree}
 use Rattle.life_quad.specs.Store.{Nodes, held}
-use Rattle.life_canon.specs.Files.{Reads, Refuses}
-use Rattle.life_canon.specs.Needs.{LacksFor}
-use Rattle.life_canon.specs.Room.{room_for}
 use Rattle.life_canon.specs.Store.{IsWant}
-use Rattle.life_canon.specs.Universe.{Universe}
-use Rattle.life_step.specs.Refusals.{LacksForStepBy, TableRefusal}
-use Rattle.life_table.specs.declared.table.Table.{Table}
-use Rattle.library_calls.specs.Told.{Told, Gives, Tells, Answers, by_text, by_fault}
-use Rattle.library_calls.specs.Texts.{room_of, IsTooSmallFor}
-use Rattle.library_calls.specs.Comparing.{Compared, ComparesWithin}
-use Rattle.library_calls.specs.Comparing as compared
+use Rattle.library_calls.specs.Told.{Told, Gives, Tells, Answers, by_text, by_fault, told}
+use Rattle.library_calls.specs.Texts.{TellsText, Wants, room_of}
+use Rattle.library_calls.specs.Comparing.{Compared, ComparesWithin, compared}
+use Rattle.library_calls.specs.Comparing as placed
 use Rattle.library_calls.specs.ComparingInForm.{ComparesInForm}
 use Rattle.library_calls.specs.ComparingInForm as in_form
-use Rattle.library_calls.specs.Stepping.{RefusesStepByWithin}
 use Rattle.library_calls.specs.declared.pattern_form.PatternForm.TheVariants.{Placed}
+use Rattle.library_calls.proofs.Numbered.{no_text}
 
 -- a text or a fault, told
 pub answered : {X : Type 0} (items : X → List ℕ) (IsText : List ℕ → Type 0) (IsFault : Fault → Type 0) (before after : List ℕ) (it : Told)
@@ -58,10 +52,34 @@ tight room old new empty same low = let none : length (held old) ≡ 0 = ap (λ 
 pub tight-alone : (room : ℕ) (old new : Nodes) → new.limit ≡ old.limit → old.limit < 0 + room → new.limit < room
 tight-alone room old new same low = omega (arith, same, low)
 
--- and too small for the file of which it lacks a square
-pub too-small-for : (bytes : List ℕ) (old new : Nodes) → held old ≡ [] → new.limit ≡ old.limit → LacksFor MAX_LEVEL bytes new
-    → old.limit < length (held old) + room_for (length bytes) → IsTooSmallFor bytes new
-too-small-for bytes old new empty same lacks low = (lacks, tight (room_for (length bytes)) old new empty same low)
+-- memory is wanted, or the store is full and its limit too low
+pub wanted : (IsTooLow : ℕ → Type 0) (limit : ℕ) (store : Nodes) (fault : Fault) → store.limit ≡ room_of limit → IsWant store fault
+    → (fault ≡ fault_of Full → length (held store) ≡ store.limit → IsTooLow store.limit) → Wants IsTooLow limit fault
+wanted IsTooLow limit store fault is (inl memory) low = inl memory
+wanted IsTooLow limit store fault is (inr (full, at)) low = inr (full, subst IsTooLow is (low full at))
+
+-- what holds where a call succeeds, holds where a text is told
+pub where-told : {X Holds : Type 0} (it : Told) (r : Result X Fault) → OnOk r Holds → OnErr r (¬ TellsText it) → TellsText it → Holds
+where-told it (Ok x) holds none text = holds
+where-told it (Err fault) holds none text = absurd (none text)
+
+-- no text is told with the number of a fault
+pub no-text : {P : Type 0} (it : Told) (fault : Fault) → it.status ≡ kind_number fault.kind → TellsText it → P
+no-text it fault is text = no_text it.status fault.kind is text
+
+-- what holds of any answer that is an error
+pub where-err : {X Holds : Type 0} (r : Result X Fault) → Holds → OnErr r Holds
+where-err (Ok x) holds = tt
+where-err (Err fault) holds = holds
+
+-- nor where no form has the number
+pub no-form : {P : Type 0} (it : Told) → it ≡ told 65 0 0 → TellsText it → P
+no-form it is (inl zero) = let e : 65 ≡ 0 = sym (ap (λ (t : Told). t.status) is) ∙ zero in absurd (omega (arith, e))
+no-form it is (inr long) = let e : 65 ≡ 64 = sym (ap (λ (t : Told). t.status) is) ∙ long in absurd (omega (arith, e))
+
+-- nor is an answer
+pub not-compared : {P : Type 0} (it : Compared) (fault : Fault) → it ≡ compared (kind_number fault.kind) 0 fault.place.line → it.status ≡ 0 → P
+not-compared it fault is zero = no_text it.status fault.kind (ap (λ (c : Compared). c.status) is) (inl zero)
 
 -- 1 is told where the answer is yes, and 0 where it is no
 abbrev number : Bool → ℕ
@@ -71,26 +89,10 @@ pub is-answer : {P : Type 0} (answer : Bool) → IsTrue answer ↔ P → ((numbe
 is-answer true agree = inl (refl, agree.0 refl)
 is-answer false agree = inr (refl, λ p. let e : false ≡ true = agree.1 p in absurd cc)
 
--- why a step by a table is refused, by the limit of the store
-of_step_by : (table : Table) (limit : ℕ) (bytes : List ℕ) (store : Nodes) (fault : Fault) → store.limit ≡ room_of limit
-    → Refuses MAX_LEVEL bytes fault ⊎ (IsWant store fault ⊎ ((u : Universe) × Reads MAX_LEVEL bytes u × TableRefusal MAX_LEVEL table u (Some fault)))
-    → (fault ≡ fault_of Full → LacksForStepBy table bytes store) → RefusesStepByWithin table limit bytes fault
-of_step_by table limit bytes store fault is (inl refuses) lacks = inl refuses
-of_step_by table limit bytes store fault is (inr (inl want)) lacks = inr (inl (store, is, want, lacks))
-of_step_by table limit bytes store fault is (inr (inr step)) lacks = inr (inr step)
-
-pub refused_step_by : {X : Type 0} (table : Table) (limit : ℕ) (bytes : List ℕ) (store : Nodes) (r : Result X Fault) → store.limit ≡ room_of limit
-    → IfErr r (λ fault. Refuses MAX_LEVEL bytes fault
-    ⊎ (IsWant store fault ⊎ ((u : Universe) × Reads MAX_LEVEL bytes u × TableRefusal MAX_LEVEL table u (Some fault))))
-    → (r ≡ Err (fault_of Full) → LacksForStepBy table bytes store) → IfErr r (RefusesStepByWithin table limit bytes)
-refused_step_by table limit bytes store (Ok x) is h lacks = tt
-refused_step_by table limit bytes store (Err fault) is h lacks =
-    of_step_by table limit bytes store fault is h (λ full. lacks (ap (λ (f : Fault). Err f) full))
-
 -- two files that are compared where they lie
 pub placed-compares : (limit : ℕ) (first second : List ℕ) (it : Compared) → ComparesInForm Placed limit first second it → ComparesWithin limit first second it
-placed-compares limit first second it (in_form.by_answer status line one other few answer) = compared.by_answer status line one other answer
-placed-compares limit first second it (in_form.by_fault fault status line is_same why) = compared.by_fault fault status line is_same why
+placed-compares limit first second it (in_form.by_answer status line one other few answer) = placed.by_answer status line one other answer
+placed-compares limit first second it (in_form.by_fault fault status line is_same why) = placed.by_fault fault status line is_same why
 
 -- a form that has the number, and none that has
 pub at-form : {X : Type 0} (form : Option X) (A : Type 0) (B : X → Type 0) (x : X) → form ≡ Some x → B x → MatchOption form A B

@@ -1,37 +1,41 @@
 -- Patterns that were read into a store, and their forms.
-use Rattle.std.proofs.Common.{◌≡◌, ◌≢◌, ◌⊎◌, inl, inr, ℕ, ◌+◌, ◌^◌, ◌<◌, ◌≤◌, false, List, [], length, AllPairs, Result, Ok, Err, OnOk, sym, ap, ◌∙◌, subst, arith}
+use Rattle.std.proofs.Common.{◌≡◌, ◌⊎◌, inl, inr, ℕ, ◌+◌, ◌^◌, ◌<◌, ◌≤◌, List, [], length, Result, Ok, Err, OnOk, sym, ap, ◌∙◌, subst, arith}
 use Rattle.std.specs.Prelude.{◌↔◌, IsTrue, Bool, Contains}
 use Rattle.life_base.specs.Refusal.{fault_of}
 use Rattle.life_base.specs.Text.{lines_of}
-use Rattle.life_base.specs.Tree.{Tree, tree_cell, is_blank_tree}
+use Rattle.life_base.specs.Tree.{Tree, tree_cell}
 use Rattle.life_base.specs.declared.cell.Cell.{Cell}
 use Rattle.life_base.specs.declared.cell.TheConstants.{MAX_LEVEL}
 use Rattle.life_base.specs.declared.fault.Fault.{Fault}
 use Rattle.life_base.specs.declared.kind.Kind.TheVariants.{Full, Memory, TooManyCells}
 use Rattle.life_quad.proofs.LawLemmas.{known_squares_are_full, cells_are_listed, list_is_population}
 use Rattle.life_quad.specs.Cells.{IsCellList, population}
+use Rattle.life_quad.specs.Keeping.{AddsOnly}
 use Rattle.life_quad.specs.Store.{Nodes, held}
 use Rattle.life_canon.specs.Files.{Accepted, Reads, Refuses}
 use Rattle.life_canon.specs.Laws.{FilesAreUnique, PatternsFit, RefusalsHaveKinds}
 use Rattle.life_canon.specs.Listing.{canon_text}
-use Rattle.life_canon.specs.Needs.{LacksFor}
-use Rattle.life_canon.specs.Room.{AddsFile, FewSquares, HoldsOnly, IsOfFile, RoomSuffices, room_for}
+use Rattle.life_canon.specs.Needs.{IsNew, LacksFor}
+use Rattle.life_canon.specs.Room.{AddsFile, FewSquares, HoldsFile, HoldsOnly, RoomSuffices, room_for}
 use Rattle.life_canon.specs.Store.{IsRead, IsTrimmed, IsWant, RefusesIn, content, universe_in}
 use Rattle.life_canon.specs.Texts.{AreCellsOf, HasMoreCells}
 use Rattle.life_canon.specs.Universe.{Universe, IsSame}
 use Rattle.life_canon.specs.declared.pattern.Pattern.{Pattern}
+use Rattle.life_canon.proofs.RoomCount.{Found, found-as, find-file}
 use Rattle.life_forms.specs.Forms.{IsMoved}
 use Rattle.life_forms.specs.Images.{IsTurnedText}
-use Rattle.life_forms.specs.Needed.{HasFewCells, LacksForMoved}
+use Rattle.life_forms.specs.Needed.{AddsEitherMoved, AddsMoved, HasFewCells, LacksForMoved, SomeOfMovedForm}
 use Rattle.life_forms.proofs.PatternFacts.{root-high}
 use Rattle.life_forms.proofs.PlaneFacts.{are-cells}
-use Rattle.library_calls.specs.Texts.{room_of}
-use Rattle.library_calls.specs.Comparing.{IsTightForBoth, IsTooSmallForBoth}
-use Rattle.library_calls.specs.ComparingInForm.{AreOfOneGeneration, EitherHasMany, HasTooMany, SayRelated, RefusesEitherInForm, LacksForEitherMoved}
-use Rattle.library_calls.specs.InForm.{IsTextMoved, IsTextTurned, RefusesInForm}
+use Rattle.library_calls.specs.Texts.{NeedsMore, SomeToRead, room_of}
+use Rattle.library_calls.specs.Comparing.{IsTooLowForBoth, SomeToReadBoth}
+use Rattle.library_calls.specs.ComparingInForm.{AreOfOneGeneration, EitherHasMany, HasTooMany, IsTooLowToMoveBoth, SayRelated, SomeToMoveBoth, RefusesEitherInForm}
+use Rattle.library_calls.specs.InForm.{IsTextMoved, IsTextTurned, RefusesInForm, SomeToMove}
 use Rattle.library_calls.specs.declared.pattern_form.PatternForm.{PatternForm}
 use Rattle.library_calls.specs.declared.pattern_form.PatternForm.TheVariants.{Placed, Moved, Turned}
-use Rattle.library_calls.proofs.Answering.{not-full, tight}
+use Rattle.library_calls.proofs.Answering.{not-full, tight, wanted}
+use Rattle.library_calls.proofs.Finding.{find-form}
+use Rattle.library_calls.proofs.NeedFacts.{HoldsNeeded, HoldsOnce, enough, from-empty, from-needed, more-than-held, needs-more, only-needed, too-low}
 
 -- patterns that are the same are one
 one : (u v : Universe) → IsSame u v → u ≡ v
@@ -112,20 +116,24 @@ turned-text fit bytes store pattern text read few turned = record {
 
 -- a pattern that isn't moved
 pub unmoved : PatternsFit MAX_LEVEL → (limit : ℕ) (bytes : List ℕ) (old new : Nodes) (pattern : Pattern) (fault : Fault) → new.limit ≡ room_of limit
-    → IsRead MAX_LEVEL bytes old pattern
+    → IsRead MAX_LEVEL bytes old pattern → HoldsOnly [] bytes old → HoldsOnce new → AddsMoved (universe_in old pattern) old new
     → ((fault ≡ fault_of TooManyCells) × (2 ^ 20 < population (content old pattern.root))) ⊎ IsWant new fault
     → (fault ≡ fault_of Full → LacksForMoved (universe_in old pattern) new) → RefusesInForm Moved limit bytes fault
-unmoved fit limit bytes old new pattern fault room read (inl many) lacks = inr (many.0, more-cells fit bytes old pattern read many.1)
-unmoved fit limit bytes old new pattern fault room read (inr want) lacks =
-    inl (inr (new, room, want, λ full. inr (universe_in old pattern, reads-it fit bytes old pattern read, lacks full)))
+unmoved fit limit bytes old new pattern fault room read only once adds (inl many) lacks = inr (many.0, more-cells fit bytes old pattern read many.1)
+unmoved fit limit bytes old new pattern fault room read only once adds (inr want) lacks =
+    let u = universe_in old pattern in
+    let reads = reads-it fit bytes old pattern read in
+    let needed = from-needed (SomeToRead bytes) (λ P. SomeOfMovedForm P u) (SomeToMove bytes) old new (λ P s. inl s) (λ P s. inr (u, reads, s))
+    (only-needed bytes old only) adds in
+    inl (inr (wanted (NeedsMore (SomeToMove bytes)) limit new fault room want (λ full at. more-than-held (SomeToMove bytes) new once needed
+    (found-as (λ Q k. inr (u, reads, k)) (find-form (IsNew new) u (lacks full))) at)))
 
 -- one that isn't turned
-pub unturned : PatternsFit MAX_LEVEL → (limit : ℕ) (bytes : List ℕ) (store : Nodes) (pattern : Pattern) (fault : Fault) → store.limit ≡ room_of limit
-    → IsRead MAX_LEVEL bytes store pattern
+pub unturned : PatternsFit MAX_LEVEL → (limit : ℕ) (bytes : List ℕ) (store : Nodes) (pattern : Pattern) (fault : Fault) → IsRead MAX_LEVEL bytes store pattern
     → (fault ≡ fault_of Memory) ⊎ ((fault ≡ fault_of TooManyCells) × (2 ^ 20 < population (content store pattern.root)))
     → RefusesInForm Turned limit bytes fault
-unturned fit limit bytes store pattern fault room read (inl memory) = inl (inr (store, room, inl memory, not-full fault memory))
-unturned fit limit bytes store pattern fault room read (inr many) = inr (many.0, more-cells fit bytes store pattern read many.1)
+unturned fit limit bytes store pattern fault read (inl memory) = inl (inr (inl memory))
+unturned fit limit bytes store pattern fault read (inr many) = inr (many.0, more-cells fit bytes store pattern read many.1)
 
 -- ---- two files
 
@@ -139,13 +147,6 @@ files-told unique IsRelated first second u v answer one_reads other_reads told =
       (subst (λ (w : Universe). IsRelated are.first w) (unique _ are.second v are.reads_second other_reads) are.related)),
 )
 
--- the first of two files didn't fit a store that was empty
-pub tight-first : (first second : List ℕ) (old new : Nodes) → held old ≡ [] → new.limit ≡ old.limit
-    → old.limit < length (held old) + room_for (length first) → IsTightForBoth first second new
-tight-first first second old new empty same low =
-    let alone = tight (room_for (length first)) old new empty same low in
-    omega (arith, alone)
-
 -- a store that is full has as many squares as its limit
 full-has : RefusalsHaveKinds MAX_LEVEL → (bytes : List ℕ) (store : Nodes) (fault : Fault) → RefusesIn MAX_LEVEL bytes store fault → fault ≡ fault_of Full
     → length (held store) ≡ store.limit
@@ -156,40 +157,82 @@ full-has kinds bytes store fault (inl refuses) full =
 full-has kinds bytes store fault (inr (inl memory)) full = not-full fault memory full
 full-has kinds bytes store fault (inr (inr stored)) full = stored.1
 
--- the second didn't fit behind the first
-pub tight-second : RefusalsHaveKinds MAX_LEVEL → FewSquares → RoomSuffices → (first second : List ℕ) (old mid new : Nodes) (fault : Fault) → held old ≡ []
-    → AllPairs ◌≢◌ (held new) → ((t : Tree) → Contains (held new) t → is_blank_tree t ≡ false) → AddsFile first old mid → AddsFile second mid new
-    → LacksFor MAX_LEVEL second new → RefusesIn MAX_LEVEL second new fault → fault ≡ fault_of Full → IsTightForBoth first second new
-tight-second kinds few suffices first second old mid new fault empty distinct live one other lacks why full =
+-- the first of two files needs more than a store that was empty may hold
+pub first-low : RefusalsHaveKinds MAX_LEVEL → (first second : List ℕ) (old new : Nodes) (fault : Fault) → held old ≡ [] → HoldsOnce new
+    → AddsFile first old new → new.limit ≡ old.limit → LacksFor MAX_LEVEL first new → old.limit < length (held old) + room_for (length first)
+    → RefusesIn MAX_LEVEL first new fault → fault ≡ fault_of Full → IsTooLowForBoth first second new.limit
+first-low kinds first second old new fault empty once adds same lacks low why full =
+    let alone = tight (room_for (length first)) old new empty same low in
+    let at = full-has kinds first new fault why full in (
+      inl (too-low first new once (from-empty (SomeToRead first) old new empty adds) lacks alone at).0,
+      omega
+          (arith, alone),
+    )
+
+-- what the first needs is needed to read both
+pub first-read : (first second : List ℕ) (old new : Nodes) → AddsFile first old new → AddsOnly held (SomeToReadBoth first second) old new
+first-read first second old new adds =
+    record { each = λ t there. elim (adds.each t there) [ inl before ↦ inl before | inr own ↦ inr (inl own) ] }
+
+-- what the two need that were read into a store that was empty, one after the other
+pub read-both : (first second : List ℕ) (old mid new : Nodes) → AddsFile first old mid → AddsFile second mid new
+    → AddsOnly held (SomeToReadBoth first second) old new
+read-both first second old mid new one other =
+    record { each = λ t there. elim (other.each t there) [
+      | inl before ↦ elim (one.each t before) [ inl there ↦ inl there | inr own ↦ inr (inl own) ]
+      | inr own ↦ inr (inr own)
+    ] }
+
+-- so may the second, with the first
+pub second-low : RefusalsHaveKinds MAX_LEVEL → FewSquares → RoomSuffices → (first second : List ℕ) (old mid new : Nodes) (fault : Fault) → held old ≡ []
+    → HoldsOnce new → Accepted MAX_LEVEL first → AddsFile first old mid → AddsFile second mid new
+    → LacksFor MAX_LEVEL second new → RefusesIn MAX_LEVEL second new fault → fault ≡ fault_of Full → IsTooLowForBoth first second new.limit
+second-low kinds few suffices first second old mid new fault empty once accepted one other lacks why full =
     let base = few first in
-    let only : HoldsOnly base.0 second new = λ t there. elim (other.each t there) [
-      | inl before ↦ inl (base.2 t (live t there) (of-first t (one.each t before)))
+    let needed = from-empty (SomeToReadBoth first second) old new empty (read-both first second old mid new one other) in
+    let only : HoldsOnly base.0 second new = λ t there. elim (needed t there) [
+      | inl own ↦ inl (base.2 t (once.live t there) own)
       | inr own ↦ inr own
     ] in
-    let less = suffices second base.0 new distinct live only lacks in
+    let less = suffices second base.0 new once.distinct once.live only lacks in
     let most = base.1 in
-    let has = full-has kinds second new fault why full in
-    omega (arith, less, most, has)
-  where
-    of-first : (t : Tree) → Contains (held old) t ⊎ IsOfFile first t → IsOfFile first t
-    of-first t (inl there) = let none : Contains {X = Tree} [] t = subst (λ (squares : List Tree). Contains squares t) empty there in
-        absurd (omega (arith, none.1))
-    of-first t (inr it) = it
+    let at = full-has kinds second new fault why full in
+    let lack = found-as (λ Q k. inr k) (find-file (IsNew new) (lines_of second) lacks) in
+    (inr (accepted, more-than-held (SomeToReadBoth first second) new once needed lack at), omega (arith, less, most, at))
+
+-- the two are read into a store that holds all that they need
+pub both-fit : (first second : List ℕ) (mid new : Nodes) (pattern : Pattern) → IsRead MAX_LEVEL second new pattern → HoldsFile first (held mid)
+    → ((t : Tree) → Contains (held mid) t → Contains (held new) t) → HoldsFile second (held new) → ¬ NeedsMore (SomeToReadBoth first second) new.limit
+both-fit first second mid new pattern read one stay other =
+    enough (SomeToReadBoth first second) new read.is.known.1
+    (λ t live needed. elim needed [ inl s ↦ stay t (one t live s) | inr s ↦ other t live s ])
+
+-- what is needed to read the two is needed to move them
+read-to-move : (first second : List ℕ) (P : Tree → Type 0) → SomeToReadBoth first second P → SomeToMoveBoth first second P
+read-to-move first second P (inl s) = inl (inl s)
+read-to-move first second P (inr s) = inr (inl s)
+
+to-move-both : (first second : List ℕ) (most : ℕ) → IsTooLowForBoth first second most → IsTooLowToMoveBoth first second most
+to-move-both first second most (inl more, low) = inl more
+to-move-both first second most (inr (accepted, more), low) =
+    inr (accepted, needs-more (SomeToReadBoth first second) (SomeToMoveBoth first second) most (read-to-move first second) more)
 
 -- one of two files isn't read, or room or memory is wanted for it
 pub either-unread : (form : PatternForm) (limit : ℕ) (first second : List ℕ) (store : Nodes) (fault : Fault) → store.limit ≡ room_of limit
     → Refuses MAX_LEVEL first fault ⊎ (Accepted MAX_LEVEL first × Refuses MAX_LEVEL second fault) ⊎ IsWant store fault
-    → (fault ≡ fault_of Full → IsTooSmallForBoth first second store) → RefusesEitherInForm form limit first second fault
-either-unread Placed limit first second store fault room (inl refuses) lacks = inl refuses
-either-unread Placed limit first second store fault room (inr (inl refuses)) lacks = inr (inl refuses)
-either-unread Placed limit first second store fault room (inr (inr want)) lacks = inr (inr (store, room, want, lacks))
-either-unread Moved limit first second store fault room (inl refuses) lacks = inl refuses
-either-unread Moved limit first second store fault room (inr (inl refuses)) lacks = inr (inl refuses)
-either-unread Moved limit first second store fault room (inr (inr want)) lacks =
-    inr (inr (inl (store, room, want, λ full. inl (lacks full))))
-either-unread Turned limit first second store fault room (inl refuses) lacks = inl (inl refuses)
-either-unread Turned limit first second store fault room (inr (inl refuses)) lacks = inl (inr (inl refuses))
-either-unread Turned limit first second store fault room (inr (inr want)) lacks = inl (inr (inr (store, room, want, lacks)))
+    → (fault ≡ fault_of Full → IsTooLowForBoth first second store.limit) → RefusesEitherInForm form limit first second fault
+either-unread Placed limit first second store fault room (inl refuses) low = inl refuses
+either-unread Placed limit first second store fault room (inr (inl refuses)) low = inr (inl refuses)
+either-unread Placed limit first second store fault room (inr (inr want)) low =
+    inr (inr (wanted (IsTooLowForBoth first second) limit store fault room want (λ full at. low full)))
+either-unread Moved limit first second store fault room (inl refuses) low = inl refuses
+either-unread Moved limit first second store fault room (inr (inl refuses)) low = inr (inl refuses)
+either-unread Moved limit first second store fault room (inr (inr want)) low =
+    inr (inr (inl (wanted (IsTooLowToMoveBoth first second) limit store fault room want (λ full at. to-move-both first second store.limit (low full)))))
+either-unread Turned limit first second store fault room (inl refuses) low = inl (inl refuses)
+either-unread Turned limit first second store fault room (inr (inl refuses)) low = inl (inr (inl refuses))
+either-unread Turned limit first second store fault room (inr (inr want)) low =
+    inl (inr (inr (wanted (IsTooLowForBoth first second) limit store fault room want (λ full at. low full))))
 
 -- one of two patterns has too many cells
 either-many : PatternsFit MAX_LEVEL → (first second : List ℕ) (store : Nodes) (a b : Pattern) → IsRead MAX_LEVEL first store a → IsRead MAX_LEVEL second store b
@@ -238,23 +281,30 @@ few-turned unique fit first second store a b read other (Ok answer) few =
     λ many. neither-many unique fit first second store a b read other (few (one-generation unique fit first second store a b read other many.0)) many.1
 few-turned unique fit first second store a b read other (Err fault) few = tt
 
--- what two patterns lack to be moved, their files lack
-moved-lacks : PatternsFit MAX_LEVEL → (first second : List ℕ) (old new : Nodes) (a b : Pattern) → IsRead MAX_LEVEL first old a → IsRead MAX_LEVEL second old b
-    → LacksForMoved (universe_in old a) new ⊎ LacksForMoved (universe_in old b) new → LacksForEitherMoved first second new
-moved-lacks fit first second old new a b read other (inl lack) = inr (inl (universe_in old a, reads-it fit first old a read, lack))
-moved-lacks fit first second old new a b read other (inr lack) =
-    inr (inr (accepted-it first old a read, (universe_in old b, reads-it fit second old b other, lack)))
-
 -- two patterns that aren't moved
 pub either-unmoved : PatternsFit MAX_LEVEL → (limit : ℕ) (first second : List ℕ) (old new : Nodes) (a b : Pattern) (fault : Fault)
-    → new.limit ≡ room_of limit → IsRead MAX_LEVEL first old a → IsRead MAX_LEVEL second old b
+    → new.limit ≡ room_of limit → IsRead MAX_LEVEL first old a → IsRead MAX_LEVEL second old b → HoldsNeeded (SomeToReadBoth first second) old
+    → HoldsOnce new → AddsEitherMoved (universe_in old a) (universe_in old b) old new
     → ((fault ≡ fault_of TooManyCells) × ((2 ^ 20 < population (content old a.root)) ⊎ (2 ^ 20 < population (content old b.root)))) ⊎ IsWant new fault
     → (fault ≡ fault_of Full → LacksForMoved (universe_in old a) new ⊎ LacksForMoved (universe_in old b) new)
     → RefusesEitherInForm Moved limit first second fault
-either-unmoved fit limit first second old new a b fault room read other (inl many) lacks =
+either-unmoved fit limit first second old new a b fault room read other before once adds (inl many) lacks =
     inr (inr (inr (many.0, (accepted-it first old a read, accepted-it second old b other, either-many fit first second old a b read other many.1))))
-either-unmoved fit limit first second old new a b fault room read other (inr want) lacks =
-    inr (inr (inl (new, room, want, λ full. moved-lacks fit first second old new a b read other (lacks full))))
+either-unmoved fit limit first second old new a b fault room read other before once adds (inr want) lacks =
+    let u = universe_in old a in
+    let v = universe_in old b in
+    let to-first : (P : Tree → Type 0) → SomeOfMovedForm P u → SomeToMoveBoth first second P = λ P s. inl (inr (u, reads-it fit first old a read, s)) in
+    let to-second : (P : Tree → Type 0) → SomeOfMovedForm P v → SomeToMoveBoth first second P = λ P s. inr (inr (v, reads-it fit second old b other, s)) in
+    let needed = from-needed (SomeToReadBoth first second) (λ P. SomeOfMovedForm P u ⊎ SomeOfMovedForm P v) (SomeToMoveBoth first second) old new
+    (read-to-move first second) (λ P s. elim s [ inl it ↦ to-first P it | inr it ↦ to-second P it ]) before adds in
+    let lack : fault ≡ fault_of Full → Found (IsNew new) (SomeToMoveBoth first second) = λ full. elim (lacks full) [
+      | inl s ↦ found-as to-first (find-form (IsNew new) u s)
+      | inr s ↦ found-as to-second (find-form (IsNew new) v s)
+    ] in
+    inr (inr (inl (wanted (IsTooLowToMoveBoth first second) limit new fault room want (λ full at. inr (
+      accepted-it first old a read,
+      more-than-held (SomeToMoveBoth first second) new once needed (lack full) at,
+    )))))
 
 -- two that aren't turned
 pub either-unturned : PatternsFit MAX_LEVEL → (limit : ℕ) (first second : List ℕ) (store : Nodes) (a b : Pattern) (fault : Fault)

@@ -1,5 +1,8 @@
+pub mod Numbered
 pub mod Answering
 pub mod Pointer
+pub mod Finding
+pub mod NeedFacts
 pub mod TextFacts
 pub mod StreamFacts
 pub mod FormFacts

@@ -1,27 +1,28 @@
 -- What the reader and the store of a stream make of the bytes that came.
-use Rattle.std.proofs.Common.{◌≡◌, ℕ, ◌++◌, ◌∙◌, ap, refl, sym, subst, List, ◌⊎◌, inl, inr, Option, Some}
+use Rattle.std.proofs.Common.{◌≡◌, ℕ, ◌++◌, ◌∙◌, ap, refl, sym, subst, List, length, ◌⊎◌, inl, inr, Option, Some}
 use Rattle.std.specs.Global.{Vec}
 use Rattle.life_base.specs.Refusal.{fault_of}
 use Rattle.life_base.specs.declared.cell.TheConstants.{MAX_LEVEL}
 use Rattle.life_base.specs.declared.fault.Fault.{Fault}
 use Rattle.life_base.specs.declared.kind.Kind.TheVariants.{Full}
-use Rattle.life_quad.specs.Store.{Nodes}
+use Rattle.life_quad.specs.Store.{Nodes, held}
 use Rattle.life_canon.specs.Feeding.{RefusesFront}
 use Rattle.life_canon.specs.Store.{IsWant}
-use Rattle.library_calls.specs.Texts.{room_of}
-use Rattle.library_calls.specs.Outputs.{Piecewise, IsTextOf, IsTooSmallForFront, RefusesTextOf, RefusesPiece}
+use Rattle.library_calls.specs.Texts.{Fits, SomeToRead, room_of}
+use Rattle.library_calls.specs.Outputs.{Piecewise, IsTextOf, IsTooLowForFront, RefusesTextOf, RefusesPiece}
 use Rattle.library_calls.specs.Streams.{IsFed, HasText, HasFault, by_piece, by_text, StaysEnded, Feeds, Finishes}
 use Rattle.library_calls.specs.Streams as streams
 use Rattle.library_calls.specs.declared.texts.Output.{Output}
 use Rattle.library_calls.specs.declared.session.Session.{Session}
 use Rattle.library_calls.specs.declared.session.Session.TheVariants.{Reading, Written, Refused}
+use Rattle.library_calls.proofs.Answering.{wanted}
 
 -- why a piece is refused
 pub piece-fault : (limit : ℕ) (bytes : List ℕ) (store : Nodes) (fault : Fault) → store.limit ≡ room_of limit
-    → IsWant store fault ⊎ RefusesFront MAX_LEVEL bytes fault → (fault ≡ fault_of Full → IsTooSmallForFront bytes store)
-    → RefusesPiece limit bytes fault
-piece-fault limit bytes store fault is (inl want) lacks = inr (store, is, want, lacks)
-piece-fault limit bytes store fault is (inr front) lacks = inl front
+    → IsWant store fault ⊎ RefusesFront MAX_LEVEL bytes fault
+    → (fault ≡ fault_of Full → length (held store) ≡ store.limit → IsTooLowForFront bytes store.limit) → RefusesPiece limit bytes fault
+piece-fault limit bytes store fault is (inl want) low = inr (wanted (IsTooLowForFront bytes) limit store fault is want low)
+piece-fault limit bytes store fault is (inr front) low = inl front
 
 -- ---- sessions
 
@@ -55,10 +56,11 @@ feeds-fault piece session feeding fault is why = record {
 
 -- the text of the end
 pub ends-text : (session : Session) (feeding : Piecewise) (text : Vec ℕ) → session ≡ Reading feeding → IsTextOf feeding.output feeding.bytes text.items
-    → Finishes (Some session) (Some (Written text))
-ends-text session feeding text is good = record {
+    → ((limit : ℕ) → feeding.room ≡ room_of limit → Fits (SomeToRead feeding.bytes) limit) → Finishes (Some session) (Some (Written text))
+ends-text session feeding text is good fits = record {
   ends = λ output limit bytes fed. let f = subst (IsFed output limit bytes) is fed in
-      by_text text.items refl (subst (λ b. IsTextOf output b text.items) f.2 (subst (λ k. IsTextOf k feeding.bytes text.items) f.0 good));
+      by_text text.items refl (subst (λ b. IsTextOf output b text.items) f.2 (subst (λ k. IsTextOf k feeding.bytes text.items) f.0 good))
+      (subst (λ b. Fits (SomeToRead b) limit) f.2 (fits limit f.1));
   stays = none-yet session feeding _ is;
 }
 

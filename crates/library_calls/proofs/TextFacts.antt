@@ -1,30 +1,40 @@
 -- The text of a pattern that was read into a store, for each output.
-use Rattle.std.proofs.Common.{◌≡◌, ℕ, ◌<◌, ◌≤◌, ◌^◌, ◌∙◌, subst, sym, List, ◌⊎◌, inl, inr, Some, Result, IfOk, IfErr}
+use Rattle.std.proofs.Common.{◌≡◌, ℕ, ◌<◌, ◌≤◌, ◌^◌, ◌∙◌, subst, sym, List, [], length, ◌⊎◌, inl, inr, Some, Result, IfOk, IfErr}
 use Rattle.life_base.specs.Refusal.{fault_of}
 use Rattle.life_base.specs.Rules.{IsRule}
+use Rattle.life_base.specs.Tree.{Tree}
 use Rattle.life_base.specs.declared.cell.TheConstants.{MAX_LEVEL}
 use Rattle.life_base.specs.declared.fault.Fault.{Fault}
 use Rattle.life_base.specs.declared.kind.Kind.TheVariants.{Full, Memory, TooManyCells}
+use Rattle.life_base.specs.declared.rule.Rule.{Rule}
 use Rattle.life_mc.specs.Macrocell.{largest_state}
 use Rattle.life_mc.specs.Reading.{IsMacrocell}
-use Rattle.life_quad.specs.Store.{Nodes}
+use Rattle.life_quad.specs.Keeping.{AddsOnly}
+use Rattle.life_quad.specs.Store.{Nodes, held}
 use Rattle.life_canon.specs.Files.{Reads}
 use Rattle.life_canon.specs.Laws.{PatternsFit, FilesAreOnPlane, TextsTellUniverses, TextsAreFiles, CanonicalIsLeast}
 use Rattle.life_canon.specs.Listing.{canonical_file, canon_text}
+use Rattle.life_canon.specs.Needs.{IsNew}
+use Rattle.life_canon.specs.Room.{HoldsOnly}
 use Rattle.life_canon.specs.Store.{IsRead, IsWant, RefusesIn, content, universe_in}
 use Rattle.life_canon.specs.Texts.{HasMoreCells}
-use Rattle.life_canon.specs.Universe.{Universe, IsSame, IsOnPlane}
+use Rattle.life_canon.specs.Universe.{Universe, IsSame, IsOnPlane, whole}
 use Rattle.life_canon.specs.declared.pattern.Pattern.{Pattern}
-use Rattle.life_step.specs.Refusals.{LacksForLife, LacksForNext, LifeRefusal}
-use Rattle.library_calls.specs.Texts.{IsCanonicalText, IsTooSmallFor, room_of}
+use Rattle.life_canon.proofs.RoomCount.{Found, found-as}
+use Rattle.life_table.specs.declared.table.Table.{Table}
+use Rattle.life_step.specs.Refusals.{LacksForLife, LacksForTable, LifeRefusal, SomeByRule, SomeByTable, SomeOfStep, SomeOfStepBy, TableRefusal}
+use Rattle.library_calls.specs.Texts.{IsCanonicalText, IsTooLowFor, NeedsMore, SomeToRead, room_of}
 use Rattle.library_calls.specs.Outputs.{IsTextOf, IsTextOfRead, RefusesTextOf, RefusesTextOfRead, text_in}
-use Rattle.library_calls.specs.InForm.{IsTextInForm, RefusesInForm}
+use Rattle.library_calls.specs.InForm.{IsTextInForm, RefusesInForm, SomeToMove}
+use Rattle.library_calls.specs.Stepping.{RefusesStepByWithin}
 use Rattle.library_calls.specs.Told.{Told, Answers}
 use Rattle.library_calls.specs.declared.texts.Output.{Output}
 use Rattle.library_calls.specs.declared.texts.Output.TheVariants.{Canonical, Rle, Lines, Next, Moved, Turned}
 use Rattle.library_calls.specs.declared.pattern_form.PatternForm.{PatternForm}
 use Rattle.library_calls.specs.declared.pattern_form.PatternForm.TheVariants as forms
-use Rattle.library_calls.proofs.Answering.{not-full}
+use Rattle.library_calls.proofs.Answering.{not-full, wanted}
+use Rattle.life_step.proofs.Finding.{find-by_rule, find-by_table}
+use Rattle.library_calls.proofs.NeedFacts.{HoldsOnce, from-needed, more-than-held, needs-more, only-needed}
 
 -- a pattern that is the same as one on the plane is on it too
 moved : (u v : Universe) → IsSame u v → IsOnPlane MAX_LEVEL u → IsOnPlane MAX_LEVEL v
@@ -60,23 +70,28 @@ canonical fit plane tell files least bytes store pattern text is read =
 
 -- why a file is refused at its end, or room or memory wanted
 pub text-fault : (output : Output) (limit : ℕ) (bytes : List ℕ) (store : Nodes) (fault : Fault) → store.limit ≡ room_of limit
-    → RefusesIn MAX_LEVEL bytes store fault → (fault ≡ fault_of Full → IsTooSmallFor bytes store) → RefusesTextOf output limit bytes fault
-text-fault Canonical limit bytes store fault is (inl refuses) lacks = inl refuses
-text-fault Canonical limit bytes store fault is (inr want) lacks = inr (store, is, want, lacks)
-text-fault Rle limit bytes store fault is (inl refuses) lacks = inl (inl refuses)
-text-fault Rle limit bytes store fault is (inr want) lacks = inl (inr (store, is, want, lacks))
-text-fault Lines limit bytes store fault is (inl refuses) lacks = inl refuses
-text-fault Lines limit bytes store fault is (inr want) lacks = inr (store, is, want, lacks)
-text-fault Next limit bytes store fault is (inl refuses) lacks = inl refuses
-text-fault Next limit bytes store fault is (inr want) lacks = inr (inl (store, is, want, λ full. inl (lacks full).0))
-text-fault Moved limit bytes store fault is (inl refuses) lacks = inl (inl refuses)
-text-fault Moved limit bytes store fault is (inr want) lacks = inl (inr (store, is, want, λ full. inl (lacks full)))
-text-fault Turned limit bytes store fault is (inl refuses) lacks = inl (inl refuses)
-text-fault Turned limit bytes store fault is (inr want) lacks = inl (inr (store, is, want, lacks))
+    → RefusesIn MAX_LEVEL bytes store fault → (fault ≡ fault_of Full → length (held store) ≡ store.limit → IsTooLowFor bytes store.limit)
+    → RefusesTextOf output limit bytes fault
+text-fault Canonical limit bytes store fault is (inl refuses) low = inl refuses
+text-fault Canonical limit bytes store fault is (inr want) low = inr (wanted (IsTooLowFor bytes) limit store fault is want low)
+text-fault Rle limit bytes store fault is (inl refuses) low = inl (inl refuses)
+text-fault Rle limit bytes store fault is (inr want) low = inl (inr (wanted (IsTooLowFor bytes) limit store fault is want low))
+text-fault Lines limit bytes store fault is (inl refuses) low = inl refuses
+text-fault Lines limit bytes store fault is (inr want) low = inr (wanted (IsTooLowFor bytes) limit store fault is want low)
+text-fault Next limit bytes store fault is (inl refuses) low = inl refuses
+text-fault Next limit bytes store fault is (inr want) low =
+    inr (inl (wanted (NeedsMore (λ P. SomeOfStep P bytes)) limit store fault is want (λ full at. needs-more (SomeToRead bytes) (λ P. SomeOfStep P bytes) _
+    (λ P s. inl s) (low full at).0)))
+text-fault Moved limit bytes store fault is (inl refuses) low = inl (inl refuses)
+text-fault Moved limit bytes store fault is (inr want) low =
+    inl (inr (wanted (NeedsMore (SomeToMove bytes)) limit store fault is want (λ full at. needs-more (SomeToRead bytes) (SomeToMove bytes) _ (λ P s. inl s)
+    (low full at).0)))
+text-fault Turned limit bytes store fault is (inl refuses) low = inl (inl refuses)
+text-fault Turned limit bytes store fault is (inr want) low = inl (inr (wanted (IsTooLowFor bytes) limit store fault is want low))
 
 -- memory is wanted for any output
 pub wants : (output : Output) (store : Nodes) (pattern : Pattern) (fault : Fault) → fault ≡ fault_of Memory → RefusesTextOfRead output store pattern fault
-wants output store pattern fault memory = λ limit bytes is read.
+wants output store pattern fault memory = λ limit bytes is read only.
     text-fault output limit bytes store fault is (inr (inl memory)) (not-full fault memory)
 
 -- the text of an output that is another one
@@ -111,28 +126,63 @@ answers-in-form forms.Moved limit bytes before after it answers = answers
 answers-in-form forms.Turned limit bytes before after it answers = answers
 
 -- the same of a text in extended RLE, which may have too many cells
-pub rle-fault : (limit : ℕ) (bytes : List ℕ) (store : Nodes) (pattern : Pattern) (fault : Fault) → store.limit ≡ room_of limit
-    → IsRead MAX_LEVEL bytes store pattern
+pub rle-fault : (limit : ℕ) (bytes : List ℕ) (store : Nodes) (pattern : Pattern) (fault : Fault) → IsRead MAX_LEVEL bytes store pattern
     → (fault ≡ fault_of Memory) ⊎ ((fault ≡ fault_of TooManyCells)
     × ((bytes : List ℕ) → IsRead MAX_LEVEL bytes store pattern → HasMoreCells MAX_LEVEL bytes (2 ^ 20)))
     → RefusesTextOf Rle limit bytes fault
-rle-fault limit bytes store pattern fault is read (inl memory) = inl (inr (store, is, inl memory, not-full fault memory))
-rle-fault limit bytes store pattern fault is read (inr many) = inr (many.0, many.1 bytes read)
+rle-fault limit bytes store pattern fault read (inl memory) = inl (inr (inl memory))
+rle-fault limit bytes store pattern fault read (inr many) = inr (many.0, many.1 bytes read)
 
--- what the step of a pattern lacks, the step of its bytes lacks
-next-lacks : (bytes : List ℕ) (old store : Nodes) (pattern : Pattern) → IsRead MAX_LEVEL bytes old pattern
-    → LacksForLife pattern.rule (content old pattern.root) store → LacksForNext bytes store
-next-lacks bytes old store pattern read lacks =
+-- ---- steps
+
+-- what the step of a pattern needs, the step of its file needs
+of-file : (Of : Rule → Tree → Type 0) (bytes : List ℕ) (store : Nodes) (pattern : Pattern) → IsRead MAX_LEVEL bytes store pattern
+    → Of pattern.rule (content store pattern.root) → (u : Universe) × Reads MAX_LEVEL bytes u × Of u.rule (whole MAX_LEVEL u)
+of-file Of bytes store pattern read some =
     let u = read.universe in
-    let of_rule = subst (λ r. LacksForLife r (content old pattern.root) store) read.is.rule lacks in
-    (u, read.reads, subst (λ t. LacksForLife u.rule t store) read.is.root of_rule)
+    let of_rule = subst (λ (r : Rule). Of r (content store pattern.root)) read.is.rule some in
+    (u, read.reads, subst (λ (t : Tree). Of u.rule t) read.is.root of_rule)
 
--- the same of a step, which may be refused
+-- The same of a step, which may be refused. `Of` says of a property that a square has it which the step needs of a root under a rule.
+step-low : (Of : (Tree → Type 0) → Rule → Tree → Type 0) (bytes : List ℕ) (old store : Nodes) (pattern : Pattern) → IsRead MAX_LEVEL bytes old pattern
+    → HoldsOnly [] bytes old → HoldsOnce store → AddsOnly held (λ P. Of P pattern.rule (content old pattern.root)) old store
+    → Found (IsNew store) (λ P. Of P pattern.rule (content old pattern.root)) → length (held store) ≡ store.limit
+    → NeedsMore (λ P. SomeToRead bytes P ⊎ ((u : Universe) × Reads MAX_LEVEL bytes u × Of P u.rule (whole MAX_LEVEL u))) store.limit
+step-low Of bytes old store pattern read only once adds lack at =
+    let Needs = λ (P : Tree → Type 0). SomeToRead bytes P ⊎ ((u : Universe) × Reads MAX_LEVEL bytes u × Of P u.rule (whole MAX_LEVEL u)) in
+    let Added = λ (P : Tree → Type 0). Of P pattern.rule (content old pattern.root) in
+    let of = λ (P : Tree → Type 0) (s : Added P). of-file (Of P) bytes old pattern read s in
+    more-than-held Needs store once
+    (from-needed (SomeToRead bytes) Added Needs old store (λ P s. inl s) (λ P s. inr (of P s)) (only-needed bytes old only) adds)
+    (found-as (λ Q k. inr (of Q k)) lack) at
+
 pub next-fault : (limit : ℕ) (bytes : List ℕ) (old store : Nodes) (pattern : Pattern) (fault : Fault) → store.limit ≡ room_of limit
-    → IsRead MAX_LEVEL bytes old pattern
+    → IsRead MAX_LEVEL bytes old pattern → HoldsOnly [] bytes old → HoldsOnce store
+    → AddsOnly held (λ P. SomeByRule P pattern.rule (content old pattern.root)) old store
     → IsWant store fault ⊎ ((bytes : List ℕ) → IsRead MAX_LEVEL bytes old pattern → (u : Universe) × Reads MAX_LEVEL bytes u
     × LifeRefusal MAX_LEVEL u (Some fault))
     → (fault ≡ fault_of Full → LacksForLife pattern.rule (content old pattern.root) store) → RefusesTextOf Next limit bytes fault
-next-fault limit bytes old store pattern fault is read (inl want) lacks =
-    inr (inl (store, is, want, λ full. inr (next-lacks bytes old store pattern read (lacks full))))
-next-fault limit bytes old store pattern fault is read (inr step) lacks = inr (inr (step bytes read))
+next-fault limit bytes old store pattern fault is read only once adds (inl want) lacks =
+    inr (inl (wanted (NeedsMore (λ P. SomeOfStep P bytes)) limit store fault is want (λ full at. step-low SomeByRule bytes old store pattern read only once adds
+    (find-by_rule (IsNew store) pattern.rule (content old pattern.root) (lacks full)) at)))
+next-fault limit bytes old store pattern fault is read only once adds (inr step) lacks = inr (inr (step bytes read))
+
+pub next-by-fault : (table : Table) (limit : ℕ) (bytes : List ℕ) (old store : Nodes) (pattern : Pattern) (fault : Fault) → store.limit ≡ room_of limit
+    → IsRead MAX_LEVEL bytes old pattern → HoldsOnly [] bytes old → HoldsOnce store
+    → AddsOnly held (λ P. SomeByTable P table pattern.rule (content old pattern.root)) old store
+    → IsWant store fault ⊎ ((bytes : List ℕ) → IsRead MAX_LEVEL bytes old pattern → (u : Universe) × Reads MAX_LEVEL bytes u
+    × TableRefusal MAX_LEVEL table u (Some fault))
+    → (fault ≡ fault_of Full → LacksForTable table pattern.rule (content old pattern.root) store) → RefusesStepByWithin table limit bytes fault
+next-by-fault table limit bytes old store pattern fault is read only once adds (inl want) lacks =
+    inr (inl (wanted (NeedsMore (λ P. SomeOfStepBy P table bytes)) limit store fault is want (λ full at. step-low (λ P. SomeByTable P table) bytes old store
+    pattern read only once adds (find-by_table (IsNew store) table pattern.rule (content old pattern.root) (lacks full)) at)))
+next-by-fault table limit bytes old store pattern fault is read only once adds (inr step) lacks = inr (inr (step bytes read))
+
+-- why a file isn't read that is to be stepped by a table
+pub unread-by : (table : Table) (limit : ℕ) (bytes : List ℕ) (store : Nodes) (fault : Fault) → store.limit ≡ room_of limit
+    → RefusesIn MAX_LEVEL bytes store fault → (fault ≡ fault_of Full → length (held store) ≡ store.limit → IsTooLowFor bytes store.limit)
+    → RefusesStepByWithin table limit bytes fault
+unread-by table limit bytes store fault is (inl refuses) low = inl refuses
+unread-by table limit bytes store fault is (inr want) low =
+    inr (inl (wanted (NeedsMore (λ P. SomeOfStepBy P table bytes)) limit store fault is want (λ full at. needs-more (SomeToRead bytes)
+    (λ P. SomeOfStepBy P table bytes) _ (λ P s. inl s) (low full at).0)))

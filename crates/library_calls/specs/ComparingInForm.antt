@@ -2,17 +2,17 @@
 use Rattle.std.specs.Prelude.{◌≡◌, ◌⊎◌, ◌^◌, ℕ, List}
 use Rattle.life_base.specs.Kinds.{kind_number}
 use Rattle.life_base.specs.Refusal.{fault_of}
+use Rattle.life_base.specs.Tree.{Tree}
 use Rattle.life_base.specs.declared.cell.TheConstants.{MAX_LEVEL}
 use Rattle.life_base.specs.declared.fault.Fault.{Fault}
 use Rattle.life_base.specs.declared.kind.Kind.TheVariants.{TooManyCells}
-use Rattle.life_quad.specs.Store.{Nodes}
 use Rattle.life_canon.specs.Files.{Accepted, Reads, Refuses, Same}
 use Rattle.life_canon.specs.Texts.{HasMoreCells}
 use Rattle.life_canon.specs.Universe.{Universe}
 use Rattle.life_forms.specs.Forms.{IsShift, IsTurnedShift}
-use Rattle.library_calls.specs.Texts.{Wants}
-use Rattle.library_calls.specs.Comparing.{Compared, IsTooSmallForBoth, RefusesEither}
-use Rattle.library_calls.specs.InForm.{LacksForMoving}
+use Rattle.library_calls.specs.Texts.{NeedsMore, SomeToRead, Wants}
+use Rattle.library_calls.specs.Comparing.{Compared, RefusesEither}
+use Rattle.library_calls.specs.InForm.{SomeToMove}
 use Rattle.library_calls.specs.declared.pattern_form.PatternForm.{PatternForm}
 use Rattle.library_calls.specs.declared.pattern_form.PatternForm.TheVariants.{Placed, Moved, Turned}
 
@@ -44,17 +44,21 @@ HasTooMany Placed first second = ⊥
 HasTooMany Moved first second = Accepted MAX_LEVEL first × Accepted MAX_LEVEL second × EitherHasMany first second
 HasTooMany Turned first second = SayRelated AreOfOneGeneration first second × EitherHasMany first second
 
--- the store is too small for the two files, or lacks a square for the pattern of the first, moved, or, where that is a file, of the second
-abbrev pub LacksForEitherMoved : List ℕ → List ℕ → Nodes → Type 0
-LacksForEitherMoved first second store =
-    IsTooSmallForBoth first second store ⊎ LacksForMoving first store ⊎ (Accepted MAX_LEVEL first × LacksForMoving second store)
+-- a square that is needed to read one of the two files, or to move its pattern, has a property
+abbrev pub SomeToMoveBoth : List ℕ → List ℕ → (Tree → Type 0) → Type 0
+SomeToMoveBoth first second P = SomeToMove first P ⊎ SomeToMove second P
+
+-- the limit is too low to read the first file, or, where that is a file, to read and move both
+abbrev pub IsTooLowToMoveBoth : List ℕ → List ℕ → ℕ → Type 0
+IsTooLowToMoveBoth first second most =
+    NeedsMore (SomeToRead first) most ⊎ (Accepted MAX_LEVEL first × NeedsMore (SomeToMoveBoth first second) most)
 
 -- why two files aren't compared in this form
 abbrev pub RefusesEitherInForm : PatternForm → ℕ → List ℕ → List ℕ → Fault → Type 0
 RefusesEitherInForm Placed limit first second fault = RefusesEither limit first second fault
 RefusesEitherInForm Moved limit first second fault =
     Refuses MAX_LEVEL first fault ⊎ (Accepted MAX_LEVEL first × Refuses MAX_LEVEL second fault)
-    ⊎ Wants (LacksForEitherMoved first second) limit fault ⊎ ((fault ≡ fault_of TooManyCells) × HasTooMany Moved first second)
+    ⊎ Wants (IsTooLowToMoveBoth first second) limit fault ⊎ ((fault ≡ fault_of TooManyCells) × HasTooMany Moved first second)
 RefusesEitherInForm Turned limit first second fault =
     RefusesEither limit first second fault ⊎ ((fault ≡ fault_of TooManyCells) × HasTooMany Turned first second)
 

@@ -2,19 +2,19 @@
 use Rattle.std.specs.Prelude.{◌≡◌, ◌⊎◌, ◌==◌, ◌^◌, ℕ, List, Option, Some, None, MatchOption, if◌then◌else◌}
 use Rattle.sha2.specs.Sha256.{sha256}
 use Rattle.life_base.specs.Refusal.{fault_of}
+use Rattle.life_base.specs.Tree.{Tree}
 use Rattle.life_base.specs.declared.cell.TheConstants.{MAX_LEVEL}
 use Rattle.life_base.specs.declared.fault.Fault.{Fault}
 use Rattle.life_base.specs.declared.kind.Kind.TheVariants.{TooManyCells}
-use Rattle.life_quad.specs.Store.{Nodes}
 use Rattle.life_canon.specs.Files.{Reads, Refuses}
 use Rattle.life_canon.specs.Listing.{canon_text}
 use Rattle.life_canon.specs.Texts.{HasMoreCells}
 use Rattle.life_canon.specs.Universe.{Universe}
 use Rattle.life_forms.specs.Forms.{IsMoved}
 use Rattle.life_forms.specs.Images.{IsTurnedText}
-use Rattle.life_forms.specs.Needed.{HasFewCells, LacksForMoved}
+use Rattle.life_forms.specs.Needed.{HasFewCells, SomeOfMovedForm}
 use Rattle.library_calls.specs.Told.{Told, Answers}
-use Rattle.library_calls.specs.Texts.{IsCanonicalText, IsTooSmallFor, RefusesWithin, RefusesRleWithin, Wants}
+use Rattle.library_calls.specs.Texts.{IsCanonicalText, NeedsMore, RefusesWithin, RefusesRleWithin, SomeToRead, Wants}
 use Rattle.library_calls.specs.declared.pattern_form.PatternForm.{PatternForm}
 use Rattle.library_calls.specs.declared.pattern_form.PatternForm.TheVariants.{Placed, Moved, Turned}
 
@@ -48,19 +48,19 @@ IsTextInForm Turned = IsTextTurned
 abbrev pub IsKeyInForm : PatternForm → List ℕ → List ℕ → Type 0
 IsKeyInForm form bytes key = (text : List ℕ) × IsTextInForm form bytes text × (key ≡ sha256 text)
 
--- the bytes are a file, and the store lacks a square that its pattern needs where it is moved: those are bounded by no length of a file
-abbrev pub LacksForMoving : List ℕ → Nodes → Type 0
-LacksForMoving bytes store = (u : Universe) × Reads MAX_LEVEL bytes u × LacksForMoved u store
+-- a square that is needed to move the pattern of the file has a property: those are bounded by no length of a file
+abbrev pub SomeOfMoving : List ℕ → (Tree → Type 0) → Type 0
+SomeOfMoving bytes P = (u : Universe) × Reads MAX_LEVEL bytes u × SomeOfMovedForm P u
 
--- the store is too small for the file, or lacks a square for its pattern, moved
-abbrev pub LacksForMovedFile : List ℕ → Nodes → Type 0
-LacksForMovedFile bytes store = IsTooSmallFor bytes store ⊎ LacksForMoving bytes store
+-- so has one that is needed to read the file or to move its pattern
+abbrev pub SomeToMove : List ℕ → (Tree → Type 0) → Type 0
+SomeToMove bytes P = SomeToRead bytes P ⊎ SomeOfMoving bytes P
 
 -- why the bytes have no text in this form, within a limit of the store
 abbrev pub RefusesInForm : PatternForm → ℕ → List ℕ → Fault → Type 0
 RefusesInForm Placed limit bytes fault = RefusesWithin limit bytes fault
 RefusesInForm Moved limit bytes fault =
-    (Refuses MAX_LEVEL bytes fault ⊎ Wants (LacksForMovedFile bytes) limit fault)
+    (Refuses MAX_LEVEL bytes fault ⊎ Wants (NeedsMore (SomeToMove bytes)) limit fault)
     ⊎ ((fault ≡ fault_of TooManyCells) × HasMoreCells MAX_LEVEL bytes (2 ^ 20))
 RefusesInForm Turned limit bytes fault = RefusesRleWithin limit bytes fault
 

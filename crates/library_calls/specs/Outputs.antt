@@ -1,14 +1,17 @@
 -- The outputs of a file, which a call on it, or a stream at its end, gives as a text: which text it is, and why there is none.
-use Rattle.std.specs.Prelude.{◌≡◌, ◌⊎◌, ℕ, List}
+use Rattle.std.specs.Prelude.{◌≡◌, ◌⊎◌, ◌<◌, ℕ, List, [], length}
+use Rattle.life_base.specs.Lines.{whole_lines}
+use Rattle.life_base.specs.Tree.{Tree}
 use Rattle.life_base.specs.declared.cell.TheConstants.{MAX_LEVEL}
 use Rattle.life_base.specs.declared.fault.Fault.{Fault}
 use Rattle.life_canon.specs.Feeding.{RefusesFront}
-use Rattle.life_canon.specs.Needs.{LacksForFront}
+use Rattle.life_canon.specs.Needs.{SomeOfLines}
+use Rattle.life_canon.specs.Room.{HoldsOnly, room_for}
 use Rattle.life_canon.specs.Store.{IsRead}
 use Rattle.life_canon.specs.Texts.{IsShown}
 use Rattle.life_canon.specs.declared.pattern.Pattern.{Pattern}
 use Rattle.life_quad.specs.Store.{Nodes}
-use Rattle.library_calls.specs.Texts.{IsCanonicalText, IsRleText, IsTightFor, room_of, RefusesWithin, RefusesRleWithin, Wants}
+use Rattle.library_calls.specs.Texts.{IsCanonicalText, IsRleText, NeedsMore, room_of, RefusesWithin, RefusesRleWithin, Wants}
 use Rattle.life_step.specs.Stepped.{IsStepped}
 use Rattle.library_calls.specs.Stepping.{RefusesStepWithin}
 use Rattle.library_calls.specs.declared.texts.Output.{Output}
@@ -39,10 +42,11 @@ RefusesTextOf Turned = RefusesInForm forms.Turned
 abbrev pub IsTextOfRead : Output → Nodes → Pattern → List ℕ → Type 0
 IsTextOfRead output store pattern text = (bytes : List ℕ) → IsRead MAX_LEVEL bytes store pattern → IsTextOf output bytes text
 
--- why those files have none, within the limit of the store
+-- why those files have none whose squares alone the store holds, within its limit
 abbrev pub RefusesTextOfRead : Output → Nodes → Pattern → Fault → Type 0
 RefusesTextOfRead output store pattern fault =
-    (limit : ℕ) (bytes : List ℕ) → store.limit ≡ room_of limit → IsRead MAX_LEVEL bytes store pattern → RefusesTextOf output limit bytes fault
+    (limit : ℕ) (bytes : List ℕ) → store.limit ≡ room_of limit → IsRead MAX_LEVEL bytes store pattern → HoldsOnly [] bytes store
+    → RefusesTextOf output limit bytes fault
 
 -- the output with the text of a pattern in this form
 abbrev pub text_in : PatternForm → Output
@@ -50,13 +54,17 @@ text_in forms.Placed = Canonical
 text_in forms.Moved = Moved
 text_in forms.Turned = Turned
 
--- the store lacks a square that the lines of these bytes need that have ended, and its limit is below the room for the bytes
-abbrev pub IsTooSmallForFront : List ℕ → Nodes → Type 0
-IsTooSmallForFront bytes store = LacksForFront MAX_LEVEL bytes store × IsTightFor bytes store
+-- a square that the lines of these bytes need which have ended has a property
+abbrev pub SomeOfFront : List ℕ → (Tree → Type 0) → Type 0
+SomeOfFront bytes P = SomeOfLines MAX_LEVEL P (whole_lines bytes)
+
+-- the limit is too low for these lines, and below the room for the bytes
+abbrev pub IsTooLowForFront : List ℕ → ℕ → Type 0
+IsTooLowForFront bytes most = NeedsMore (SomeOfFront bytes) most × (most < room_for (length bytes))
 
 -- no file goes on from these bytes, or room or memory is wanted for their lines that have ended
 abbrev pub RefusesPiece : ℕ → List ℕ → Fault → Type 0
-RefusesPiece limit bytes fault = RefusesFront MAX_LEVEL bytes fault ⊎ Wants (IsTooSmallForFront bytes) limit fault
+RefusesPiece limit bytes fault = RefusesFront MAX_LEVEL bytes fault ⊎ Wants (IsTooLowForFront bytes) limit fault
 
 -- What contracts see of a file that comes in pieces: which text its end gives, how many squares its store may hold, and the bytes that came.
 pub record Piecewise : Type 0 where

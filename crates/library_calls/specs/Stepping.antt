@@ -9,23 +9,23 @@ use Rattle.life_canon.specs.Universe.{Universe}
 use Rattle.life_table.specs.Grammar.{IsFile}
 use Rattle.life_table.specs.Reading.{Refuses as RefusesTable}
 use Rattle.life_table.specs.declared.table.Table.{Table}
-use Rattle.life_step.specs.Refusals.{LacksForStep, LacksForStepBy, LifeRefusal, TableRefusal}
+use Rattle.life_step.specs.Refusals.{LifeRefusal, SomeOfStep, SomeOfStepBy, TableRefusal}
 use Rattle.life_step.specs.Stepped.{IsSteppedBy}
 use Rattle.library_calls.specs.Told.{Told, Tells, Answers}
-use Rattle.library_calls.specs.Texts.{Wants}
+use Rattle.library_calls.specs.Texts.{NeedsMore, Wants}
 
 -- Why bytes aren't stepped under their own rule: they are no file, or room or memory is wanted, or their pattern has no next generation. The squares
 -- of that generation are bounded by no length of a file, and so the limit isn't either.
 abbrev pub RefusesStepWithin : ℕ → List ℕ → Fault → Type 0
 RefusesStepWithin limit bytes fault =
     Refuses MAX_LEVEL bytes fault
-    ⊎ (Wants (LacksForStep bytes) limit fault ⊎ ((u : Universe) × Reads MAX_LEVEL bytes u × LifeRefusal MAX_LEVEL u (Some fault)))
+    ⊎ (Wants (NeedsMore (λ P. SomeOfStep P bytes)) limit fault ⊎ ((u : Universe) × Reads MAX_LEVEL bytes u × LifeRefusal MAX_LEVEL u (Some fault)))
 
 -- the same by a table
 abbrev pub RefusesStepByWithin : Table → ℕ → List ℕ → Fault → Type 0
 RefusesStepByWithin table limit bytes fault =
     Refuses MAX_LEVEL bytes fault
-    ⊎ (Wants (LacksForStepBy table bytes) limit fault ⊎ ((u : Universe) × Reads MAX_LEVEL bytes u × TableRefusal MAX_LEVEL table u (Some fault)))
+    ⊎ (Wants (NeedsMore (λ P. SomeOfStepBy P table bytes)) limit fault ⊎ ((u : Universe) × Reads MAX_LEVEL bytes u × TableRefusal MAX_LEVEL table u (Some fault)))
 
 -- The file of the table is one, and the step by it is told; or the fault of the table's file is told.
 pub data StepsByTable (limit : ℕ) (bytes table_bytes : List ℕ) (in_table : ℕ) (before after : List ℕ) (it : Told) : Type 0 where

@@ -6,7 +6,7 @@ use Rattle.life_base.specs.declared.fault.Fault.{Fault}
 use Rattle.life_base.specs.declared.kind.Kind.TheVariants.{Memory, Spent}
 use Rattle.life_canon.specs.Feeding.{RefusesFront}
 use Rattle.library_calls.specs.Told.{Told, Gives, Tells}
-use Rattle.library_calls.specs.Texts.{room_of}
+use Rattle.library_calls.specs.Texts.{Fits, room_of, SomeToRead}
 use Rattle.library_calls.specs.Outputs.{IsTextOf, RefusesTextOf, RefusesPiece}
 use Rattle.library_calls.specs.declared.texts.Output.{Output}
 use Rattle.library_calls.specs.declared.session.Session.{Session}
@@ -49,9 +49,9 @@ pub data Takes (output : Output) (limit : ℕ) (bytes : List ℕ) (session : Ses
   by_piece : IsFed output limit bytes session → ((fault : Fault) → ¬ RefusesFront MAX_LEVEL bytes fault) → Takes output limit bytes session
   by_fault : (fault : Fault) → HasFault fault session → RefusesPiece limit bytes fault → Takes output limit bytes session
 
--- what the end makes of it: the text of the bytes, or their fault
+-- what the end makes of it: the text of the bytes, which need no more squares than the limit; or their fault
 pub data Ends (output : Output) (limit : ℕ) (bytes : List ℕ) (session : Session) : Type 0 where
-  by_text : (text : List ℕ) → HasText text session → IsTextOf output bytes text → Ends output limit bytes session
+  by_text : (text : List ℕ) → HasText text session → IsTextOf output bytes text → Fits (SomeToRead bytes) limit → Ends output limit bytes session
   by_fault : (fault : Fault) → HasFault fault session → RefusesTextOf output limit bytes fault → Ends output limit bytes session
 
 -- a session that has a text or a fault keeps it

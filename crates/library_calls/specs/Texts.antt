@@ -1,16 +1,18 @@
 -- The texts that the calls on whole files give, and why they refuse.
-use Rattle.std.specs.Prelude.{◌≡◌, ◌⊎◌, ◌<◌, ◌^◌, ℕ, List, [], length, min}
-use Rattle.life_base.specs.Refusal.{fault_of}
+use Rattle.std.specs.Prelude.{◌≡◌, ◌≢◌, ◌⊎◌, ◌<◌, ◌^◌, ℕ, false, List, [], length, min, All, AllPairs}
+use Rattle.life_base.specs.Refusal.{OrMemory, fault_of}
+use Rattle.life_base.specs.Text.{lines_of}
+use Rattle.life_base.specs.Tree.{Tree, is_blank_tree}
 use Rattle.life_base.specs.declared.cell.TheConstants.{MAX_LEVEL}
 use Rattle.life_base.specs.declared.fault.Fault.{Fault}
 use Rattle.life_base.specs.declared.kind.Kind.TheVariants.{Full, TooManyCells}
 use Rattle.life_quad.specs.Store.{Nodes, held}
 use Rattle.life_canon.specs.Files.{Same, Refuses}
 use Rattle.life_canon.specs.Least.{IsLeastText}
-use Rattle.life_canon.specs.Needs.{LacksFor}
+use Rattle.life_canon.specs.Needs.{SomeOfFile}
 use Rattle.life_canon.specs.Room.{room_for}
-use Rattle.life_canon.specs.Store.{IsWant}
 use Rattle.life_canon.specs.Texts.{IsCanonical, IsRleOf, HasMoreCells}
+use Rattle.library_calls.specs.Told.{Told}
 
 -- how many squares the store of a call holds at most, by the limit that is asked for
 abbrev pub room_of : ℕ → ℕ
@@ -21,21 +23,34 @@ pub record IsFresh (limit : ℕ) (store : Nodes) : Type 0 where
   pub empty : held store ≡ []
   pub most : store.limit ≡ room_of limit
 
--- memory was refused, or a store of this limit holds it and lacks what the call needs
-abbrev pub Wants : (Nodes → Type 0) → ℕ → Fault → Type 0
-Wants Lacks limit fault = (store : Nodes) × (store.limit ≡ room_of limit) × IsWant store fault × (fault ≡ fault_of Full → Lacks store)
+-- More different squares are needed than this, and none of them is blank. `Needs` says of a property that a square which is needed has it.
+abbrev pub NeedsMore : ((Tree → Type 0) → Type 0) → ℕ → Type 0
+NeedsMore Needs most =
+    (squares : List Tree) × AllPairs ◌≢◌ squares × All (λ t. (is_blank_tree t ≡ false) × Needs (λ u. u ≡ t)) squares × (most < length squares)
 
--- the limit of the store is below the room for a file of these bytes
-abbrev pub IsTightFor : List ℕ → Nodes → Type 0
-IsTightFor bytes store = store.limit < room_for (length bytes)
+-- no more are needed than the limit
+abbrev pub Fits : ((Tree → Type 0) → Type 0) → ℕ → Type 0
+Fits Needs limit = ¬ NeedsMore Needs (room_of limit)
 
--- the store lacks a square that the file needs, and its limit is below the room for the file
-abbrev pub IsTooSmallFor : List ℕ → Nodes → Type 0
-IsTooSmallFor bytes store = LacksFor MAX_LEVEL bytes store × IsTightFor bytes store
+-- memory was refused; or the store was full, and its limit is too low
+abbrev pub Wants : (ℕ → Type 0) → ℕ → Fault → Type 0
+Wants IsTooLow limit fault = OrMemory fault ((fault ≡ fault_of Full) × IsTooLow (room_of limit))
+
+-- a square that is needed to read the file has a property
+abbrev pub SomeToRead : List ℕ → (Tree → Type 0) → Type 0
+SomeToRead bytes P = SomeOfFile MAX_LEVEL P (lines_of bytes)
+
+-- the limit is too low to read the file, and below the room for a file of these bytes
+abbrev pub IsTooLowFor : List ℕ → ℕ → Type 0
+IsTooLowFor bytes most = NeedsMore (SomeToRead bytes) most × (most < room_for (length bytes))
+
+-- a text is told: it is copied, or longer than the memory
+abbrev pub TellsText : Told → Type 0
+TellsText it = (it.status ≡ 0) ⊎ (it.status ≡ 64)
 
 -- why a call on these bytes is refused
 abbrev pub RefusesWithin : ℕ → List ℕ → Fault → Type 0
-RefusesWithin limit bytes fault = Refuses MAX_LEVEL bytes fault ⊎ Wants (IsTooSmallFor bytes) limit fault
+RefusesWithin limit bytes fault = Refuses MAX_LEVEL bytes fault ⊎ Wants (IsTooLowFor bytes) limit fault
 
 -- the same where the text is extended RLE, which may have too many cells
 abbrev pub RefusesRleWithin : ℕ → List ℕ → Fault → Type 0

@@ -1,6 +1,6 @@
 -- The words of the contracts of this crate.
-pub use Rattle.library_calls.specs.Texts.{IsCanonicalText, IsFresh, IsRleText, RefusesRleWithin, RefusesWithin, room_of}
-pub use Rattle.library_calls.specs.Comparing.{compared, ComparesWithin, IsTooSmallForBoth}
+pub use Rattle.library_calls.specs.Texts.{Fits, IsCanonicalText, IsFresh, IsRleText, NeedsMore, RefusesRleWithin, RefusesWithin, room_of, SomeToRead, TellsText}
+pub use Rattle.library_calls.specs.Comparing.{compared, ComparesWithin, IsTooLowForBoth, SomeToReadBoth}
 pub use Rattle.library_calls.specs.ComparingInForm.{AreOneInForm, ComparesInForm, ComparesInNone, HasTooMany, RefusesEitherInForm}
 pub use Rattle.library_calls.specs.Outputs.{IsTextOf, IsTextOfRead, RefusesPiece, RefusesTextOf, RefusesTextOfRead, text_in}
 pub use Rattle.library_calls.specs.InForm.{form_numbered, IsKeyInForm, IsTextInForm, AnswersInForm}
@@ -16,5 +16,6 @@ pub use Rattle.life_canon.specs.Feeding.{RefusesFront}
 pub use Rattle.life_canon.specs.Files.{Accepted, Refuses}
 pub use Rattle.life_canon.specs.Store.{IsOfFile, IsRead, IsWant}
 pub use Rattle.life_canon.specs.Texts.{IsShown}
+pub use Rattle.life_quad.specs.Keeping.{AddsOnly}
 pub use Rattle.life_quad.specs.Store.{held}
 pub use Rattle.life_step.specs.Stepped.{IsStepped, IsSteppedBy}

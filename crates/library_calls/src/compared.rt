@@ -1,7 +1,7 @@
 //! The call that compares two files.
 
 ghost use Rattle.std.specs.Prelude.{◌≡◌, if◌then◌else◌};
-ghost use Rattle.library_calls.specs.Words.{kind_number, ComparesWithin, compared};
+ghost use Rattle.library_calls.specs.Words.{kind_number, ComparesWithin, compared, Fits, SomeToReadBoth};
 
 use crate::comparison::compare;
 use crate::options::Options;
@@ -46,7 +46,9 @@ impl Compared {
 
 /// Whether two files, each of either format, are one pattern.
 pub fn same(alloc: Global, first: &[u8], second: &[u8], options: Options) -> Compared
-    ensures { ComparesWithin options.limit first.now second.now result }
+    ensures compares { ComparesWithin options.limit first.now second.now result }
+    ensures fits { result.status ≡ 0
+        → Fits (SomeToReadBoth first.now second.now) options.limit }
 {
     compare(alloc, first, second, PatternForm::Placed, options)
 }

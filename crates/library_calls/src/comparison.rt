@@ -1,7 +1,7 @@
 //! The call that compares two files in a form.
 
 ghost use Rattle.std.specs.Prelude.{◌≡◌, ◌↔◌, ◌⊎◌, ℕ, [], Err, IfOk, IfErr, OnOk, IsTrue, MatchOption};
-ghost use Rattle.library_calls.specs.Words.{fault_of, MAX_LEVEL, Full, held, Accepted, Refuses, IsRead, IsWant, IsFresh, IsTooSmallForBoth, form_numbered, AreOneInForm, HasTooMany, RefusesEitherInForm, ComparesInForm, ComparesInNone};
+ghost use Rattle.library_calls.specs.Words.{fault_of, MAX_LEVEL, Full, held, Accepted, Refuses, IsRead, IsWant, IsFresh, AddsOnly, Fits, IsTooLowForBoth, NeedsMore, SomeToReadBoth, form_numbered, AreOneInForm, HasTooMany, RefusesEitherInForm, ComparesInForm, ComparesInNone};
 
 use crate::compared::Compared;
 use crate::in_form::{NO_FORM, form_of};
@@ -29,23 +29,26 @@ fn read_both(
     ensures fault { IfErr result (λ fault. Refuses MAX_LEVEL first.now fault
         ⊎ (Accepted MAX_LEVEL first.now × Refuses MAX_LEVEL second.now fault)
         ⊎ IsWant store.new fault) }
+    ensures fits { OnOk result
+        (¬ NeedsMore (SomeToReadBoth first.now second.now) store.new.limit) }
     ensures needed { result ≡ Err (fault_of Full) → held store.old ≡ []
-        → IsTooSmallForBoth first.now second.now store.new }
+        → IsTooLowForBoth first.now second.now store.new.limit }
+    ensures adds { AddsOnly held (SomeToReadBoth first.now second.now) store.old store.new }
     ensures limit { store.new.limit ≡ store.old.limit }
 {
     patterns_stay();
     refusals_have_kinds();
     few_squares();
     room_suffices();
-    let a = read(alloc, store, first)?;
-    match read(alloc, store, second) {
-        Ok(b) => Ok((a, b)),
-        Err(fault) => {
-            // Its contract says that a store holds each square once, and none that is blank. The proof counts them.
-            let _ = store.len();
-            Err(fault)
-        }
-    }
+    let found = read(alloc, store, first);
+    // Its contract says that a store holds each square once, and none that is blank. The proof counts them.
+    let _ = store.len();
+    let a = found?;
+    let found = read(alloc, store, second);
+    // As above.
+    let _ = store.len();
+    let b = found?;
+    Ok((a, b))
 }
 
 /// Whether two files are one pattern in a form.
@@ -60,6 +63,8 @@ fn are_one(
     ensures answer { IfOk result
         (λ answer. IsTrue answer ↔ AreOneInForm form first.now second.now) }
     ensures few { OnOk result (¬ HasTooMany form first.now second.now) }
+    ensures fits { OnOk result ((limit : ℕ) → IsFresh limit store.old
+        → Fits (SomeToReadBoth first.now second.now) limit) }
     ensures fault { IfErr result (λ fault. (limit : ℕ) → IsFresh limit store.old
         → RefusesEitherInForm form limit first.now second.now fault) }
 {
@@ -70,7 +75,12 @@ fn are_one(
     let (a, b) = read_both(alloc, store, first, second)?;
     match form {
         PatternForm::Placed => Ok(are_same(&a, &b)),
-        PatternForm::Moved => are_shifts(alloc, store, &a, &b),
+        PatternForm::Moved => {
+            let answer = are_shifts(alloc, store, &a, &b);
+            // As in `read_both`.
+            let _ = store.len();
+            answer
+        }
         PatternForm::Turned => are_turns(alloc, store, &a, &b),
     }
 }
@@ -83,7 +93,9 @@ pub(crate) fn compare(
     form: PatternForm,
     options: Options,
 ) -> Compared
-    ensures { ComparesInForm form options.limit first.now second.now result }
+    ensures compares { ComparesInForm form options.limit first.now second.now result }
+    ensures fits { result.status ≡ 0
+        → Fits (SomeToReadBoth first.now second.now) options.limit }
 {
     let mut store = options.new_store(alloc);
     match are_one(alloc, &mut store, first, second, form) {
@@ -100,8 +112,10 @@ pub fn same_form(
     form: u32,
     options: Options,
 ) -> Compared
-    ensures { MatchOption (form_numbered form) (ComparesInNone result)
+    ensures compares { MatchOption (form_numbered form) (ComparesInNone result)
         (λ form. ComparesInForm form options.limit first.now second.now result) }
+    ensures fits { result.status ≡ 0
+        → Fits (SomeToReadBoth first.now second.now) options.limit }
 {
     let Some(form) = form_of(form) else {
         return Compared {

@@ -1,7 +1,7 @@
 //! A file that is read in pieces, and the text that its end gives.
 
 ghost use Rattle.std.specs.Prelude.{◌≡◌, ◌++◌, ℕ, [], IfOk, IfErr, OnOk};
-ghost use Rattle.library_calls.specs.Words.{FaultValue, RefusesFront, room_of, IsTextOf, RefusesTextOf, RefusesPiece};
+ghost use Rattle.library_calls.specs.Words.{FaultValue, Fits, RefusesFront, SomeToRead, room_of, IsTextOf, RefusesTextOf, RefusesPiece};
 
 use crate::options::Options;
 use crate::texts::{Output, text_of_read};
@@ -62,7 +62,10 @@ impl Feeding {
             mut store,
             output,
         } = self;
-        reader.feed(&mut store, piece)?;
+        let taken = reader.feed(&mut store, piece);
+        // Its contract says that a store holds each square once, and none that is blank. The proof counts them.
+        let _ = store.len();
+        taken?;
         Ok(Feeding {
             reader,
             store,
@@ -73,6 +76,8 @@ impl Feeding {
     /// The text of the file whose pieces came.
     pub(crate) fn text(self, alloc: Global) -> Result<Vec<u8>, Fault>
         ensures text { IfOk result (λ text. IsTextOf self.output self.bytes text.items) }
+        ensures fits { OnOk result ((limit : ℕ) → self.room ≡ room_of limit
+            → Fits (SomeToRead self.bytes) limit) }
         ensures fault { IfErr result (λ fault. (limit : ℕ) → self.room ≡ room_of limit
             → RefusesTextOf self.output limit self.bytes fault) }
     {
@@ -82,7 +87,10 @@ impl Feeding {
             mut store,
             output,
         } = self;
-        let pattern = reader.finish(&mut store)?;
+        let found = reader.finish(&mut store);
+        // As in `fed`.
+        let _ = store.len();
+        let pattern = found?;
         text_of_read(alloc, &mut store, pattern, output)
     }
 }

@@ -1,7 +1,7 @@
 //! The calls that give the text of a file in a form, or its key.
 
 ghost use Rattle.std.specs.Prelude.{◌≡◌};
-ghost use Rattle.library_calls.specs.Words.{AnswersInForm, told, text_in, form_numbered, IsTextInForm, IsKeyInForm};
+ghost use Rattle.library_calls.specs.Words.{AnswersInForm, Fits, SomeToRead, TellsText, told, text_in, form_numbered, IsTextInForm, IsKeyInForm};
 
 use crate::options::Options;
 use crate::pattern_form::PatternForm;
@@ -49,7 +49,9 @@ fn no_form() -> Told
 
 /// The canonical text of the pattern of a file of either format, in the form with this number.
 pub fn canon_form(alloc: Global, bytes: &[u8], form: u32, options: Options, out: &mut [u8]) -> Told
-    ensures { AnswersInForm IsTextInForm form options.limit bytes.now out.old out.new result }
+    ensures answers { AnswersInForm IsTextInForm form options.limit bytes.now out.old out.new
+        result }
+    ensures fits { TellsText result → Fits (SomeToRead bytes.now) options.limit }
 {
     let Some(form) = form_of(form) else {
         return no_form();
@@ -59,7 +61,9 @@ pub fn canon_form(alloc: Global, bytes: &[u8], form: u32, options: Options, out:
 
 /// The key of the pattern of a file of either format, in the form with this number: the SHA-256 of the text that `canon_form` gives, 32 bytes.
 pub fn key(alloc: Global, bytes: &[u8], form: u32, options: Options, out: &mut [u8]) -> Told
-    ensures { AnswersInForm IsKeyInForm form options.limit bytes.now out.old out.new result }
+    ensures answers { AnswersInForm IsKeyInForm form options.limit bytes.now out.old out.new
+        result }
+    ensures fits { TellsText result → Fits (SomeToRead bytes.now) options.limit }
 {
     let Some(form) = form_of(form) else {
         return no_form();

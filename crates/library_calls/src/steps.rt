@@ -1,31 +1,56 @@
 //! The calls that step a pattern.
 
-ghost use Rattle.library_calls.specs.Words.{Answers, IsStepped, IsSteppedBy, RefusesStepByWithin, RefusesStepWithin, StepsByTable};
+ghost use Rattle.std.specs.Prelude.{IfOk, IfErr, OnOk};
+ghost use Rattle.library_calls.specs.Words.{Answers, Fits, SomeToRead, TellsText, IsStepped, IsSteppedBy, RefusesStepByWithin, RefusesStepWithin, StepsByTable};
 
 use crate::options::Options;
 use crate::seeds::seed_of_names;
 use crate::texts::{Output, answer};
 use crate::told::{Told, refuse, tell};
-use life_step::step_table;
+use life_base::Fault;
+use life_canon::read;
+use life_step::next_by_table;
 use life_table::{Table, read_table_seeded};
 use std::alloc::Global;
 
 /// The canonical text of the next generation of the pattern of a file, under its B/S rule.
 pub fn step(alloc: Global, bytes: &[u8], options: Options, out: &mut [u8]) -> Told
-    ensures { Answers (IsStepped bytes.now) (RefusesStepWithin options.limit bytes.now)
+    ensures answers { Answers (IsStepped bytes.now) (RefusesStepWithin options.limit bytes.now)
         out.old out.new result }
+    ensures fits { TellsText result → Fits (SomeToRead bytes.now) options.limit }
 {
     answer(alloc, bytes, Output::Next, options, out)
 }
 
-/// The same by a table that is read.
-fn step_by(alloc: Global, bytes: &[u8], table: &Table, options: Options, out: &mut [u8]) -> Told
-    ensures { Answers (IsSteppedBy table.now bytes.now)
-        (RefusesStepByWithin table.now options.limit bytes.now) out.old out.new result }
+/// The text of the next generation of the pattern of a file, by a table.
+fn next_of_file(
+    alloc: Global,
+    bytes: &[u8],
+    table: &Table,
+    options: Options,
+) -> Result<Vec<u8>, Fault>
+    ensures text { IfOk result (λ text. IsSteppedBy table.now bytes.now text.items) }
+    ensures fits { OnOk result (Fits (SomeToRead bytes.now) options.limit) }
+    ensures fault { IfErr result (RefusesStepByWithin table.now options.limit bytes.now) }
 {
     let mut store = options.new_store(alloc);
-    let found = step_table(alloc, &mut store, bytes, table);
-    tell(found, out)
+    let found = read(alloc, &mut store, bytes);
+    // Its contract says that a store holds each square once, and none that is blank. The proof counts them.
+    let _ = store.len();
+    let pattern = found?;
+    let text = next_by_table(alloc, &mut store, pattern, table);
+    // As above.
+    let _ = store.len();
+    text
+}
+
+/// `step` by a table that is read.
+fn step_by(alloc: Global, bytes: &[u8], table: &Table, options: Options, out: &mut [u8]) -> Told
+    ensures answers { Answers (IsSteppedBy table.now bytes.now)
+        (RefusesStepByWithin table.now options.limit bytes.now) out.old out.new result }
+    ensures fits { TellsText result → Fits (SomeToRead bytes.now) options.limit }
+{
+    tell(next_of_file(alloc, bytes, table, options), out)
 }
 
 /// The canonical text of the next generation of the pattern of a file, by a rule table, whose file is `table`; and 1 where it is the table that is
@@ -37,7 +62,9 @@ pub fn step_by_table(
     options: Options,
     out: &mut [u8],
 ) -> (Told, u32)
-    ensures { StepsByTable options.limit bytes.now table.now result.1 out.old out.new result.0 }
+    ensures steps { StepsByTable options.limit bytes.now table.now result.1 out.old out.new
+        result.0 }
+    ensures fits { TellsText result.0 → Fits (SomeToRead bytes.now) options.limit }
 {
     match read_table_seeded(alloc, seed_of_names(options.seed), table) {
         Ok(table) => (step_by(alloc, bytes, &table, options, out), 0),

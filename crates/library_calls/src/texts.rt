@@ -1,7 +1,7 @@
 //! The texts that a call or a stream gives of a file, and the calls that give one.
 
-ghost use Rattle.std.specs.Prelude.{IfOk, IfErr};
-ghost use Rattle.library_calls.specs.Words.{Answers, IsCanonicalText, IsRleText, RefusesWithin, RefusesRleWithin, IsTextOf, IsTextOfRead, RefusesTextOf, RefusesTextOfRead, IsOfFile, IsShown};
+ghost use Rattle.std.specs.Prelude.{IfOk, IfErr, OnOk};
+ghost use Rattle.library_calls.specs.Words.{Answers, Fits, SomeToRead, TellsText, IsCanonicalText, IsRleText, RefusesWithin, RefusesRleWithin, IsTextOf, IsTextOfRead, RefusesTextOf, RefusesTextOfRead, IsOfFile, IsShown};
 
 use crate::options::Options;
 use crate::told::{Told, tell};
@@ -52,9 +52,17 @@ pub(crate) fn text_of_read(
         Output::Canonical => text_of(alloc, store, &pattern),
         Output::Rle => rle_of(alloc, store, &pattern),
         Output::Lines => five_lines_of(alloc, store, &pattern),
-        Output::Next => next_by_rule(alloc, store, pattern),
+        Output::Next => {
+            let text = next_by_rule(alloc, store, pattern);
+            // Its contract says that a store holds each square once, and none that is blank. The proof counts them.
+            let _ = store.len();
+            text
+        }
         Output::Moved => {
-            let moved = moved_of(alloc, store, &pattern)?;
+            let found = moved_of(alloc, store, &pattern);
+            // As above.
+            let _ = store.len();
+            let moved = found?;
             text_of(alloc, store, &moved)
         }
         Output::Turned => turned_text(alloc, store, &pattern),
@@ -69,10 +77,14 @@ pub(crate) fn text_of_file(
     options: Options,
 ) -> Result<Vec<u8>, Fault>
     ensures text { IfOk result (λ text. IsTextOf output bytes.now text.items) }
+    ensures fits { OnOk result (Fits (SomeToRead bytes.now) options.limit) }
     ensures fault { IfErr result (RefusesTextOf output options.limit bytes.now) }
 {
     let mut store = options.new_store(alloc);
-    let pattern = read(alloc, &mut store, bytes)?;
+    let found = read(alloc, &mut store, bytes);
+    // As in `text_of_read`.
+    let _ = store.len();
+    let pattern = found?;
     text_of_read(alloc, &mut store, pattern, output)
 }
 
@@ -84,32 +96,36 @@ pub(crate) fn answer(
     options: Options,
     out: &mut [u8],
 ) -> Told
-    ensures { Answers (IsTextOf output bytes.now) (RefusesTextOf output options.limit bytes.now)
-        out.old out.new result }
+    ensures answers { Answers (IsTextOf output bytes.now)
+        (RefusesTextOf output options.limit bytes.now) out.old out.new result }
+    ensures fits { TellsText result → Fits (SomeToRead bytes.now) options.limit }
 {
     tell(text_of_file(alloc, bytes, output, options), out)
 }
 
 /// The canonical text of the pattern of a file of either format.
 pub fn canon(alloc: Global, bytes: &[u8], options: Options, out: &mut [u8]) -> Told
-    ensures { Answers (IsCanonicalText bytes.now) (RefusesWithin options.limit bytes.now) out.old
-        out.new result }
+    ensures answers { Answers (IsCanonicalText bytes.now) (RefusesWithin options.limit bytes.now)
+        out.old out.new result }
+    ensures fits { TellsText result → Fits (SomeToRead bytes.now) options.limit }
 {
     answer(alloc, bytes, Output::Canonical, options, out)
 }
 
 /// The text in extended RLE of the pattern of a file of either format.
 pub fn to_rle(alloc: Global, bytes: &[u8], options: Options, out: &mut [u8]) -> Told
-    ensures { Answers (IsRleText bytes.now) (RefusesRleWithin options.limit bytes.now)
+    ensures answers { Answers (IsRleText bytes.now) (RefusesRleWithin options.limit bytes.now)
         out.old out.new result }
+    ensures fits { TellsText result → Fits (SomeToRead bytes.now) options.limit }
 {
     answer(alloc, bytes, Output::Rle, options, out)
 }
 
 /// Five lines on the pattern of a file of either format.
 pub fn show(alloc: Global, bytes: &[u8], options: Options, out: &mut [u8]) -> Told
-    ensures { Answers (IsShown MAX_LEVEL bytes.now) (RefusesWithin options.limit bytes.now) out.old
-        out.new result }
+    ensures answers { Answers (IsShown MAX_LEVEL bytes.now) (RefusesWithin options.limit bytes.now)
+        out.old out.new result }
+    ensures fits { TellsText result → Fits (SomeToRead bytes.now) options.limit }
 {
     answer(alloc, bytes, Output::Lines, options, out)
 }

@@ -1,7 +1,7 @@
 //! What a call tells, with its text in memory of the caller.
 
-ghost use Rattle.std.specs.Prelude.{◌≡◌, IfOk, IfErr};
-ghost use Rattle.library_calls.specs.Words.{kind_number, Gives, Tells};
+ghost use Rattle.std.specs.Prelude.{◌≡◌, IfOk, IfErr, OnErr};
+ghost use Rattle.library_calls.specs.Words.{kind_number, Gives, Tells, TellsText};
 
 use life_base::Fault;
 
@@ -55,6 +55,7 @@ pub(crate) fn tell(found: Result<Vec<u8>, Fault>, out: &mut [u8]) -> Told
     ensures gives { IfOk found (λ text. Gives text.items out.old out.new result) }
     ensures no_line { IfOk found (λ _. result.line ≡ 0) }
     ensures tells { IfErr found (λ fault. Tells fault out.old out.new result) }
+    ensures text { OnErr found (¬ TellsText result) }
 {
     match found {
         Ok(text) => give(&text, out),

@@ -1,3 +1,2 @@
 mod Reworded
-mod Numbered
 mod Pieces

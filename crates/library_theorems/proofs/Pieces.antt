@@ -6,8 +6,6 @@ use Rattle.life_base.specs.Kinds.{kind_number}
 use Rattle.life_base.specs.declared.fault.Fault.{Fault}
 use Rattle.life_base.specs.declared.kind.Kind.TheVariants.{Memory}
 use Rattle.life_canon.specs.Laws.{FaultsStay}
-use Rattle.life_quad.specs.Store.{Nodes}
-use Rattle.library_calls.specs.Texts.{IsTightFor}
 use Rattle.theorems.specs.Joined.{joined}
 use Rattle.theorems.proofs.PieceLaw.{joined_all, joined_split}
 use Rattle.theorems.proofs.RefusalLaw.{refuses_agree}
@@ -50,23 +48,23 @@ of_all stay limit pieces k fault (inl front) =
     let whole = refuses_agree (joined (take k pieces) ++ joined (drop k pieces)) fault
     (stay (joined (take k pieces)) (joined (drop k pieces)) fault front).refuses in
     subst (λ (bytes : List ℕ). IsUnreadWithin limit bytes fault) (sym (joined_split pieces k)) (inl whole)
-of_all stay limit pieces k fault (inr w) = inr (want_below (squares_for (joined pieces)) limit fault (λ store lacks. tight_too store lacks.1) w)
+of_all stay limit pieces k fault (inr w) = inr (want_below (squares_for (joined pieces)) limit fault (λ most low. below most low.1) w)
   where
-    tight_too : (store : Nodes) → IsTightFor (joined (take k pieces)) store → IsTightFor (joined pieces) store
-    tight_too store tight =
+    below : (most : ℕ) → most < squares_for (joined (take k pieces)) → most < squares_for (joined pieces)
+    below most low =
         let both = length-append (joined (take k pieces)) (joined (drop k pieces)) in
         let all = ap (λ (bytes : List ℕ). length bytes) (joined_split pieces k) in
-        omega (arith, tight, both, all)
+        omega (arith, low, both, all)
 
 module _ (output : Output) (limit : ℕ) (bytes : List ℕ) (before after : List ℕ) (told : Told) where
   end_told : (session : Session) → Ends output limit bytes session → TellsEnd before after told session
       → Answers (IsTextOf output bytes) (IsEndFault output limit bytes) before after told
-  end_told (Reading feeding) (streams.by_text text has good) tells = absurd has
+  end_told (Reading feeding) (streams.by_text text has good fits) tells = absurd has
   end_told (Reading feeding) (streams.by_fault fault has why) tells = absurd has
-  end_told (Written written) (streams.by_text text has good) tells =
+  end_told (Written written) (streams.by_text text has good fits) tells =
       by_text written.items (subst (IsTextOf output bytes) (sym has) good) tells.0 tells.1
   end_told (Written written) (streams.by_fault fault has why) tells = absurd has
-  end_told (Refused it) (streams.by_text text has good) tells = absurd has
+  end_told (Refused it) (streams.by_text text has good fits) tells = absurd has
   end_told (Refused it) (streams.by_fault fault has why) tells = by_fault it (inr (subst (RefusesTextOf output limit bytes) (sym has) why)) tells
 
   fault_told : (session : Session) (fault : Fault) → HasFault fault session → IsUnreadWithin limit bytes fault → TellsEnd before after told session

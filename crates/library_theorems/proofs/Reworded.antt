@@ -11,13 +11,12 @@ use Rattle.life_canon.specs.Laws.{CanonicalIsLeast, FilesAreOnPlane, FilesAreUni
 use Rattle.life_canon.specs.Least.{IsLeastText}
 use Rattle.life_canon.specs.Listing.{canon_text, canonical_file}
 use Rattle.life_canon.specs.Texts.{IsCanonical, IsShown}
-use Rattle.life_quad.specs.Store.{Nodes}
 use Rattle.life_table.specs.Grammar.{IsFile}
 use Rattle.life_table.specs.Reading.{Refuses as RefusesTable, AreTable}
 use Rattle.life_table.specs.declared.table.Table.{Table as LayerTable}
 use Rattle.claims.specs.ByTable.{IsSteppedBy, IsUnsteppedBy}
 use Rattle.claims.specs.Counting.{node_lines, IsCanonicalText}
-use Rattle.claims.specs.Files.{pattern_of, Same, fault_of}
+use Rattle.claims.specs.Files.{pattern_of, IsWant, Same, fault_of}
 use Rattle.claims.specs.Generation.{IsUnstepped}
 use Rattle.claims.specs.Pattern.{Pattern}
 use Rattle.claims.specs.Shown.{IsShown as AreLines}
@@ -27,7 +26,7 @@ use Rattle.table_laws.specs.Tables.{IsTable}
 use Rattle.theorems.proofs.CanonicalLaw.{canonical_so}
 use Rattle.theorems.proofs.CellsLaw.{few_cells, says_more}
 use Rattle.theorems.proofs.FileLaw.{same_from, same_to, rle_format}
-use Rattle.theorems.proofs.RefusalLaw.{accepted_is_ok, refuses_agree, want_as}
+use Rattle.theorems.proofs.RefusalLaw.{accepted_is_ok, refuses_agree}
 use Rattle.theorems.proofs.ShownLaw.{shown_is}
 use Rattle.theorems.proofs.TextLaw.{rle_of_file}
 use Rattle.theorems.proofs.StreamLaw.{one_text}
@@ -45,7 +44,7 @@ use Rattle.library_calls.specs.declared.told.Told.{Told}
 use Rattle.library_calls.specs.Told.{Copies, LacksRoom, Gives, Tells, Answers, by_text, by_fault}
 use Rattle.library_theorems.specs.Answered.{IsRleText, AreFiveLines, IsUnread, IsUnreadWithin, IsUnwritten, IsWantBelow, squares_for}
 use Rattle.library_theorems.specs.Ending.{IsEndFault}
-use Rattle.library_theorems.proofs.Numbered.{IsOfText, no_text}
+use Rattle.library_calls.proofs.Numbered.{IsOfText, no_text}
 
 -- the same is told by what texts and faults imply
 pub reworded : {IsText IsOther : List ℕ → Type 0} {IsFault IsOtherFault : Fault → Type 0} {before after : List ℕ} {told : Told}
@@ -103,17 +102,20 @@ lines_so least on_plane unique files keep file text s =
 
 -- ---- why there is none
 
--- a store that wanted room was tight
-pub want_below : {Lacks : Nodes → Type 0} (room limit : ℕ) (fault : Fault) → ((store : Nodes) → Lacks store → store.limit < room)
-    → Wants Lacks limit fault → IsWantBelow room limit fault
-want_below room limit fault tight w = elim (want_as w.0 fault w.2) [
-  | inl full ↦ inl (full, subst (λ n. n < room) w.1 (tight w.0 (w.3 full)))
-  | inr memory ↦ inr memory
-]
+-- a limit that was too low is below the room
+pub want_below : {IsTooLow : ℕ → Type 0} (room limit : ℕ) (fault : Fault) → ((most : ℕ) → IsTooLow most → most < room) → Wants IsTooLow limit fault
+    → IsWantBelow room limit fault
+want_below room limit fault tight (inl memory) = inr memory
+want_below room limit fault tight (inr full) = inl (full.0, tight _ full.1)
+
+-- memory was wanted, or room
+wanted : {IsTooLow : ℕ → Type 0} (limit : ℕ) (fault : Fault) → Wants IsTooLow limit fault → IsWant fault
+wanted limit fault (inl memory) = inr memory
+wanted limit fault (inr full) = inl full.0
 
 pub unread : (limit : ℕ) (file : List ℕ) (fault : Fault) → RefusesWithin limit file fault → IsUnreadWithin limit file fault
 unread limit file fault (inl refuses) = inl (refuses_agree file fault refuses)
-unread limit file fault (inr w) = inr (want_below (squares_for file) limit fault (λ store lacks. lacks.1) w)
+unread limit file fault (inr w) = inr (want_below (squares_for file) limit fault (λ most low. low.1) w)
 
 -- whatever the limit
 pub unread_at_all : (limit : ℕ) (file : List ℕ) (fault : Fault) → IsUnreadWithin limit file fault → IsUnread file fault
@@ -128,7 +130,7 @@ unwritten limit file fault (inr many) = inr (many.0, says_more file many.1)
 pub unstepped : FilesAreOnPlane 62 → (limit : ℕ) (file : List ℕ) (fault : Fault) → RefusesStepWithin limit file fault
     → IsUnread file fault ⊎ IsUnstepped file fault
 unstepped on_plane limit file fault (inl refuses) = inl (inl (refuses_agree file fault refuses))
-unstepped on_plane limit file fault (inr (inl w)) = inl (inr (want_as w.0 fault w.2))
+unstepped on_plane limit file fault (inr (inl w)) = inl (inr (wanted limit fault w))
 unstepped on_plane limit file fault (inr (inr h)) = inr (unstepped_is on_plane file h.0 fault h.1 h.2)
 
 -- ---- by a table
@@ -136,7 +138,7 @@ unstepped on_plane limit file fault (inr (inr h)) = inr (unstepped_is on_plane f
 unstepped_by : TablesDecide → (layer : LayerTable) (table : Table) → IsTable layer table → (limit : ℕ) (file : List ℕ) (fault : Fault)
     → RefusesStepByWithin layer limit file fault → IsUnread file fault ⊎ IsUnsteppedBy table file fault
 unstepped_by decide layer table is limit file fault (inl refuses) = inl (inl (refuses_agree file fault refuses))
-unstepped_by decide layer table is limit file fault (inr (inl w)) = inl (inr (want_as w.0 fault w.2))
+unstepped_by decide layer table is limit file fault (inr (inl w)) = inl (inr (wanted limit fault w))
 unstepped_by decide layer table is limit file fault (inr (inr h)) = inr (unstepped_by_is decide layer table is file h.0 h.1 fault h.2)
 
 -- what is told of a step by a table
@@ -180,7 +182,7 @@ uncompared : (limit : ℕ) (first second : List ℕ) (fault : Fault) → Refuses
     ⊎ ((IsOk (pattern_of first) × (pattern_of second ≡ Err fault)) ⊎ IsWantBelow (squares_for first + squares_for second) limit fault)
 uncompared limit first second fault (inl refuses) = inl (refuses_agree first fault refuses)
 uncompared limit first second fault (inr (inl h)) = inr (inl (accepted_is_ok first h.0, refuses_agree second fault h.1))
-uncompared limit first second fault (inr (inr w)) = inr (inr (want_below (squares_for first + squares_for second) limit fault (λ store lacks. lacks.1) w))
+uncompared limit first second fault (inr (inr w)) = inr (inr (want_below (squares_for first + squares_for second) limit fault (λ most low. low.1) w))
 
 pub compared_so : FilesAreOnPlane 62 → (limit : ℕ) (first second : List ℕ) (told : Compared) → ComparesWithin limit first second told → told.status ≡ 0
     → (told.line ≡ 0) × IsOk (pattern_of first) × IsOk (pattern_of second)

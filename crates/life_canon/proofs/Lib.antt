@@ -41,13 +41,13 @@ mod PieceFacts
 mod WalkingFacts
 mod CountingFacts
 mod ShowFacts
-mod RoomLists
+pub mod RoomLists
 mod RoomTrees
 mod RoomRuns
 mod RoomRoots
 mod RoomNodes
 mod RoomLaw
-mod RoomCount
+pub mod RoomCount
 mod Adding
 pub mod Spots
 mod Rows

@@ -3,15 +3,16 @@ use Rattle.std.proofs.Common.{◌≡◌, ◌≢◌, ℕ, ◌+◌, ◌≤◌, fal
 use Rattle.std.specs.Prelude.{Contains}
 use Rattle.life_base.specs.Tree.{Tree, point, quad, is_blank_tree}
 use Rattle.life_base.specs.Text.{lines_of}
+use Rattle.life_base.specs.declared.cell.Run.{Run}
 use Rattle.life_base.specs.declared.cell.TheConstants.{MAX_LEVEL}
 use Rattle.life_mc.specs.declared.line.Line.{Line}
 use Rattle.life_mc.specs.declared.line.Line.TheVariants.{Leaf, Quad}
 use Rattle.life_mc.specs.Squares.{leaf_tree}
-use Rattle.life_quad.specs.Refused.{SomePart}
+use Rattle.life_quad.specs.Refused.{SomePart, TrimmedTo}
 use Rattle.life_quad.specs.Store.{Nodes, held}
 use Rattle.life_strip.specs.Needed.{SomeSquare}
 use Rattle.life_strip.proofs.NeededLemmas.{SomeSquare-as}
-use Rattle.life_canon.specs.Needs.{SomeOfLine, SomeOfLines, of_node_line, of_runs, SomeRoot, trimmed_root, grown_root, of_plane, of_root, SomeOfFile, of_lines, at_end, IsNew}
+use Rattle.life_canon.specs.Needs.{SomeOfLine, SomeOfRuns, SomeOfLines, of_node_line, of_runs, SomeRoot, trimmed_root, grown_root, of_plane, of_root, SomeOfFile, of_lines, at_end, IsNew}
 use Rattle.life_canon.specs.Room.{RoomSuffices, HoldsOnly, room_for}
 use Rattle.life_canon.specs.Universe.{Universe, centred, whole}
 use Rattle.life_canon.proofs.RoomLaw.{few_squares}
@@ -19,15 +20,15 @@ use Rattle.life_canon.proofs.RoomLists.{Among, among-left, among-right, among-co
 
 -- ---- the square that has a property
 
-record Found (P : Tree → Type 0) (Some : (Tree → Type 0) → Type 0) : Type 0 where
-  square : Tree
-  holds : P square
-  some : Some (λ u. u ≡ square)
+pub record Found (P : Tree → Type 0) (Some : (Tree → Type 0) → Type 0) : Type 0 where
+  pub square : Tree
+  pub holds : P square
+  pub some : Some (λ u. u ≡ square)
 
-found-as : {P : Tree → Type 0} {A B : (Tree → Type 0) → Type 0} → ((Q : Tree → Type 0) → A Q → B Q) → Found P A → Found P B
+pub found-as : {P : Tree → Type 0} {A B : (Tree → Type 0) → Type 0} → ((Q : Tree → Type 0) → A Q → B Q) → Found P A → Found P B
 found-as f h = record { square = h.square; holds = h.holds; some = f (λ u. u ≡ h.square) h.some }
 
-find-part : (P : Tree → Type 0) (t : Tree) → SomePart P t → Found P (λ Q. SomePart Q t)
+pub find-part : (P : Tree → Type 0) (t : Tree) → SomePart P t → Found P (λ Q. SomePart Q t)
 find-part P (point s) h = absurd h
 find-part P (quad a b c d) (inl h) = record { square = quad a b c d; holds = h; some = inl refl }
 find-part P (quad a b c d) (inr (inl h)) = found-as (λ Q k. inr (inl k)) (find-part P a h)
@@ -39,22 +40,27 @@ find-line : (P : Tree → Type 0) (lines : List Line) (line : Line) → SomeOfLi
 find-line P lines (Leaf rows) h = find-part P (leaf_tree rows) h
 find-line P lines (Quad level nw ne sw se) h = record { square = _; holds = h; some = refl }
 
-find-square : (P : Tree → Type 0) (rows : ℕ) (states : ℕ → ℕ → ℕ) → SomeSquare P rows states → Found P (λ Q. SomeSquare Q rows states)
+pub find-square : (P : Tree → Type 0) (rows : ℕ) (states : ℕ → ℕ → ℕ) → SomeSquare P rows states → Found P (λ Q. SomeSquare Q rows states)
 find-square P rows states s =
     record { square = s.square; holds = s.property; some = SomeSquare-as (omega arith) (λ i j li lj. refl) s refl }
 
-find-lines : (P : Tree → Type 0) (lines : List (List ℕ)) → SomeOfLines MAX_LEVEL P lines → Found P (λ Q. SomeOfLines MAX_LEVEL Q lines)
+pub find-trimmed : (P : Tree → Type 0) (t : Tree) (least : ℕ) → TrimmedTo P t least → Found P (λ Q. TrimmedTo Q t least)
+find-trimmed P t least s = record { square = _; holds = s.has; some = record { smaller = s.smaller; has = refl } }
+
+pub find-runs : (P : Tree → Type 0) (runs : List Run) → SomeOfRuns P runs → Found P (λ Q. SomeOfRuns Q runs)
+find-runs P runs some =
+    found-as (λ Q k. record { before = some.before; run = some.run; behind = some.behind; are = some.are; above = k }) (find-square P _ _ some.above)
+
+pub find-lines : (P : Tree → Type 0) (lines : List (List ℕ)) → SomeOfLines MAX_LEVEL P lines → Found P (λ Q. SomeOfLines MAX_LEVEL Q lines)
 find-lines P lines (of_node_line before line behind square e prefix squares some) =
     found-as (λ Q k. of_node_line before line behind square e prefix squares k) (find-line P _ square some)
-find-lines P lines (of_runs front behind runs e h some) =
-    found-as (λ Q k. of_runs front behind runs e h (record { before = some.before; run = some.run; behind = some.behind; are = some.are; above = k }))
-    (find-square P _ _ some.above)
+find-lines P lines (of_runs front behind runs e h some) = found-as (λ Q k. of_runs front behind runs e h k) (find-runs P runs some)
 
 find-root : (P : Tree → Type 0) (u : Universe) (n : ℕ) → SomeRoot MAX_LEVEL P u n → Found P (λ Q. SomeRoot MAX_LEVEL Q u n)
 find-root P u n (trimmed_root lower p) = record { square = whole MAX_LEVEL u; holds = p; some = trimmed_root lower refl }
 find-root P u n (grown_root level higher least p) = found-as (λ Q k. grown_root level higher least k) (find-part P (centred u.cell level) p)
 
-find-file : (P : Tree → Type 0) (lines : List (List ℕ)) → SomeOfFile MAX_LEVEL P lines → Found P (λ Q. SomeOfFile MAX_LEVEL Q lines)
+pub find-file : (P : Tree → Type 0) (lines : List (List ℕ)) → SomeOfFile MAX_LEVEL P lines → Found P (λ Q. SomeOfFile MAX_LEVEL Q lines)
 find-file P lines (of_lines s) = found-as (λ Q k. of_lines k) (find-lines P lines s)
 find-file P lines (at_end (of_plane u says rle s)) = found-as (λ Q k. at_end (of_plane u says rle k)) (find-square P _ _ s)
 find-file P lines (at_end (of_root u says s)) = found-as (λ Q k. at_end (of_root u says k)) (find-root P u _ s)

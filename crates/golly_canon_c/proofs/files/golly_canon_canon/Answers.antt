@@ -1,4 +1,7 @@
 use Rattle.golly_canon_c.proofs.files.golly_canon_canon.Goals as goal
 
-pub returns : goal.returns
-returns c = rw c.tell.ensures at c.canon-answer.ensures
+pub returns-clause-answers : goal.returns-clause-answers
+returns-clause-answers c = rw c.tell.ensures at c.canon-answer.ensures.answers
+
+pub returns-clause-fits : goal.returns-clause-fits
+returns-clause-fits c = rw c.tell.ensures at c.canon-answer.ensures.fits

@@ -3,12 +3,12 @@ use Rattle.sha2.specs.Sha256.{sha256}
 use Rattle.library_calls.specs.Outputs.{IsTextOf, RefusesTextOf}
 use Rattle.library_calls.specs.Told.{by_text, by_fault}
 use Rattle.library_calls.specs.declared.texts.Output.{Output}
-use Rattle.library_calls.proofs.Answering.{at-form}
+use Rattle.library_calls.proofs.Answering.{at-form, no-form, no-text}
 use Rattle.library_calls.proofs.TextFacts.{in-form, refused-in-form}
 use Rattle.library_calls.proofs.in_form.key.Goals as goal
 
-pub returns-in-Ok : goal.returns-in-Ok
-returns-in-Ok c =
+pub returns-in-Ok-clause-answers : goal.returns-in-Ok-clause-answers
+returns-in-Ok-clause-answers c =
     at-form _ _ _ c.in-Some.form (sym c.form_of.ensures ∙ c.in-Some.is) (by_text c.digest.result (
       c.in-Ok.text.items,
       in-form c.in-Some.form c.args.bytes.now c.in-Ok.text.items
@@ -16,9 +16,15 @@ returns-in-Ok c =
       c.digest.ensures ∙ ap sha256 c.as_slice.ensures.value,
     ) c.give.ensures.gives c.give.ensures.line)
 
-pub returns-in-Err : goal.returns-in-Err
-returns-in-Err c =
+pub returns-in-Err-clause-answers : goal.returns-in-Err-clause-answers
+returns-in-Err-clause-answers c =
     at-form _ _ _ c.in-Some.form (sym c.form_of.ensures ∙ c.in-Some.is) (by_fault c.in-Err.fault
     (refused-in-form c.in-Some.form c.args.options.limit c.args.bytes.now c.in-Err.fault
     (subst (λ (f : Output). RefusesTextOf f c.args.options.limit c.args.bytes.now c.in-Err.fault) c.text_in.ensures c.in-Err.ensures.fault))
     (record { status = c.refuse.ensures.status; line = c.refuse.ensures.line; needed = c.refuse.ensures.needed; kept = refl }))
+
+pub returns-in-Err-clause-fits : goal.returns-in-Err-clause-fits
+returns-in-Err-clause-fits c = no-text c.refuse.result c.in-Err.fault c.refuse.ensures.status
+
+pub returns-in-None-clause-fits : goal.returns-in-None-clause-fits
+returns-in-None-clause-fits c = no-form c.no_form.result c.no_form.ensures

@@ -1,26 +1,49 @@
 use Rattle.std.proofs.Common.{◌∙◌}
 use Rattle.std.proofs.lemmas.Result.{IfOk-weaker, IfErr-weaker, err_from_is_err_and}
-use Rattle.library_calls.proofs.Answering.{too-small-for}
+use Rattle.life_base.specs.declared.cell.TheConstants.{MAX_LEVEL}
+use Rattle.life_canon.specs.Store.{IsRead, RefusesIn}
+use Rattle.library_calls.specs.Texts.{SomeToRead}
+use Rattle.library_calls.proofs.NeedFacts.{file-fits, file-low, from-empty, if-err, if-ok, needed-only, on-ok, where-ok}
 use Rattle.library_calls.proofs.TextFacts.{text-fault}
 use Rattle.library_calls.proofs.texts.text_of_file.Goals as goal
 
 pub text_of_read-requires : goal.text_of_read-requires
-text_of_read-requires c = (c.args.bytes.now, c.in_ok-pattern.ensures.pattern)
+text_of_read-requires c = (
+  c.args.bytes.now,
+  if-ok (IsRead MAX_LEVEL c.args.bytes.now c.read-found.new.store) c.read-found.result c.in_ok-pattern.pattern c.in_ok-pattern.was
+      c.read-found.ensures.pattern,
+)
 
 pub returns-in_err-pattern-clause-fault : goal.returns-in_err-pattern-clause-fault
 returns-in_err-pattern-clause-fault c =
     let p = err_from_is_err_and c.from_residual.result c.from_residual.ensures.1 in
-    rw (p.1, p.2) (text-fault c.args.output c.args.options.limit c.args.bytes.now c.read.new.store c.in_err-pattern.field-0.0
-    (c.read.ensures.reads.keeps.limit ∙ c.new_store-store.ensures.most) c.in_err-pattern.ensures.fault
-    (λ e. too-small-for c.args.bytes.now c.new_store-store.result c.read.new.store c.new_store-store.ensures.empty c.read.ensures.reads.keeps.limit
-    (c.in_err-pattern.ensures.reads.needed (cc)) (c.in_err-pattern.ensures.reads.room (cc))))
+    let store = c.read-found.new.store in
+    let fault = c.in_err-pattern.field-0.0 in
+    rw (p.1, p.2) (text-fault c.args.output c.args.options.limit c.args.bytes.now store fault
+    (c.read-found.ensures.reads.keeps.limit ∙ c.new_store-store.ensures.most)
+    (if-err (RefusesIn MAX_LEVEL c.args.bytes.now store) c.read-found.result fault c.in_err-pattern.was c.read-found.ensures.fault)
+    (file-low c.args.bytes.now c.new_store-store.result store c.read-found.result fault c.in_err-pattern.was c.new_store-store.ensures.empty
+    (record { distinct = c.len.ensures.distinct; live = λ t there. (c.len.ensures.only t there).0 }) c.read-found.ensures.reads))
 
 pub returns-clause-text : goal.returns-clause-text
 returns-clause-text c =
-    IfOk-weaker c.text_of_read.result _ _ (λ text is. is c.args.bytes.now c.in_ok-pattern.ensures.pattern) c.text_of_read.ensures.text
+    IfOk-weaker c.text_of_read.result _ _ (λ text is. is c.args.bytes.now
+    (if-ok (IsRead MAX_LEVEL c.args.bytes.now c.read-found.new.store) c.read-found.result c.in_ok-pattern.pattern c.in_ok-pattern.was
+    c.read-found.ensures.pattern)) c.text_of_read.ensures.text
+
+pub returns-clause-fits : goal.returns-clause-fits
+returns-clause-fits c =
+    where-ok c.text_of_read.result (file-fits c.args.bytes.now c.args.options.limit c.read-found.new.store c.in_ok-pattern.pattern
+    (if-ok (IsRead MAX_LEVEL c.args.bytes.now c.read-found.new.store) c.read-found.result c.in_ok-pattern.pattern c.in_ok-pattern.was
+    c.read-found.ensures.pattern)
+    (on-ok c.read-found.result c.in_ok-pattern.pattern c.in_ok-pattern.was c.read-found.ensures.reads.all)
+    (c.read-found.ensures.reads.keeps.limit ∙ c.new_store-store.ensures.most))
 
 pub returns-clause-fault : goal.returns-clause-fault
 returns-clause-fault c =
     IfErr-weaker c.text_of_read.result _ _
-    (λ fault why. why c.args.options.limit c.args.bytes.now (c.read.ensures.reads.keeps.limit ∙ c.new_store-store.ensures.most)
-    c.in_ok-pattern.ensures.pattern) c.text_of_read.ensures.fault
+    (λ fault why. why c.args.options.limit c.args.bytes.now (c.read-found.ensures.reads.keeps.limit ∙ c.new_store-store.ensures.most)
+    (if-ok (IsRead MAX_LEVEL c.args.bytes.now c.read-found.new.store) c.read-found.result c.in_ok-pattern.pattern c.in_ok-pattern.was
+    c.read-found.ensures.pattern)
+    (needed-only c.args.bytes.now c.read-found.new.store (from-empty (SomeToRead c.args.bytes.now) c.new_store-store.result c.read-found.new.store
+    c.new_store-store.ensures.empty c.read-found.ensures.reads.adds))) c.text_of_read.ensures.fault

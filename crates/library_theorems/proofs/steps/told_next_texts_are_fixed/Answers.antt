@@ -7,11 +7,11 @@ pub returns-clause-by_rule : goal.returns-clause-by_rule
 returns-clause-by_rule c = λ status here.
     map_ok c.canon.result
     (λ again is. fixed_so c.args.text.now again.items _ _ _
-    (λ it stepped. next_is_fixed c.files_are_unique.ensures c.args.file.now it again.items stepped) c.step-by_rule.ensures status here is)
+    (λ it stepped. next_is_fixed c.files_are_unique.ensures c.args.file.now it again.items stepped) c.step-by_rule.ensures.answers status here is)
     c.canon.ensures.text
 
 pub returns-clause-by_table : goal.returns-clause-by_table
 returns-clause-by_table c = λ status here.
     map_ok c.canon.result
     (λ again is. fixed_by_so c.files_are_unique.ensures c.args.options.limit c.args.file.now c.args.rules.now c.args.text.now again.items _ _ _ _
-    c.step_by_table.ensures status here is) c.canon.ensures.text
+    c.step_by_table.ensures.steps status here is) c.canon.ensures.text

@@ -4,10 +4,10 @@ use Rattle.library_theorems.proofs.texts.told_texts_are_those_of_canon.Goals as 
 
 pub returns-clause-text : goal.returns-clause-text
 returns-clause-text c = λ status.
-    map_ok c.canon.result (λ text is. text_so c.files_are_unique.ensures c.args.file.now text.items _ _ _ is c.canon-text.ensures status) c.canon.ensures.text
+    map_ok c.canon.result (λ text is. text_so c.files_are_unique.ensures c.args.file.now text.items _ _ _ is c.canon-text.ensures.answers status) c.canon.ensures.text
 
 pub returns-clause-lines : goal.returns-clause-lines
 returns-clause-lines c = λ status.
     map_ok c.canon.result
     (λ text is. counted_so c.files_are_on_plane.ensures c.files_are_unique.ensures c.texts_are_files.ensures c.args.file.now text.items _ _ _ is
-    c.show-lines.ensures status) c.canon.ensures.text
+    c.show-lines.ensures.answers status) c.canon.ensures.text

@@ -1,0 +1,172 @@
+-- How many squares a call needs, by those that its store holds.
+--
+-- A `Needs` says of a property that a square which is needed has it; so `Needs (λ u. u ≡ t)` says that t is needed.
+use Rattle.std.proofs.Common.{◌≡◌, ◌≢◌, ◌⊎◌, inl, inr, ℕ, zero, suc, ◌<◌, ◌≤◌, ◌∙◌, false, List, [], ◌∷◌, ◌++◌, length, AllPairs, Result, Ok, Err, OnOk, IfOk, IfErr, sym, ap, subst, arith}
+use Rattle.std.specs.Prelude.{All, Contains}
+use Rattle.std.proofs.lemmas.List.{length-map}
+use Rattle.std.proofs.lemmas.List.Elements.{All-contains, All-contains_itself}
+use Rattle.std.proofs.lemmas.List.Kept.{AllPairs-cons}
+use Rattle.life_base.specs.Lines.{whole_lines}
+use Rattle.life_base.specs.Refusal.{fault_of}
+use Rattle.life_base.specs.Text.{lines_of}
+use Rattle.life_base.specs.Tree.{Tree, is_blank_tree}
+use Rattle.life_base.specs.declared.cell.TheConstants.{MAX_LEVEL}
+use Rattle.life_base.specs.declared.fault.Fault.{Fault}
+use Rattle.life_base.specs.declared.kind.Kind.TheVariants.{Full}
+use Rattle.life_quad.specs.Keeping.{AddsOnly}
+use Rattle.life_quad.specs.Store.{Nodes, IsShared, content, held, id_of}
+use Rattle.life_canon.specs.Calls.{EndsInto, FeedsInto, ReadsInto}
+use Rattle.life_canon.specs.Needs.{IsNew, LacksFor}
+use Rattle.life_canon.specs.Room.{HoldsFile, AddsFile, HoldsFront, HoldsOnly, room_for}
+use Rattle.life_canon.specs.Store.{IsRead}
+use Rattle.life_canon.specs.declared.pattern.Pattern.{Pattern}
+use Rattle.life_canon.proofs.RoomCount.{Found, find-file, find-lines}
+use Rattle.life_canon.proofs.RoomLists.{Among, among-contains, contains-among, distinct-pairs, pigeons}
+use Rattle.library_calls.specs.Outputs.{IsTooLowForFront, SomeOfFront}
+use Rattle.library_calls.specs.Texts.{Fits, IsTooLowFor, NeedsMore, SomeToRead, room_of}
+use Rattle.library_calls.proofs.Answering.{tight, tight-alone}
+
+-- what `len` of a store says: it holds each square once, and none that is blank
+pub record HoldsOnce (store : Nodes) : Type 0 where
+  pub distinct : AllPairs ◌≢◌ (held store)
+  pub live : (t : Tree) → Contains (held store) t → is_blank_tree t ≡ false
+
+-- all squares that a store holds are needed
+abbrev pub HoldsNeeded : ((Tree → Type 0) → Type 0) → Nodes → Type 0
+HoldsNeeded Needs store = (t : Tree) → Contains (held store) t → Needs (λ u. u ≡ t)
+
+no-square : {A : Type 0} (t : Tree) → Contains {X = Tree} [] t → A
+no-square t there = absurd (omega (arith, there.1))
+
+-- ---- more than the limit
+
+all-cons : (P : Tree → Type 0) (t : Tree) (squares : List Tree) → P t → All P squares → All P (t ∷ squares)
+all-cons P t squares p all zero d lt = p
+all-cons P t squares p all (suc k) d lt = all k d (omega (arith, lt))
+
+-- a store at its limit that holds needed squares alone and lacks one
+pub more-than-held : (Needs : (Tree → Type 0) → Type 0) (store : Nodes) → HoldsOnce store → HoldsNeeded Needs store → Found (IsNew store) Needs
+    → length (held store) ≡ store.limit → NeedsMore Needs store.limit
+more-than-held Needs store once needed lack full =
+    let squares = held store in
+    let new : All (λ u. lack.square ≢ u) squares = λ k d lt e.
+    lack.holds.1 (subst (Contains squares) (sym e) (All-contains_itself squares k d lt)) in
+    let Is = λ (t : Tree). (is_blank_tree t ≡ false) × Needs (λ u. u ≡ t) in
+    let one : (t : Tree) → Contains squares t → Is t = λ t there. (once.live t there, needed t there) in
+    (
+      lack.square ∷ squares,
+      AllPairs-cons ◌≢◌ lack.square squares new once.distinct,
+      all-cons Is lack.square squares (lack.holds.0, lack.some) (λ k d lt. one _ (All-contains_itself squares k d lt)),
+      omega (arith, full),
+    )
+
+-- what is needed is needed for more
+pub needs-more : (Needs Others : (Tree → Type 0) → Type 0) (most : ℕ) → ((P : Tree → Type 0) → Needs P → Others P) → NeedsMore Needs most
+    → NeedsMore Others most
+needs-more Needs Others most f more = (more.0, more.1, λ k d lt. let it = more.2 k d lt in (it.0, f _ it.1), more.3)
+
+-- ---- no more than the limit
+
+-- a store that has an Id is within its limit
+pub within : (store : Nodes) → IsShared store → length (held store) ≤ store.limit
+within store shared = let same = length-map store.log (λ k. content store (id_of k)) in let len = shared.len in omega (arith, same, len)
+
+-- all that is needed is held
+pub enough : (Needs : (Tree → Type 0) → Type 0) (store : Nodes) → IsShared store
+    → ((t : Tree) → is_blank_tree t ≡ false → Needs (λ u. u ≡ t) → Contains (held store) t) → ¬ NeedsMore Needs store.limit
+enough Needs store shared all more =
+    let squares = more.0 in
+    let Is = λ (t : Tree). (is_blank_tree t ≡ false) × Needs (λ u. u ≡ t) in
+    let have : (x : Tree) → Among squares x → Among (held store) x = λ x a.
+    let it : Is x = All-contains Is squares x more.2 (contains-among squares x a) in among-contains (held store) x (all x it.0 it.1) in
+    let least = pigeons squares (held store) (distinct-pairs squares more.1) have in
+    let most = within store shared in
+    let over = more.3 in
+    omega (arith, least, most, over)
+
+-- ---- what a store holds
+
+-- a store that was empty holds what calls added
+pub from-empty : (Needs : (Tree → Type 0) → Type 0) (old new : Nodes) → held old ≡ [] → AddsOnly held Needs old new → HoldsNeeded Needs new
+from-empty Needs old new empty adds t there = elim (adds.each t there) [
+  | inl before ↦ no-square t (subst (λ (squares : List Tree). Contains squares t) empty before)
+  | inr it ↦ it
+]
+
+-- one that held needed squares alone
+pub from-needed : (Before Added Needs : (Tree → Type 0) → Type 0) (old new : Nodes) → ((P : Tree → Type 0) → Before P → Needs P)
+    → ((P : Tree → Type 0) → Added P → Needs P) → HoldsNeeded Before old → AddsOnly held Added old new → HoldsNeeded Needs new
+from-needed Before Added Needs old new f g before adds t there = elim (adds.each t there) [
+  | inl it ↦ f _ (before t it)
+  | inr it ↦ g _ it
+]
+
+-- beside no square
+pub only-needed : (bytes : List ℕ) (store : Nodes) → HoldsOnly [] bytes store → HoldsNeeded (SomeToRead bytes) store
+only-needed bytes store only t there = elim (only t there) [ inl none ↦ no-square t none | inr it ↦ it ]
+
+pub needed-only : (bytes : List ℕ) (store : Nodes) → HoldsNeeded (SomeToRead bytes) store → HoldsOnly [] bytes store
+needed-only bytes store needed t there = inr (needed t there)
+
+pub only-more : (bytes : List ℕ) (old new : Nodes) → HoldsOnly [] bytes old → AddsFile bytes old new → HoldsOnly [] bytes new
+only-more bytes old new only adds t there = elim (adds.each t there) [ inl before ↦ only t before | inr own ↦ inr own ]
+
+-- ---- a call that succeeds, and one that is refused
+
+pub on-ok : {A P : Type 0} (result : Result A Fault) (x : A) → result ≡ Ok x → OnOk result P → P
+on-ok {A} {P} result x was p = subst (λ (r : Result A Fault). OnOk r P) was p
+
+pub if-ok : {A : Type 0} (P : A → Type 0) (result : Result A Fault) (x : A) → result ≡ Ok x → IfOk result P → P x
+if-ok {A} P result x was p = subst (λ (r : Result A Fault). IfOk r P) was p
+
+pub if-err : {A : Type 0} (P : Fault → Type 0) (result : Result A Fault) (fault : Fault) → result ≡ Err fault → IfErr result P → P fault
+if-err {A} P result fault was p = subst (λ (r : Result A Fault). IfErr r P) was p
+
+-- what holds of any answer that is an `Ok`
+pub where-ok : {A P : Type 0} (result : Result A Fault) → P → OnOk result P
+where-ok (Ok x) p = p
+where-ok (Err fault) p = tt
+
+-- ---- why a store is full
+
+-- where a file is read
+pub too-low : (bytes : List ℕ) (store : Nodes) → HoldsOnce store → HoldsNeeded (SomeToRead bytes) store → LacksFor MAX_LEVEL bytes store
+    → store.limit < room_for (length bytes) → length (held store) ≡ store.limit → IsTooLowFor bytes store.limit
+too-low bytes store once needed lacks low full =
+    (more-than-held (SomeToRead bytes) store once needed (find-file (IsNew store) (lines_of bytes) lacks) full, low)
+
+pub file-low : {A : Type 0} (bytes : List ℕ) (old new : Nodes) (result : Result A Fault) (fault : Fault) → result ≡ Err fault → held old ≡ []
+    → HoldsOnce new → ReadsInto bytes old new result → fault ≡ fault_of Full → length (held new) ≡ new.limit → IsTooLowFor bytes new.limit
+file-low {A} bytes old new result fault was empty once reads full at =
+    let is : result ≡ Err (fault_of Full) = was ∙ ap (λ (f : Fault). Err f) full in
+    too-low bytes new once (from-empty (SomeToRead bytes) old new empty reads.adds) (reads.needed is)
+    (tight (room_for (length bytes)) old new empty reads.keeps.limit (reads.room is)) at
+
+-- at the end of one that came in pieces
+pub end-low : {A : Type 0} (bytes : List ℕ) (old new : Nodes) (result : Result A Fault) (fault : Fault) → result ≡ Err fault → HoldsOnly [] bytes old
+    → HoldsOnce new → EndsInto bytes old new result → fault ≡ fault_of Full → length (held new) ≡ new.limit → IsTooLowFor bytes new.limit
+end-low {A} bytes old new result fault was only once ends full at =
+    let is : result ≡ Err (fault_of Full) = was ∙ ap (λ (f : Fault). Err f) full in
+    too-low bytes new once (only-needed bytes new (only-more bytes old new only ends.adds)) (ends.needed is)
+    (tight-alone (room_for (length bytes)) old new ends.keeps.limit (ends.room is [] only)) at
+
+-- with a piece
+pub piece-low : {A : Type 0} (before piece : List ℕ) (old new : Nodes) (result : Result A Fault) (fault : Fault) → result ≡ Err fault
+    → HoldsFront [] before old → HoldsFront [] (before ++ piece) new → HoldsOnce new → FeedsInto before piece old new result
+    → fault ≡ fault_of Full → length (held new) ≡ new.limit → IsTooLowForFront (before ++ piece) new.limit
+piece-low {A} before piece old new result fault was front only once feeds full at =
+    let is : result ≡ Err (fault_of Full) = was ∙ ap (λ (f : Fault). Err f) full in
+    let bytes = before ++ piece in
+    let needed : HoldsNeeded (SomeOfFront bytes) new = λ t there. elim (only t there) [ inl none ↦ no-square t none | inr it ↦ it ] in
+    (
+      more-than-held (SomeOfFront bytes) new once needed (find-lines (IsNew new) (whole_lines bytes) (feeds.needed is)) at,
+      tight-alone
+          (room_for (length bytes)) old new feeds.keeps.limit (feeds.room is [] front),
+    )
+
+-- ---- a file that was read
+
+pub file-fits : (bytes : List ℕ) (limit : ℕ) (store : Nodes) (pattern : Pattern) → IsRead MAX_LEVEL bytes store pattern → HoldsFile bytes (held store)
+    → store.limit ≡ room_of limit → Fits (SomeToRead bytes) limit
+file-fits bytes limit store pattern read all is =
+    subst (λ (most : ℕ). ¬ NeedsMore (SomeToRead bytes) most) is (enough (SomeToRead bytes) store read.is.known.1 all)
