@@ -178,10 +178,12 @@ first-read first second old new adds =
 pub read-both : (first second : List ℕ) (old mid new : Nodes) → AddsFile first old mid → AddsFile second mid new
     → AddsOnly held (SomeToReadBoth first second) old new
 read-both first second old mid new one other =
-    record { each = λ t there. elim (other.each t there) [
-      | inl before ↦ elim (one.each t before) [ inl there ↦ inl there | inr own ↦ inr (inl own) ]
-      | inr own ↦ inr (inr own)
-    ] }
+    record {
+      each = λ t there. elim (other.each t there) [
+        | inl before ↦ elim (one.each t before) [ inl there ↦ inl there | inr own ↦ inr (inl own) ]
+        | inr own ↦ inr (inr own)
+      ];
+    }
 
 -- so may the second, with the first
 pub second-low : RefusalsHaveKinds MAX_LEVEL → FewSquares → RoomSuffices → (first second : List ℕ) (old mid new : Nodes) (fault : Fault) → held old ≡ []

@@ -52,8 +52,7 @@ more-than-held Needs store once needed lack full =
     let new : All (λ u. lack.square ≢ u) squares = λ k d lt e.
     lack.holds.1 (subst (Contains squares) (sym e) (All-contains_itself squares k d lt)) in
     let Is = λ (t : Tree). (is_blank_tree t ≡ false) × Needs (λ u. u ≡ t) in
-    let one : (t : Tree) → Contains squares t → Is t = λ t there. (once.live t there, needed t there) in
-    (
+    let one : (t : Tree) → Contains squares t → Is t = λ t there. (once.live t there, needed t there) in (
       lack.square ∷ squares,
       AllPairs-cons ◌≢◌ lack.square squares new once.distinct,
       all-cons Is lack.square squares (lack.holds.0, lack.some) (λ k d lt. one _ (All-contains_itself squares k d lt)),
@@ -157,8 +156,7 @@ pub piece-low : {A : Type 0} (before piece : List ℕ) (old new : Nodes) (result
 piece-low {A} before piece old new result fault was front only once feeds full at =
     let is : result ≡ Err (fault_of Full) = was ∙ ap (λ (f : Fault). Err f) full in
     let bytes = before ++ piece in
-    let needed : HoldsNeeded (SomeOfFront bytes) new = λ t there. elim (only t there) [ inl none ↦ no-square t none | inr it ↦ it ] in
-    (
+    let needed : HoldsNeeded (SomeOfFront bytes) new = λ t there. elim (only t there) [ inl none ↦ no-square t none | inr it ↦ it ] in (
       more-than-held (SomeOfFront bytes) new once needed (find-lines (IsNew new) (whole_lines bytes) (feeds.needed is)) at,
       tight-alone
           (room_for (length bytes)) old new feeds.keeps.limit (feeds.room is [] front),

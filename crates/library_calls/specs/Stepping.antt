@@ -25,7 +25,8 @@ RefusesStepWithin limit bytes fault =
 abbrev pub RefusesStepByWithin : Table → ℕ → List ℕ → Fault → Type 0
 RefusesStepByWithin table limit bytes fault =
     Refuses MAX_LEVEL bytes fault
-    ⊎ (Wants (NeedsMore (λ P. SomeOfStepBy P table bytes)) limit fault ⊎ ((u : Universe) × Reads MAX_LEVEL bytes u × TableRefusal MAX_LEVEL table u (Some fault)))
+    ⊎ (Wants (NeedsMore (λ P. SomeOfStepBy P table bytes)) limit fault ⊎
+    ((u : Universe) × Reads MAX_LEVEL bytes u × TableRefusal MAX_LEVEL table u (Some fault)))
 
 -- The file of the table is one, and the step by it is told; or the fault of the table's file is told.
 pub data StepsByTable (limit : ℕ) (bytes table_bytes : List ℕ) (in_table : ℕ) (before after : List ℕ) (it : Told) : Type 0 where

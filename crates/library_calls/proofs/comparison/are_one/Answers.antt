@@ -56,7 +56,8 @@ returns-in-Moved-clause-accepted c =
 
 pub returns-in-Moved-clause-answer : goal.returns-in-Moved-clause-answer
 returns-in-Moved-clause-answer c =
-    subst (λ (f : PatternForm). IfOk c.are_shifts-answer.result (λ answer. IsTrue answer ↔ AreOneInForm f c.args.first.now c.args.second.now)) (sym c.in-Moved.is)
+    subst (λ (f : PatternForm). IfOk c.are_shifts-answer.result (λ answer. IsTrue answer ↔ AreOneInForm f c.args.first.now c.args.second.now))
+    (sym c.in-Moved.is)
     (IfOk-weaker c.are_shifts-answer.result _ _ (λ answer told. files-told c.files_are_unique.ensures IsShift c.args.first.now c.args.second.now _ _ answer
     (reads-it c.patterns_fit.ensures _ _ _ c.in_ok-a.ensures.one) (reads-it c.patterns_fit.ensures _ _ _ c.in_ok-a.ensures.other) told)
     c.are_shifts-answer.ensures.answer)

@@ -50,7 +50,8 @@ returns-in-Lines-clause-fault c =
     IfErr-weaker c.five_lines_of.result _ _ (wants c.args.output c.args.store.now c.args.pattern) c.five_lines_of.ensures.memory
 
 pub returns-in-Next-clause-text : goal.returns-in-Next-clause-text
-returns-in-Next-clause-text c = of-form c.args.store.now c.args.pattern (λ text. text.items) c.next_by_rule-text.result c.in-Next.is c.next_by_rule-text.ensures.stepped
+returns-in-Next-clause-text c = of-form c.args.store.now c.args.pattern
+    (λ text. text.items) c.next_by_rule-text.result c.in-Next.is c.next_by_rule-text.ensures.stepped
 
 pub returns-in-Next-clause-fault : goal.returns-in-Next-clause-fault
 returns-in-Next-clause-fault c =

@@ -4,7 +4,8 @@ use Rattle.library_theorems.proofs.texts.told_texts_are_those_of_canon.Goals as 
 
 pub returns-clause-text : goal.returns-clause-text
 returns-clause-text c = λ status.
-    map_ok c.canon.result (λ text is. text_so c.files_are_unique.ensures c.args.file.now text.items _ _ _ is c.canon-text.ensures.answers status) c.canon.ensures.text
+    map_ok c.canon.result (λ text is. text_so c.files_are_unique.ensures c.args.file.now text.items _ _ _ is c.canon-text.ensures.answers status)
+    c.canon.ensures.text
 
 pub returns-clause-lines : goal.returns-clause-lines
 returns-clause-lines c = λ status.

@@ -97,7 +97,8 @@ returns-in_err-square-clause-needed c full =
 pub returns-clause-needed : goal.returns-clause-needed
 returns-clause-needed c full =
     let square = c.in_ok-square.ensures in
-    root-by_rule (IsNew c.text_of_square.new.store) (content c.args.store.now c.args.pattern.root) c.in-Life.is (known_squares_are_full c.next_life_generation.new.squares _ square.known.0).0 square.level
+    root-by_rule (IsNew c.text_of_square.new.store) (content c.args.store.now c.args.pattern.root) c.in-Life.is
+    (known_squares_are_full c.next_life_generation.new.squares _ square.known.0).0 square.level
     square.next (c.text_of_square.ensures.needed full)
 
 pub returns-in_err-square-clause-adds : goal.returns-in_err-square-clause-adds
