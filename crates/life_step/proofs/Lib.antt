@@ -3,3 +3,4 @@ mod RefusalFacts
 mod StepFacts
 mod NeedFacts
 mod Rows
+pub mod Finding
