@@ -2,7 +2,7 @@ use Rattle.std.proofs.Common.{sym, ◌∙◌, subst}
 use Rattle.library_calls.specs.Outputs.{IsTextOf, RefusesTextOf}
 use Rattle.library_calls.specs.Told.{Answers}
 use Rattle.library_calls.specs.declared.texts.Output.{Output}
-use Rattle.library_calls.proofs.Answering.{at-form, no-form}
+use Rattle.library_calls.proofs.Answering.{at-form}
 use Rattle.library_calls.proofs.TextFacts.{answers-in-form}
 use Rattle.library_calls.proofs.in_form.canon_form.Goals as goal
 
@@ -12,6 +12,3 @@ returns-clause-answers c =
     (answers-in-form c.in-Some.form c.args.options.limit c.args.bytes.now _ _ _
     (subst (λ (f : Output). Answers (IsTextOf f c.args.bytes.now) (RefusesTextOf f c.args.options.limit c.args.bytes.now) c.args.out.now c.answer.new.out
     c.answer.result) c.text_in.ensures c.answer.ensures.answers))
-
-pub returns-in-None-clause-fits : goal.returns-in-None-clause-fits
-returns-in-None-clause-fits c = no-form c.no_form.result c.no_form.ensures

@@ -3,7 +3,7 @@ use Rattle.sha2.specs.Sha256.{sha256}
 use Rattle.library_calls.specs.Outputs.{IsTextOf, RefusesTextOf}
 use Rattle.library_calls.specs.Told.{by_text, by_fault}
 use Rattle.library_calls.specs.declared.texts.Output.{Output}
-use Rattle.library_calls.proofs.Answering.{at-form, no-form, no-text}
+use Rattle.library_calls.proofs.Answering.{at-form, no-text}
 use Rattle.library_calls.proofs.TextFacts.{in-form, refused-in-form}
 use Rattle.library_calls.proofs.in_form.key.Goals as goal
 
@@ -25,6 +25,3 @@ returns-in-Err-clause-answers c =
 
 pub returns-in-Err-clause-fits : goal.returns-in-Err-clause-fits
 returns-in-Err-clause-fits c = no-text c.refuse.result c.in-Err.fault c.refuse.ensures.status
-
-pub returns-in-None-clause-fits : goal.returns-in-None-clause-fits
-returns-in-None-clause-fits c = no-form c.no_form.result c.no_form.ensures

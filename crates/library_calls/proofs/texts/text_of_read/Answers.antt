@@ -95,6 +95,6 @@ returns-in_err-moved-in-Moved-clause-fault c =
     let was = c.in_err-moved-in-Moved.was in
     rw (p.1, p.2) (λ limit bytes is read only. subst (λ (f : Output). RefusesTextOf f limit bytes fault) (sym c.in-Moved.is)
     (unmoved c.patterns_fit.ensures limit bytes c.args.store.now c.moved_of-found.new.store c.args.pattern fault (c.moved_of-found.ensures.keeps.limit ∙ is)
-    read only (record { distinct = c.len-2.ensures.distinct; live = λ t there. (c.len-2.ensures.only t there).0 }) c.moved_of-found.ensures.adds
+    read only (record { distinct = c.len-in-Moved.ensures.distinct; live = λ t there. (c.len-in-Moved.ensures.only t there).0 }) c.moved_of-found.ensures.adds
     (if-err _ c.moved_of-found.result fault was c.moved_of-found.ensures.fault)
     (λ full. c.moved_of-found.ensures.needed (was ∙ ap (λ (f : Fault). Err f) full))))
