@@ -9,7 +9,7 @@ use Rattle.life_canon.specs.Laws.{FaultsStay}
 use Rattle.theorems.specs.Joined.{joined}
 use Rattle.theorems.proofs.PieceLaw.{joined_all, joined_split}
 use Rattle.theorems.proofs.RefusalLaw.{refuses_agree}
-use Rattle.library_calls.specs.Outputs.{IsTextOf, RefusesTextOf, RefusesPiece}
+use Rattle.library_calls.specs.Outputs.{IsTextOf, IsTooLowForFront, RefusesTextOf, RefusesPiece}
 use Rattle.library_calls.specs.Streams.{IsOpen, IsFed, HasFault, Opens, Takes, by_piece, Ends, TellsEnd}
 use Rattle.library_calls.specs.Streams as streams
 use Rattle.library_calls.specs.declared.told.Told.{Told}
@@ -48,7 +48,8 @@ of_all stay limit pieces k fault (inl front) =
     let whole = refuses_agree (joined (take k pieces) ++ joined (drop k pieces)) fault
     (stay (joined (take k pieces)) (joined (drop k pieces)) fault front).refuses in
     subst (λ (bytes : List ℕ). IsUnreadWithin limit bytes fault) (sym (joined_split pieces k)) (inl whole)
-of_all stay limit pieces k fault (inr w) = inr (want_below (squares_for (joined pieces)) limit fault (λ most low. below most low.1) w)
+of_all stay limit pieces k fault (inr w) = inr (want_below (IsTooLowForFront (joined (take k pieces))) (squares_for (joined pieces)) limit fault
+    (λ most low. below most low.1) w)
   where
     below : (most : ℕ) → most < squares_for (joined (take k pieces)) → most < squares_for (joined pieces)
     below most low =

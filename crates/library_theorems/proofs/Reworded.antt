@@ -32,10 +32,10 @@ use Rattle.theorems.proofs.TextLaw.{rle_of_file}
 use Rattle.theorems.proofs.StreamLaw.{one_text}
 use Rattle.step_theorems.proofs.StepLaw.{unstepped_is}
 use Rattle.step_theorems.proofs.StepBy.{next_by_is_fixed, stepped_is, unstepped_is as unstepped_by_is}
-use Rattle.library_calls.specs.Texts.{Wants, RefusesWithin, RefusesRleWithin}
+use Rattle.library_calls.specs.Texts.{IsTooLowFor, Wants, RefusesWithin, RefusesRleWithin}
 use Rattle.library_calls.specs.Texts.{IsCanonicalText as LayerText, IsRleText as LayerRle}
 use Rattle.library_calls.specs.declared.compared.Compared.{Compared}
-use Rattle.library_calls.specs.Comparing.{ComparesWithin, by_answer, IsAnswerOf, RefusesEither}
+use Rattle.library_calls.specs.Comparing.{ComparesWithin, by_answer, IsAnswerOf, IsTooLowForBoth, RefusesEither}
 use Rattle.library_calls.specs.Comparing as comparing
 use Rattle.library_calls.specs.Outputs.{IsTextOf, RefusesTextOf}
 use Rattle.library_calls.specs.declared.texts.Output.{Output}
@@ -103,19 +103,19 @@ lines_so least on_plane unique files keep file text s =
 -- ---- why there is none
 
 -- a limit that was too low is below the room
-pub want_below : {IsTooLow : ℕ → Type 0} (room limit : ℕ) (fault : Fault) → ((most : ℕ) → IsTooLow most → most < room) → Wants IsTooLow limit fault
+pub want_below : (IsTooLow : ℕ → Type 0) (room limit : ℕ) (fault : Fault) → ((most : ℕ) → IsTooLow most → most < room) → Wants IsTooLow limit fault
     → IsWantBelow room limit fault
-want_below room limit fault tight (inl memory) = inr memory
-want_below room limit fault tight (inr full) = inl (full.0, tight _ full.1)
+want_below IsTooLow room limit fault tight (inl memory) = inr memory
+want_below IsTooLow room limit fault tight (inr full) = inl (full.0, tight _ full.1)
 
 -- memory was wanted, or room
-wanted : {IsTooLow : ℕ → Type 0} (limit : ℕ) (fault : Fault) → Wants IsTooLow limit fault → IsWant fault
-wanted limit fault (inl memory) = inr memory
-wanted limit fault (inr full) = inl full.0
+wanted : (IsTooLow : ℕ → Type 0) (limit : ℕ) (fault : Fault) → Wants IsTooLow limit fault → IsWant fault
+wanted IsTooLow limit fault (inl memory) = inr memory
+wanted IsTooLow limit fault (inr full) = inl full.0
 
 pub unread : (limit : ℕ) (file : List ℕ) (fault : Fault) → RefusesWithin limit file fault → IsUnreadWithin limit file fault
 unread limit file fault (inl refuses) = inl (refuses_agree file fault refuses)
-unread limit file fault (inr w) = inr (want_below (squares_for file) limit fault (λ most low. low.1) w)
+unread limit file fault (inr w) = inr (want_below (IsTooLowFor file) (squares_for file) limit fault (λ most low. low.1) w)
 
 -- whatever the limit
 pub unread_at_all : (limit : ℕ) (file : List ℕ) (fault : Fault) → IsUnreadWithin limit file fault → IsUnread file fault
@@ -130,7 +130,7 @@ unwritten limit file fault (inr many) = inr (many.0, says_more file many.1)
 pub unstepped : FilesAreOnPlane 62 → (limit : ℕ) (file : List ℕ) (fault : Fault) → RefusesStepWithin limit file fault
     → IsUnread file fault ⊎ IsUnstepped file fault
 unstepped on_plane limit file fault (inl refuses) = inl (inl (refuses_agree file fault refuses))
-unstepped on_plane limit file fault (inr (inl w)) = inl (inr (wanted limit fault w))
+unstepped on_plane limit file fault (inr (inl w)) = inl (inr (wanted _ limit fault w))
 unstepped on_plane limit file fault (inr (inr h)) = inr (unstepped_is on_plane file h.0 fault h.1 h.2)
 
 -- ---- by a table
@@ -138,7 +138,7 @@ unstepped on_plane limit file fault (inr (inr h)) = inr (unstepped_is on_plane f
 unstepped_by : TablesDecide → (layer : LayerTable) (table : Table) → IsTable layer table → (limit : ℕ) (file : List ℕ) (fault : Fault)
     → RefusesStepByWithin layer limit file fault → IsUnread file fault ⊎ IsUnsteppedBy table file fault
 unstepped_by decide layer table is limit file fault (inl refuses) = inl (inl (refuses_agree file fault refuses))
-unstepped_by decide layer table is limit file fault (inr (inl w)) = inl (inr (wanted limit fault w))
+unstepped_by decide layer table is limit file fault (inr (inl w)) = inl (inr (wanted _ limit fault w))
 unstepped_by decide layer table is limit file fault (inr (inr h)) = inr (unstepped_by_is decide layer table is file h.0 h.1 fault h.2)
 
 -- what is told of a step by a table
@@ -182,7 +182,8 @@ uncompared : (limit : ℕ) (first second : List ℕ) (fault : Fault) → Refuses
     ⊎ ((IsOk (pattern_of first) × (pattern_of second ≡ Err fault)) ⊎ IsWantBelow (squares_for first + squares_for second) limit fault)
 uncompared limit first second fault (inl refuses) = inl (refuses_agree first fault refuses)
 uncompared limit first second fault (inr (inl h)) = inr (inl (accepted_is_ok first h.0, refuses_agree second fault h.1))
-uncompared limit first second fault (inr (inr w)) = inr (inr (want_below (squares_for first + squares_for second) limit fault (λ most low. low.1) w))
+uncompared limit first second fault (inr (inr w)) = inr (inr (want_below (IsTooLowForBoth first second) (squares_for first + squares_for second) limit fault
+    (λ most low. low.1) w))
 
 pub compared_so : FilesAreOnPlane 62 → (limit : ℕ) (first second : List ℕ) (told : Compared) → ComparesWithin limit first second told → told.status ≡ 0
     → (told.line ≡ 0) × IsOk (pattern_of first) × IsOk (pattern_of second)

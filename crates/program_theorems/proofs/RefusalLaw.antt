@@ -93,7 +93,7 @@ record IsOfTable (fault : Fault) : Type 0 where
   pub kind : fault.kind ≡ kinds.WriteFault → ⊥
 
 table_reason : (table : Table) (now : Pattern) (fault : Fault) → IsFirstReasonBy table now fault → IsOfTable fault
-table_reason table now _ (table_steps.other_rule r) = record { line = inr refl; kind = λ e. cc }
+table_reason table now _ (table_steps.rule_differs r) = record { line = inr refl; kind = λ e. cc }
 table_reason table now _ (table_steps.last_generation r g) = record { line = inr refl; kind = λ e. cc }
 table_reason table now _ (table_steps.many_cells r g m) = record { line = inr refl; kind = λ e. cc }
 table_reason table now _ (table_steps.state_beyond r g m s) = record { line = inr refl; kind = λ e. cc }
