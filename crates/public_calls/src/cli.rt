@@ -1,7 +1,7 @@
 //! Calls and types of `life_cli`.
 
 ghost use Rattle.std.specs.Prelude.{◌≡◌, ◌↔◌, IsSome, IfSome, false};
-ghost use Rattle.life_cli.specs.Plans.{HasSecond};
+ghost use Rattle.life_cli.specs.Plans.{HasSecond, task_of};
 
 use life_base::{Sink, Source};
 use life_cli::{Job, Plan, Target, Usage, plan, work};
@@ -29,7 +29,7 @@ pub fn worked<A: Source, B: Source, O: Sink, E: Sink>(
 ) -> u8
     requires first_reads { A.failures first.old ≡ 0 }
     requires second_reads { IfSome second.old (λ b. B.failures b ≡ 0) }
-    requires second_given { IsSome second.old ↔ HasSecond job.now }
+    requires second_given { IsSome second.old ↔ HasSecond (task_of job.now) }
     requires writes { O.failures out.old ≡ 0 }
     requires takes { O.stalled out.old ≡ false }
     requires reports { E.failures err.old ≡ 0 }

@@ -2,7 +2,7 @@
 
 ghost use Rattle.std.specs.Prelude.{◌≡◌, true};
 ghost use Rattle.life_base.specs.declared.cell.TheConstants.{MAX_LEVEL};
-ghost use Rattle.life_rle.specs.Written.{are_sorted_cells};
+ghost use Rattle.life_rle.specs.Sorted.{are_sorted_cells};
 
 use life_base::{Cell, Fault, Items, Kind, Rule, State};
 use life_rle::{RleFile, RleLines, Run, read_rle, sorted_cells, write_rle};
