@@ -32,13 +32,14 @@ use Rattle.theorems.proofs.TextLaw.{rle_of_file}
 use Rattle.theorems.proofs.StreamLaw.{one_text}
 use Rattle.step_theorems.proofs.StepLaw.{unstepped_is}
 use Rattle.step_theorems.proofs.StepBy.{next_by_is_fixed, stepped_is, unstepped_is as unstepped_by_is}
-use Rattle.library_calls.specs.Texts.{IsTooLowFor, Wants, RefusesWithin, RefusesRleWithin}
+use Rattle.library_calls.specs.Texts.{IsTooLowFor, NeedsMore, Wants, RefusesWithin, RefusesRleWithin}
 use Rattle.library_calls.specs.Texts.{IsCanonicalText as LayerText, IsRleText as LayerRle}
 use Rattle.library_calls.specs.declared.compared.Compared.{Compared}
 use Rattle.library_calls.specs.Comparing.{ComparesWithin, by_answer, IsAnswerOf, IsTooLowForBoth, RefusesEither}
 use Rattle.library_calls.specs.Comparing as comparing
 use Rattle.library_calls.specs.Outputs.{IsTextOf, RefusesTextOf}
 use Rattle.library_calls.specs.declared.texts.Output.{Output}
+use Rattle.life_step.specs.Refusals.{SomeOfStep, SomeOfStepBy}
 use Rattle.library_calls.specs.Stepping.{RefusesStepWithin, RefusesStepByWithin, StepsByTable, by_table, by_no_table}
 use Rattle.library_calls.specs.declared.told.Told.{Told}
 use Rattle.library_calls.specs.Told.{Copies, LacksRoom, Gives, Tells, Answers, by_text, by_fault}
@@ -130,7 +131,7 @@ unwritten limit file fault (inr many) = inr (many.0, says_more file many.1)
 pub unstepped : FilesAreOnPlane 62 → (limit : ℕ) (file : List ℕ) (fault : Fault) → RefusesStepWithin limit file fault
     → IsUnread file fault ⊎ IsUnstepped file fault
 unstepped on_plane limit file fault (inl refuses) = inl (inl (refuses_agree file fault refuses))
-unstepped on_plane limit file fault (inr (inl w)) = inl (inr (wanted _ limit fault w))
+unstepped on_plane limit file fault (inr (inl w)) = inl (inr (wanted (NeedsMore (λ P. SomeOfStep P file)) limit fault w))
 unstepped on_plane limit file fault (inr (inr h)) = inr (unstepped_is on_plane file h.0 fault h.1 h.2)
 
 -- ---- by a table
@@ -138,7 +139,8 @@ unstepped on_plane limit file fault (inr (inr h)) = inr (unstepped_is on_plane f
 unstepped_by : TablesDecide → (layer : LayerTable) (table : Table) → IsTable layer table → (limit : ℕ) (file : List ℕ) (fault : Fault)
     → RefusesStepByWithin layer limit file fault → IsUnread file fault ⊎ IsUnsteppedBy table file fault
 unstepped_by decide layer table is limit file fault (inl refuses) = inl (inl (refuses_agree file fault refuses))
-unstepped_by decide layer table is limit file fault (inr (inl w)) = inl (inr (wanted _ limit fault w))
+unstepped_by decide layer table is limit file fault (inr (inl w)) =
+    inl (inr (wanted (NeedsMore (λ P. SomeOfStepBy P layer file)) limit fault w))
 unstepped_by decide layer table is limit file fault (inr (inr h)) = inr (unstepped_by_is decide layer table is file h.0 h.1 fault h.2)
 
 -- what is told of a step by a table
