@@ -3,8 +3,8 @@ use Rattle.std.proofs.lemmas.Int.{ints}
 use Rattle.life_base.specs.Tree.{half_side}
 use Rattle.square_tests.proofs.quad.put.Goals as goal
 
-pub put_run-requires-clause-inside : goal.put_run-requires-clause-inside
-put_run-requires-clause-inside g c =
+pub set_run-requires-clause-inside : goal.set_run-requires-clause-inside
+set_run-requires-clause-inside g c =
     let half : c.half_side-half.result ≡ half_side (g.S.Squares.content c.args.squares.now c.args.root) = c.half_side-half.ensures.half
     ∙ ap (λ l. 2 ^ (l - 1)) c.level-level.ensures.level in
     let x = c.if-x-half.false in
