@@ -7,7 +7,9 @@ usage: tests/program/definitions.py PROGRAM [--cases N] [--seed SEED] [--jobs N]
 Of each random pattern file, about half of which are refused:
 
 - it is refused at the line and as the kind that `pattern_of` says, and where that says a pattern, it is read;
-- what `canon` and `convert` write of it is a file of the same pattern, and `show` writes the five lines;
+- what `canon` and `convert` write of it is a file of the same pattern, and exactly the text that `IsTextOfPattern` or `IsRleOfPattern` allows, and `show`
+  writes the five lines;
+- what `canon` writes of it in a form is exactly the text that `IsTextOfForm` allows, and `same` finds that text and the file the same in the form;
 - `same` tells whether it and another file are the same;
 - `step` writes a file of the next pattern, or names a reason why there is none, and so it does by a table, which is refused as `table_of` says.
 
@@ -29,7 +31,7 @@ sys.path.insert(0, os.path.dirname(os.path.dirname(os.path.abspath(__file__))))
 
 import compare  # noqa: E402
 from independent.fuzz import edge_files, random_files  # noqa: E402
-from independent.transcribed import counting, files, generation, rle, shown, table  # noqa: E402
+from independent.transcribed import canonical, counting, files, forms, generation, rle, rle_text, shown, table  # noqa: E402
 from independent.transcribed.pattern import EDGE, is_coordinate  # noqa: E402
 from independent.transcribed.planes import Planes  # noqa: E402
 from independent.transcribed.rules import Counting, Named  # noqa: E402
@@ -40,6 +42,10 @@ MOST_CELLS = 2**20
 MOST_STEPPED = 2**11
 # The longest RLE that is read here.
 LONGEST_READ = 2**16
+# The most cells of a pattern whose texts in the forms are compared, of which eight images are made.
+MOST_TURNED = 2**8
+# The greatest level of a square whose canonical text is worked out as the definitions are written, too.
+MOST_LEVELS = 4
 # The cells of each pattern that are compared one by one: those of a window, and some others.
 WINDOW = range(-1, 3)
 OTHER_CELLS = 8
@@ -48,6 +54,7 @@ STEPPED = b"x = 3, y = 3, rule = Foo\nA.B$2A$B!\n"
 # A run of so many random cases has to be refused as each kind, and to have each answer.
 ENOUGH = 1600
 ANSWERS = ["read", "shown", "same", "different", "written as RLE", "stepped", "changed by a table", "no longer than a rival"]
+ANSWERS += ["canonical as written", "moved", "turned"]
 ANSWERS += [f"stepped by {word.decode()} of {neighbours}" for neighbours in (4, 8) for word in table.symmetries_of(neighbours)]
 
 
@@ -129,6 +136,46 @@ def text_problems(source, planes, read, text):
     for x, y in single_cells(source, planes, read):
         if written.pattern.cell(x, y) != read.pattern.cell(x, y):
             yield f"a text with state {written.pattern.cell(x, y)} at {x}, {y}, where the file has {read.pattern.cell(x, y)}: {compare.escaped(text)}"
+
+
+# ---- The one text that a definition allows
+
+
+def canonical_text(planes, pattern, root):
+    """The text of `IsTextOfPattern`."""
+    made = canonical.Squares()
+    return canonical.text_of_pattern(
+        pattern.rule, pattern.generation, planes.box(root), lambda level: planes.square_of(made, planes.middle(root, level), level))
+
+
+def rle_of_pattern(planes, read):
+    """The text of `IsRleOfPattern`."""
+    cells = sorted(planes.cells(read.root), key=lambda cell: (cell[0][1], cell[0][0]))
+    return rle_text.rle_of_pattern(read.pattern.rule, read.pattern.generation, planes.box(read.root), cells)
+
+
+def text_of_form(planes, read, form):
+    """The text of `IsTextOfForm` in the form `moved` or `turned`."""
+    def text_of(cells):
+        return canonical_text(planes, read.pattern, drawn(planes, cells))
+
+    return {"moved": forms.moved_text, "turned": forms.turned_text}[form](dict(planes.cells(read.root)), text_of)
+
+
+def text_as_written(planes, read):
+    """The text of `IsTextOfPattern` by the definitions as they are written, or None where its square has too many cells for that."""
+    pattern = read.pattern
+    level = canonical.level_of(pattern.rule, planes.box(read.root))
+    if level > MOST_LEVELS:
+        return None
+    square = canonical.middle_square(canonical.Squares(), pattern.cell, level)
+    return canonical.square_text_as_written(pattern.rule, pattern.generation, square)
+
+
+def exact_problems(allowed, text):
+    """A text is the one that a definition allows."""
+    if text != allowed:
+        yield f"the definitions allow {compare.escaped(allowed)}, the program writes {compare.escaped(text)}"
 
 
 def around(places):
@@ -325,6 +372,11 @@ class Judge:
         self.answers["read"] += 1
         self.note(words, drawing_problems(self.source, self.planes, self.read))
         self.note(words, text_problems(self.source, self.planes, self.read, text.output))
+        self.note(words, exact_problems(canonical_text(self.planes, self.read.pattern, self.read.root), text.output))
+        as_written = text_as_written(self.planes, self.read)
+        if as_written is not None:
+            self.answers["canonical as written"] += 1
+            self.note(words, exact_problems(as_written, text.output))
         nodes = counting.node_lines(text.output)
         for rival in (self.read, self.other):
             if rival.fault is None and same(self.read, rival) and counting.is_rival(rival.pattern.rule, rival.data):
@@ -352,6 +404,32 @@ class Judge:
         if text is not None and len(text.output) <= LONGEST_READ:
             self.answers["written as RLE"] += 1
             self.note(words, text_problems(self.source, self.planes, self.read, text.output))
+            self.note(words, exact_problems(rle_of_pattern(self.planes, self.read), text.output))
+
+    def in_form(self):
+        form = self.source.choice(["moved", "turned"])
+        words = ["canon", self.name, "--form", form]
+        population = 0 if self.read.fault else self.planes.population(self.read.root)
+        if MOST_TURNED < population <= MOST_CELLS:
+            return
+        faults = {line_of(self.read.fault)} if self.read.fault else {"TooManyCells\n"} if population > MOST_CELLS else set()
+        text = self.taken(words, faults)
+        if text is not None:
+            self.answers[form] += 1
+            self.note(words, exact_problems(text_of_form(self.planes, self.read, form), text.output))
+            self.same_in(form, reading(self.planes, text.output), "written")
+            if self.other.fault is None and self.planes.population(self.other.root) <= MOST_TURNED:
+                self.same_in(form, self.other, "other")
+
+    def same_in(self, form, other, name):
+        """Compares the file with another one, by `IsShift` or `IsTurnedShift`."""
+        self.judged.put(name, other.data)
+        words = ["same", self.name, name, "--form", form]
+        one, cells = dict(self.planes.cells(self.read.root)), dict(self.planes.cells(other.root))
+        is_same = self.read.pattern[:2] == other.pattern[:2] and {"moved": forms.is_shift, "turned": forms.is_turned_shift}[form](one, cells)
+        got, wanted = self.answer(*words), (0, b"same\n") if is_same else (1, b"different\n")
+        if (got.status, got.output, got.fault) != (*wanted, ""):
+            self.note(words, [f"the definitions say {wanted[1]}, the program {got}"])
 
     def same(self):
         words = ["same", self.name, "other"]
@@ -386,7 +464,7 @@ class Judge:
 
     def finding(self):
         """Of a file that is refused one command beside `canon` is enough."""
-        others = [] if self.case.only_step else [self.rle, self.same, self.step]
+        others = [] if self.case.only_step else [self.rle, self.in_form, self.same, self.step]
         if self.case.table is not None:
             others.append(self.step_by_table)
         if not self.case.only_step:

@@ -2,7 +2,7 @@
 
 from .library import count_by, drop, list_any, slice_index
 from .macrocell import is_leaf_byte
-from .rules import Counting
+from .rules import is_counting
 from .text import begins_with, is_blank, lines_of, trim
 
 
@@ -16,10 +16,6 @@ def node_lines(data):
 
 def has_leaves(data):
     return list_any(lambda line: is_node_line(line) and is_leaf_byte(slice_index(trim(line), 0)), drop(1, lines_of(data)))
-
-
-def is_counting(rule):
-    return isinstance(rule, Counting)
 
 
 def is_rival(rule, rival):

@@ -134,3 +134,7 @@ def long_value(text):
 def decimal(n):
     """The last 64 digits at most."""
     return codes(str(n % 10**64) if n < 10**64 else f"{n % 10**64:064}")
+
+
+def signed_decimal(z):
+    return decimal(z) if z >= 0 else codes("-") + decimal(-z)

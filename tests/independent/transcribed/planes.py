@@ -104,6 +104,23 @@ class Planes:
             number = self.quarters[number][2 * (y >> level & 1) + (x >> level & 1)]
         return number
 
+    def middle(self, root, level):
+        """The square of a level, above 0, about the middle of the plane."""
+        for lower in range(TOP - 1, level - 1, -1):
+            nw, ne, sw, se = (self.quarters[it] if it else (0, 0, 0, 0) for it in (self.quarters[root] if root else (0, 0, 0, 0)))
+            root = self.square(lower, nw[3], ne[2], sw[1], se[0])
+        return root
+
+    def square_of(self, made, number, level):
+        """A square as `made`, the `Squares` of `canonical.py`, makes it."""
+        if level == 0:
+            return made.point(number)
+        key = ("square", made, number, level)
+        if key not in self.known:
+            quarters = self.quarters[number] if number else (0, 0, 0, 0)
+            self.known[key] = made.quarters(*(self.square_of(made, it, level - 1) for it in quarters))
+        return self.known[key]
+
     def population(self, number, level=TOP):
         if level == 0 or number == 0:
             return int(number != 0)

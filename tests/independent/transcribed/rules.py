@@ -109,3 +109,14 @@ DEFAULT_RULE = Counting(8, (3,), (2, 3))
 
 def largest_state(rule):
     return 1 if isinstance(rule, Counting) else 255
+
+
+def is_counting(rule):
+    return isinstance(rule, Counting)
+
+
+def rule_text(rule):
+    if isinstance(rule, Counting):
+        births, survivals = (bytes(byte("0") + n for n in counts) for counts in (rule.births, rule.survivals))
+        return codes("B") + births + codes("/S") + survivals + (codes("V") if rule.neighbours == 4 else b"")
+    return rule.name

@@ -1,18 +1,7 @@
 """The five lines that tell a pattern."""
 
-from .library import byte, codes, decimal
-from .rules import Counting
-
-
-def signed_decimal(z):
-    return decimal(z) if z >= 0 else codes("-") + decimal(-z)
-
-
-def rule_text(rule):
-    if isinstance(rule, Counting):
-        births, survivals = (bytes(byte("0") + n for n in counts) for counts in (rule.births, rule.survivals))
-        return codes("B") + births + codes("/S") + survivals + (codes("V") if rule.neighbours == 4 else b"")
-    return rule.name
+from .library import codes, decimal, signed_decimal
+from .rules import rule_text
 
 
 def box_line(box):
