@@ -37,30 +37,25 @@ LONGEST, MOST_CELLS = 2**11, 2**9
 CANONICAL, RLE = "canonical texts", "texts in RLE"
 # A run of so many random files, of which more than half are small patterns, has to have so many alterations of canonical texts at least, and so many files
 # of the same pattern among them.
-ENOUGH, LEAST = 140, {"alterations of canonical texts": 2000, "alterations of canonical texts that are files of the same pattern": 1200}
-
-
-def is_canonical_text(planes, read, text):
-    """`IsCanonicalText`, but for the rivals that are not at hand."""
-    return is_rival(planes, read, text) and text == definitions.canonical_text(planes, read.pattern, read.root)
-
-
-def is_rival(planes, read, text):
-    written = definitions.reading(planes, text)
-    return is_same(read, written) and counting.is_rival(written.pattern.rule, text)
+ENOUGH, LEAST = 120, {"alterations of canonical texts": 2000, "alterations of canonical texts that are files of the same pattern": 1200}
 
 
 def is_same(read, written):
     return written.fault is None and definitions.same(read, written)
 
 
-def is_rle_of_file(planes, read, text):
-    """`IsRleOfFile`."""
-    return text == definitions.rle_of_pattern(planes, read)
+def is_canonical_text(read, written, allowed):
+    """`IsCanonicalText` of two files, where the canonical text of the first one is given, but for the rivals that are not at hand."""
+    return is_same(read, written) and counting.is_rival(written.pattern.rule, written.data) and written.data == allowed
+
+
+def is_rle_of_file(_, written, allowed):
+    """`IsRleOfFile`, where the text of the first file is given."""
+    return written.data == allowed
 
 
 class Text:
-    """A text that the program writes of a case's pattern, and its alterations."""
+    """A text of a kind that the program writes of a case's pattern, the only one that the definitions allow, and the alterations of it."""
 
     def __init__(self, judged, case, read, planes):
         self.judged, self.case, self.read, self.planes = judged, case, read, planes
@@ -69,41 +64,50 @@ class Text:
     def note(self, what, text):
         self.problems.append(f"{self.case.name}: {what}\n  pattern: {compare.escaped(self.case.pattern)}\n  text: {compare.escaped(text)}")
 
-    def compared(self, kind, words, is_allowed, alterations):
+    def canonical(self):
+        allowed = definitions.canonical_text(self.planes, self.read.pattern, self.read.root)
+        self.compared(CANONICAL, ["canon", "pattern"], is_canonical_text, allowed, altered_texts.canonical_texts)
+
+    def rle(self):
+        allowed = definitions.rle_of_pattern(self.planes, self.read)
+        self.compared(RLE, ["convert", "pattern", "--to", "rle"], is_rle_of_file, allowed, altered_texts.rle_texts)
+
+    def compared(self, kind, words, is_allowed, allowed, alterations):
         self.kind = kind
         self.judged.put("pattern", self.case.pattern)
         got = self.judged.answer(words, "pattern")
-        if (got.status, got.fault) != (0, "") or not is_allowed(self.planes, self.read, got.output):
-            self.note(f"{' '.join(words)}: the definitions don't allow what the program writes, {got}", got.output)
+        if (got.status, got.fault) != (0, "") or not is_allowed(self.read, definitions.reading(self.planes, got.output), allowed):
+            self.note(f"the definitions allow {allowed!r}, the program answers {got}", got.output)
             return
         self.answers[kind] += 1
-        for name, text in alterations(random.Random(f"altered {self.case.name}"), got.output):
-            self.alteration(words, is_allowed, name, (got.output, text))
+        for name, changed in alterations(random.Random(f"altered {self.case.name}"), got.output):
+            written = definitions.reading(self.planes, changed)
+            if is_allowed(self.read, written, allowed):
+                self.note(f"the definitions allow one of the {kind} with {name}", changed)
+            self.answers.update(self.properties_of(written, allowed))
+            self.canon_of(written, f"one of the {kind} with {name}")
 
-    def alteration(self, words, is_allowed, name, texts):
-        text, changed = texts
-        if is_allowed(self.planes, self.read, changed):
-            self.note(f"the definitions allow a text of {' '.join(words)} with {name}, and {text!r}", changed)
-        written = definitions.reading(self.planes, changed)
-        self.answers.update(self.properties_of(text, changed, written))
-        self.judged.put("altered", changed)
+    def canon_of(self, written, what):
+        """The program answers what the definitions say of an altered text."""
+        self.judged.put("altered", written.data)
         got = self.judged.answer(["canon", "altered"], "altered")
         if written.fault:
             wanted = (2, b"", definitions.line_of(written.fault))
         else:
             wanted = (0, definitions.canonical_text(self.planes, written.pattern, written.root), "")
         if (got.status, got.output, got.fault) != wanted:
-            self.note(f"the definitions say {wanted} of a text of {' '.join(words)} with {name}, the program {got}", changed)
+            self.note(f"the definitions say {wanted} of {what}, the program {got}", written.data)
 
-    def properties_of(self, text, changed, written):
-        yield f"alterations of {self.kind}"
+    def properties_of(self, written, allowed):
+        name = f"alterations of {self.kind}"
+        yield name
         if is_same(self.read, written):
-            yield f"alterations of {self.kind} that are files of the same pattern"
-            is_shorter = counting.node_lines(changed) <= counting.node_lines(text)
-            if self.kind == CANONICAL and counting.is_rival(written.pattern.rule, changed) and is_shorter:
-                yield f"alterations of {self.kind} that are files of the same pattern with no more node lines"
+            yield f"{name} that are files of the same pattern"
+            is_rival = self.kind == CANONICAL and counting.is_rival(written.pattern.rule, written.data)
+            if is_rival and counting.node_lines(written.data) <= counting.node_lines(allowed):
+                yield f"{name} that are files of the same pattern with no more node lines"
         else:
-            yield f"alterations of {self.kind} that are {'no files' if written.fault else 'files of another pattern'}"
+            yield f"{name} that are {'no files' if written.fault else 'files of another pattern'}"
 
 
 def finding(judged, parent, seed, number):
@@ -116,8 +120,8 @@ def finding(judged, parent, seed, number):
     if read.fault or len(case.pattern) > LONGEST or planes.population(read.root) > MOST_CELLS:
         return None
     text = Text(judged, case, read, planes)
-    text.compared(CANONICAL, ["canon", "pattern"], is_canonical_text, altered_texts.canonical_texts)
-    text.compared(RLE, ["convert", "pattern", "--to", "rle"], is_rle_of_file, altered_texts.rle_texts)
+    text.canonical()
+    text.rle()
     return definitions.Finding(text.problems, text.answers)
 
 

@@ -42,8 +42,8 @@ MOST_CELLS = 2**20
 MOST_STEPPED = 2**11
 # The longest RLE that is read here.
 LONGEST_READ = 2**16
-# The most cells of a pattern whose texts in the forms are compared, of which eight images are made.
-MOST_TURNED = 2**8
+# The share of files whose text in a form is compared, beside those of wide patterns, and the most cells of a pattern of which eight images are made.
+SHARE_IN_FORM, MOST_TURNED = 0.3, 2**8
 # The greatest level of a square whose canonical text is worked out as the definitions are written, too.
 MOST_LEVELS = 4
 # The cells of each pattern that are compared one by one: those of a window, and some others.
@@ -54,7 +54,7 @@ STEPPED = b"x = 3, y = 3, rule = Foo\nA.B$2A$B!\n"
 # A run of so many random cases has to be refused as each kind, and to have each answer.
 ENOUGH = 1600
 ANSWERS = ["read", "shown", "same", "different", "written as RLE", "stepped", "changed by a table", "no longer than a rival"]
-ANSWERS += ["canonical as written", "moved", "turned"]
+ANSWERS += ["canonical as written", "moved", "turned", "moved and wide", "turned and wide"]
 ANSWERS += [f"stepped by {word.decode()} of {neighbours}" for neighbours in (4, 8) for word in table.symmetries_of(neighbours)]
 
 
@@ -406,8 +406,17 @@ class Judge:
             self.note(words, text_problems(self.source, self.planes, self.read, text.output))
             self.note(words, exact_problems(rle_of_pattern(self.planes, self.read), text.output))
 
-    def in_form(self):
-        form = self.source.choice(["moved", "turned"])
+    def is_wide(self):
+        """Whether the pattern is wider or higher than half the plane, so that it doesn't fit from (0, 0) on where it is moved."""
+        box = self.planes.box(self.read.root)
+        return box is not None and EDGE <= max(box[2] - box[0], box[3] - box[1])
+
+    def in_forms(self):
+        """A wide pattern in both forms, and another one in one of them."""
+        for form in ["moved", "turned"] if self.is_wide() else [self.source.choice(["moved", "turned"])]:
+            self.in_form(form)
+
+    def in_form(self, form):
         words = ["canon", self.name, "--form", form]
         population = 0 if self.read.fault else self.planes.population(self.read.root)
         if MOST_TURNED < population <= MOST_CELLS:
@@ -415,7 +424,7 @@ class Judge:
         faults = {line_of(self.read.fault)} if self.read.fault else {"TooManyCells\n"} if population > MOST_CELLS else set()
         text = self.taken(words, faults)
         if text is not None:
-            self.answers[form] += 1
+            self.answers[f"{form} and wide" if self.is_wide() else form] += 1
             self.note(words, exact_problems(text_of_form(self.planes, self.read, form), text.output))
             self.same_in(form, reading(self.planes, text.output), "written")
             if self.other.fault is None and self.planes.population(self.other.root) <= MOST_TURNED:
@@ -464,7 +473,9 @@ class Judge:
 
     def finding(self):
         """Of a file that is refused one command beside `canon` is enough."""
-        others = [] if self.case.only_step else [self.rle, self.in_form, self.same, self.step]
+        others = [] if self.case.only_step else [self.rle, self.same, self.step]
+        if others and (self.is_wide() or self.source.random() < SHARE_IN_FORM):
+            others.append(self.in_forms)
         if self.case.table is not None:
             others.append(self.step_by_table)
         if not self.case.only_step:

@@ -90,6 +90,15 @@ def rle_files():
         yield f"#\n{line}"
 
 
+def wide_files():
+    """Patterns that are as wide or high as half the plane, one cell more, or the whole plane."""
+    for side in (EDGE, EDGE + 1, 2 * EDGE):
+        wide, high = f"A{side - 2}.B", f"A2.C{side - 1}$.B"
+        for data in (f"{wide}$C!", f"{high}!", f"{wide}{side - 1}$C!"):
+            yield rle("x=1,y=1,rule=Foo", position=f" Pos={-EDGE},{-EDGE}", data=data)
+            yield rle("x=1,y=1,rule=Foo", position=f" Pos={EDGE - side},{EDGE - side}", data=data)
+
+
 def macrocell(*lines):
     return "\n".join(["[M2]", *lines]) + "\n"
 
@@ -133,7 +142,7 @@ def long_files():
 
 def pattern_files():
     """Pattern files at limits."""
-    for text in [*rle_files(), *macrocell_files(), *long_files()]:
+    for text in [*rle_files(), *wide_files(), *macrocell_files(), *long_files()]:
         yield text.encode("latin-1")
 
 

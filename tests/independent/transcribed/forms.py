@@ -39,9 +39,8 @@ def is_in_place(first, last):
 
 def first_in_place(first, last):
     """The only first column or row that `IsInPlace` allows where the last one is as far from it as here."""
-    found = [it for it in (0, EDGE - 1 - (last - first)) if is_in_place(it, it + last - first)]
-    assert len(found) == 1
-    return found[0]
+    in_place, = {it for it in (0, EDGE - 1 - (last - first)) if is_in_place(it, it + last - first)}
+    return in_place
 
 
 def moved(cells):
