@@ -4,10 +4,12 @@ use Rattle.std.specs.Prelude.{IfErr, IsErrAnd}
 use Rattle.life_base.specs.Tree.{Tree}
 use Rattle.life_base.specs.declared.kind.Kind.{Kind}
 use Rattle.life_base.specs.declared.kind.Kind.TheVariants.{Memory}
+use Rattle.life_quad.specs.declared.id.Id.{Id}
 use Rattle.life_quad.specs.declared.squares.Squares.{Ghosts}
 use Rattle.life_quad.specs.Keeping.{AddsOnly}
-use Rattle.life_quad.specs.Grows.{Keeps, Grows, GrowsOnly}
+use Rattle.life_quad.specs.Grows.{Keeps, Grows, GrowsOnly, MakesSquare}
 use Rattle.life_quad.proofs.KeepingLemmas.{keeps-same, keeps-then, adds-none, adds-as, adds-then}
+use Rattle.life_quad.proofs.MakingLemmas.{Joins, joined}
 use Rattle.life_quad.proofs.RefusedLemmas.{error_is}
 
 -- the same refusal of another call
@@ -78,3 +80,15 @@ pub only-grows : {X : Type 0} {S : Ghosts X} {A : Type 0} {N : (Tree → Type 0)
     → Grows S old new r N
 only-grows {r = Ok x} call = record { keeps = call.keeps; refusals = call.refusals; needed = λ e. cc; adds = call.adds }
 only-grows {r = Err x} call = record { keeps = call.keeps; refusals = call.refusals; needed = λ e. call.needed; adds = call.adds }
+
+-- a call that makes one square
+pub made-grows : {X : Type 0} {S : Ghosts X} {old new : X} {t : Tree} {N : (Tree → Type 0) → Type 0} (r : Result Id Kind) → MakesSquare S old new t N r
+    → Grows S old new r N
+made-grows r call = only-grows (record { keeps = call.keeps; refusals = call.refusals; needed = call.needed; adds = call.adds })
+
+-- a join that is refused behind other calls, and this is passed on
+pub join-refused : {X A : Type 0} {S : Ghosts X} {old mid new : X} {t : Tree} {e : Kind} (M : (Tree → Type 0) → Type 0) {r : Result A Kind}
+    → Keeps S old mid → AddsOnly S.stored M old mid → Joins S.knows S.content S.stored S.most S.needs_node mid new t (Err e) → IsErrAnd r (λ y. y ≡ e)
+    → ((P : Tree → Type 0) → P t → M P) → Grows S old new r M
+join-refused {e = e} M keeps adds join told more =
+    grows-err M (grows-behind M keeps adds (made-grows (Err e) (joined (Err e) join)) more) told (λ P a. a)

@@ -53,7 +53,7 @@ module _ {S : Type 0} {knows : S → Id → Type 0} {content : S → Id → Tree
 
   module _ {needs : S → Tree → Type 0} where
     -- what a join makes
-    joined : {old new : S} {t : Tree} (r : Result Id Kind) → Joins knows content stored most needs old new t r
+    pub joined : {old new : S} {t : Tree} (r : Result Id Kind) → Joins knows content stored most needs old new t r
         → MakesOneSquare knows content stored most needs old new t (λ P. P t) r
     joined {old} {new} {t} r j =
         record { known = j.known; square = j.square; keeps = j.keeps; adds = j.adds; refusals = j.refusals; room = j.room; needed = now r j.needed j.unchanged }

@@ -15,4 +15,5 @@ pub mod IdMap
 pub mod IdNumbers
 pub mod Lanes
 pub mod Memory
+pub mod Turning
 pub mod Words

@@ -1,6 +1,7 @@
 -- Squares made of other squares: one level higher, and without blank outer grandchildren.
-use Rattle.std.specs.Prelude.{◌≡◌, ◌+◌, ℕ, zero, suc, Bool, ◌&&◌, nat_lt, if◌then◌else◌, List, [], ◌∷◌}
+use Rattle.std.specs.Prelude.{◌≡◌, ◌+◌, ◌<◌, ℕ, zero, suc, Bool, ◌&&◌, nat_lt, if◌then◌else◌, List, [], ◌∷◌, map}
 use Rattle.std.specs.List.{list_all}
+use Rattle.life_base.specs.declared.cell.TheConstants.{MAX_LEVEL}
 use Rattle.life_base.specs.Tree.{Tree, point, quad, depth, blank, is_blank_tree}
 use Rattle.life_quad.specs.declared.id.Id.{Id}
 use Rattle.life_quad.specs.declared.moves.Quarters.{Quarters}
@@ -16,9 +17,24 @@ pub record AreQuarters (knows : Id → Type 0) (content : Id → Tree) (t : Tree
   pub sw_level : depth (content quarters.sw) + 1 ≡ depth t
   pub se_level : depth (content quarters.se) + 1 ≡ depth t
 
+-- four squares can be joined: each is known, all are of one level, and this is below the greatest
+pub record CanJoin (knows : Id → Type 0) (content : Id → Tree) (quarters : Quarters) : Type 0 where
+  pub nw : knows quarters.nw
+  pub ne : knows quarters.ne
+  pub sw : knows quarters.sw
+  pub se : knows quarters.se
+  pub ne_level : depth (content quarters.ne) ≡ depth (content quarters.nw)
+  pub sw_level : depth (content quarters.sw) ≡ depth (content quarters.nw)
+  pub se_level : depth (content quarters.se) ≡ depth (content quarters.nw)
+  pub room : depth (content quarters.nw) < MAX_LEVEL
+
 -- the square of four quarters
 abbrev pub quad_of : (Id → Tree) → Quarters → Tree
 quad_of content q = quad (content q.nw) (content q.ne) (content q.sw) (content q.se)
+
+-- the squares of several times four quarters, in their order
+abbrev pub quads_of : (Id → Tree) → List Quarters → List Tree
+quads_of content quarters = map (quad_of content) quarters
 
 -- the twelve outer grandchildren
 abbrev pub outer : Tree → List Tree

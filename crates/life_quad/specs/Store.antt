@@ -1,11 +1,13 @@
 -- How a store of nodes stands for squares.
-use Rattle.std.specs.Prelude.{◌≡◌, ◌≢◌, ℕ, ◌+◌, ◌*◌, ◌-◌, ◌/◌, ◌%◌, ◌<◌, ◌^◌, ◌≤◌, Bool, true, false, nat_lt, if◌then◌else◌, List, [], ◌∷◌, ◌++◌, length, fold, map, Option, None, Some, Result, Err, slice_get, slice_index_or, Contains, AllPairs, ◌==◌, ◌||◌, ◌&&◌, nat_le, ◌↔◌, IfOk, IfErr, OnErr}
+use Rattle.std.specs.Prelude.{◌≡◌, ◌≢◌, ℕ, ◌+◌, ◌*◌, ◌-◌, ◌/◌, ◌%◌, ◌<◌, ◌^◌, ◌≤◌, Bool, true, false, nat_lt, if◌then◌else◌, List, [], ◌∷◌, ◌++◌, length, fold, map, Option, None, Some, Result, Err, slice_get, slice_index_or, Contains, AllPairs, ◌==◌, ◌⊎◌, get_or, ◌||◌, ◌&&◌, nat_le, ◌↔◌, IfOk, IfErr, OnErr}
 use Rattle.life_base.specs.declared.cell.TheConstants.{MAX_LEVEL}
 use Rattle.life_base.specs.declared.kind.Kind.{Kind}
 use Rattle.life_base.specs.declared.kind.Kind.TheVariants.{Full, Memory}
 use Rattle.life_quad.specs.Keeping.{IsWantKind}
+use Rattle.life_quad.specs.Moves.{quad_of}
 use Rattle.life_quad.specs.declared.id.Id.{Id}
 use Rattle.life_quad.specs.declared.id.Node.{Node}
+use Rattle.life_quad.specs.declared.moves.Quarters.{Quarters}
 use Rattle.life_base.specs.Tree.{Tree, point, quad, depth, blank, is_blank_tree, IsFull}
 
 -- what contracts see of a store: its nodes, oldest first, the numbers of the Ids that were joined, each once and in the order of their
@@ -166,6 +168,14 @@ pub record Answers (old new : Nodes) (t : Tree) (r : Result Id Kind) : Type 0 wh
   pub refusals : IfErr r (IsWantKind (held new) new.limit)
   pub needed : OnErr r (¬ Contains (held old) t)
   pub unchanged : OnErr r (new ≡ old)
+
+-- the Id is that of the square of these quarters, or has the greatest number, which stands for a square that has no node
+abbrev pub IsFound : Nodes → Quarters → Id → Type 0
+IsFound s quarters id = ((Knows s id × IsShared s) × (content s id ≡ quad_of (content s) quarters)) ⊎ (id.0 ≡ 2 ^ 64 - 1)
+
+-- each of the first n Ids is such an Id of its quarters
+abbrev pub AreFound : Nodes → List Quarters → List Id → ℕ → Type 0
+AreFound s quarters ids n = (i : ℕ) (q : Quarters) (d : Id) → i < n → IsFound s (get_or quarters i q) (get_or ids i d)
 
 -- of each small square that is marked, and of no other, the number was joined
 pub record HasSeen (seen : Id → Bool) (log : List ℕ) : Type 0 where

@@ -13,12 +13,12 @@ pub use Rattle.life_quad.specs.Laws.{BlankByCells, CellsAreListed, CellsLieInsid
 pub use Rattle.life_quad.specs.Laws.{KnownSquaresAreFull, ListIsPopulation, TrimmedByCells, TrimmedIsFixed, TrimmedIsLowest, TrimmingIgnoresGrowth}
 pub use Rattle.life_quad.specs.Laws.{TrimmingKeepsCells, TrimmingStops}
 pub use Rattle.life_quad.specs.Memory.{Holds, number, Recalls}
-pub use Rattle.life_quad.specs.Moves.{AreQuarters, can_trim, grown, inner, quad_of, trimmed}
+pub use Rattle.life_quad.specs.Moves.{AreQuarters, can_trim, CanJoin, grown, inner, quad_of, quads_of, trimmed}
 pub use Rattle.life_quad.specs.Pages.{index_in, place_of}
-pub use Rattle.life_quad.specs.Refused.{SomePart, TrimmedTo}
+pub use Rattle.life_quad.specs.Refused.{SomeOf, SomePart, TrimmedTo}
 pub use Rattle.life_quad.specs.Span.{SetsHalves, SetsSpan}
-pub use Rattle.life_quad.specs.Store.{Answers, content, digit_id, four, HasQuarters, held, id_of, is_bit_id, is_blank_id, is_digit_id, IsNamed, IsNode}
-pub use Rattle.life_quad.specs.Store.{IsShared, IsSmall, IsSound, Knows, levels_of, node_square, Nodes, number_of, small_of, small_square, square_of}
+pub use Rattle.life_quad.specs.Store.{Answers, AreFound, content, digit_id, four, HasQuarters, held, id_of, is_bit_id, is_blank_id, is_digit_id, IsFound}
+pub use Rattle.life_quad.specs.Store.{IsNamed, IsNode, IsShared, IsSmall, IsSound, Knows, levels_of, node_square, Nodes, number_of, small_of, small_square, square_of}
 pub use Rattle.life_quad.specs.Store.{squares, two}
 pub use Rattle.life_quad.specs.StoreLaws.{full_content, low_content, same_id}
 pub use Rattle.life_quad.specs.declared.id.Id.{Id as IdValue}

@@ -14,17 +14,17 @@ const PAGE: u64 = 256;
 /// The page of the first nodes.
 const NODES: u64 = FIRST_NODE / PAGE;
 
-/// The first room of a map is for the places of the small squares and of the first nodes, and for four pages. A pattern of a few squares
+/// The first capacity of a map is for the places of the small squares and of the first nodes, and for four pages. A pattern of a few squares
 /// needs no more, and asks for memory twice.
 const FIRST_PLACES: usize = NODES as usize + 2;
 
 const FIRST_VALUES: usize = 4 * PAGE as usize;
 
-/// What stands for the first index of a page that wasn't made: no value has it.
+/// The first index of a page that wasn't made: no value has it.
 const NONE: u32 = u32::MAX;
 
-/// A value for each Id, found by its number in two steps: the absent one, until another is set. The values stand in pages of 256 numbers that
-/// follow, each made when the first of them is set: so a few squares take little room, whatever their numbers are, and many take one value for
+/// A value for each Id, found by its number in two steps: the absent one, until another is set. The values are in pages of 256 numbers that
+/// follow, each made when the first of them is set: so a few squares take little memory, whatever their numbers are, and many take one value for
 /// each number and a 256th more.
 #[derive(Drop)]
 pub(crate) struct IdMap<T: Copy> {
@@ -46,7 +46,7 @@ impl<T: Copy> Model for IdMap<T> {
     ghost invariant = { λ m. ArePages m.starts.items (length m.values.items) };
 }
 
-/// The place of the page of a number: that of the first nodes stands before all others. So a few squares take no place for all the small ones
+/// The place of the page of a number. The page of the first nodes comes before all others, so that a few squares take no space for all the small ones
 /// before them.
 #[tactic(auto, unfolding(crate::specs::Pages::place_of))]
 fn place_of(number: u64) -> u64
@@ -62,7 +62,7 @@ fn place_of(number: u64) -> u64
     }
 }
 
-/// The index of a number's value. Where its page wasn't made it is behind all values.
+/// The index of a number's value. If its page wasn't made, it is after all values.
 fn index_of(starts: &[u32], number: u64) -> usize
     ensures { result ≡ index_in starts.now number }
 {
@@ -93,7 +93,7 @@ fn make_place(starts: &mut Vec<u32>, place: u64) -> Result<(), Kind>
     Ok(())
 }
 
-/// Adds a page of a value behind the others.
+/// Adds a page of a value after the others.
 fn add_page<T: Copy>(values: &mut Vec<T>, value: T) -> Result<(), Kind>
     requires { length values.old.items + 256 ≤ 4294967295 }
     ensures page { OnOk result (values.new.items ≡ values.old.items ++ replicate 256 value) }

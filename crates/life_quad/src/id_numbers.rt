@@ -15,7 +15,7 @@ use std::marker::Model;
 /// in contracts alone.
 #[derive(Drop)]
 pub struct IdNumbers {
-    // The least number of an Id that the list has room for.
+    // The least number of an Id for which the list has capacity.
     first: u64,
     // From that one on, by the number of an Id: the one that it has here, or 0. None where the pages have them.
     numbers: Vec<u32>,
@@ -47,7 +47,7 @@ fn first_of(level: u8) -> u64
     if level > 2 { FIRST_NODE } else { 0 }
 }
 
-// Where the number of an Id stands in a list from this Id on: behind its end for an Id that comes before.
+// The place of the number of an Id in a list from this Id on; past its end for an Id that comes before.
 #[inline(always)]
 fn index_from(first: u64, id: Id) -> usize
     requires { first ≤ 66064 }
@@ -71,7 +71,7 @@ fn number_in(first: u64, numbers: &[u32], pages: &IdMap<u32>, id: Id) -> u32
 }
 
 impl IdNumbers {
-    /// No numbers yet, and room for one for each Id of a square of this level or a higher one that the store knows and that isn't blank.
+    /// No numbers yet, and capacity for one for each Id of a square of this level or a higher one that the store knows and that isn't blank.
     ///
     /// # Errors
     ///
@@ -101,7 +101,7 @@ impl IdNumbers {
         })
     }
 
-    /// No numbers yet, and room for none: it is made as they come, so a few Ids of a large store take little. It takes no memory.
+    /// No numbers yet, and no capacity: it is reserved as they come, so a few Ids of a large store take little. It takes no memory.
     pub fn growing(alloc: Global) -> IdNumbers
         ensures { result.ids ≡ [] }
     {
@@ -129,7 +129,7 @@ impl IdNumbers {
         ensures counted { IfSome result (λ number. 1 ≤ number) }
         ensures distinct { AllPairs ◌≢◌ self.now.ids }
     {
-        // To read a field opens the invariant to the proof: each Id stands once.
+        // To read a field opens the invariant to the proof: each Id occurs once.
         let _ = &self.count;
         match self.number(id) {
             0 => None,
@@ -137,11 +137,11 @@ impl IdNumbers {
         }
     }
 
-    /// Gives an Id the next number, and answers it.
+    /// Gives an Id the next number, and returns it.
     ///
     /// # Errors
     ///
-    /// `Memory`, and nothing else, for an Id for which no room was made at once. The numbers are then as they were.
+    /// `Memory`, and nothing else, for an Id for which no capacity was reserved at once. The numbers are then as they were.
     // Inlined, the walk that writes a large tree takes a hundredth less.
     #[inline(always)]
     pub fn push(&mut self, id: Id) -> Result<u64, Kind>
@@ -163,7 +163,7 @@ impl IdNumbers {
         Ok(self.count as u64)
     }
 
-    // The same for an Id that has no room yet: its page is made, where numbers stand in pages.
+    // The same for an Id without capacity yet: its page is made, if numbers are in pages.
     #[inline(never)]
     fn push_apart(&mut self, id: Id) -> Result<u64, Kind>
         requires new { ¬ Contains self.old.ids id }

@@ -67,7 +67,7 @@ pub fn list_is_population()
     ensures { ListIsPopulation }
 {}
 
-/// An Id that a store knows stands for a full square of the greatest level at most.
+/// An Id that a store knows represents a full square of the greatest level at most.
 pub fn known_squares_are_full()
     ensures { KnownSquaresAreFull }
 {}

@@ -17,6 +17,7 @@ mod runs;
 mod seed;
 mod shared;
 mod squares;
+mod turning;
 
 pub use id::Id;
 pub use id_numbers::IdNumbers;
@@ -30,3 +31,4 @@ pub use runs::{put_run, set_run};
 pub use seed::{Lanes, Seed};
 pub use shared::Shared;
 pub use squares::{SharedSquares, Squares};
+pub use turning::{Turn, turned};

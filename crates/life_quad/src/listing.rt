@@ -2,7 +2,7 @@
 //!
 //! A band is a row of squares of one level, from the west to the east, without blank ones. Its upper half, and then its lower
 //! half, are bands of the level below; a band of level 0 is a row of cells. So no cell is sorted and no blank square is
-//! entered, and each band has at most as many squares as there are cells. Where the list has room for all cells that a band of level 2
+//! entered, and each band has at most as many squares as there are cells. If the list has capacity for all cells that a band of level 2
 //! may have, its four rows are taken from its squares at once.
 ghost use Rattle.std.specs.Prelude.{◌≡◌, ◌⊎◌, ◌+◌, ◌-◌, ◌^◌, ◌<◌, ◌≤◌, ◌+ℤ◌, ◌≤ℤ◌, pos, neg_ℤ, [], ◌∷◌, ◌++◌, length, All, Err, OnOk, IfOk, IfErr};
 ghost use Rattle.life_quad.specs.Words.{Memory, TooManyCells, depth, state_at, IsCellList, population, InBand, IsPlaced, pieces, kept, northern, southern, upper, lower, row_cells, band_cells, pair_of, row_of, live_cells, part_cells, two, four, IsMemory};
@@ -202,7 +202,7 @@ fn digit_states(digit: u16, low: bool) -> [State; 2]
     }
 }
 
-/// The states of a row of the square of level 2 with these cells, as `Squares::small_cells` tells them: in the southern or in the northern half,
+/// The states of a row of the square of level 2 with these cells, as `Squares::small_cells` gives them: in the southern or in the northern half,
 /// the lower or the upper one.
 #[inline(always)]
 fn small_states(cells: u16, south: bool, low: bool) -> (State, State, State, State)

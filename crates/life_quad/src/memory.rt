@@ -30,7 +30,7 @@ const EMPTY: Slot = Slot {
 
 /// Answers for nine squares side by side, found by the numbers of their Ids in constant time. It forgets: each nine have one slot, which the last
 /// that came there hold. It begins with 1,024 slots of 40 bytes when the first answer is put, and n slots become four times as many when more than
-/// n^2 / 2^15 answers were recalled from them, up to 2^18. Where memory is refused it does without.
+/// n^2 / 2^15 answers were recalled from them, up to 2^18. If memory is refused, nothing is remembered.
 #[derive(Drop)]
 pub struct NeighbourhoodMemory {
     /// None, or a power of two.

@@ -1,4 +1,4 @@
-//! What a square has: the number of its nonzero cells, and their least box.
+//! What a square has: the number of its nonzero cells, and their bounding box.
 ghost use Rattle.std.specs.Prelude.{◌≡◌, ◌+◌, ◌^◌, ◌+ℤ◌, pos, ◌<◌, ◌≤◌, true, IfOk, IfErr, IfSome, MatchOption};
 ghost use Rattle.life_quad.specs.Words.{IdValue, depth, is_blank_tree, population, IsLeastBox, value_of, IsMemory};
 
@@ -25,7 +25,7 @@ pub fn population<S: SharedSquares>(alloc: Global, squares: &S, id: Id) -> Resul
     count(squares, squares.level(id), id, &mut known)
 }
 
-/// The number of cells with a state in a square of level 3, where the store tells the cells of its quarters; `None` tells nothing.
+/// The number of cells with a state in a square of level 3, if the store gives the cells of its quarters; `None` says nothing.
 #[inline(always)]
 fn count_leaf<S: Squares>(squares: &S, level: u8, id: Id) -> Option<u128>
     requires known { S.knows squares.now id }
@@ -63,7 +63,7 @@ fn count_cells<S: Squares>(squares: &S, level: u8, id: Id) -> u128
     a + b + c + d
 }
 
-/// How many cells of a square of a level have a state other than 0, as `population` tells it, but without memory: each of its squares is visited as
+/// How many cells of a square of a level have a state other than 0, as `population` counts them, but without memory: each of its squares is visited as
 /// often as it occurs. So this is for squares of few levels, as those of leaf lines.
 pub fn leaf_population<S: Squares>(squares: &S, level: u8, id: Id) -> u128
     requires known { S.knows squares.now id }
@@ -114,7 +114,7 @@ fn count<S: Squares>(squares: &S, level: u8, id: Id, known: &mut IdMap<u128>) ->
     Ok(sum)
 }
 
-/// The least box around the cells with a state other than 0, or `None` if there are none. From each side inwards the squares are
+/// The bounding box of the cells with a state other than 0, or `None` if there are none. From each side inwards the squares are
 /// visited that reach nearest to it, each shared one once.
 ///
 /// # Errors

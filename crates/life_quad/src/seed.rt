@@ -55,14 +55,14 @@ fn mixed(state: u64) -> u64 {
 }
 
 /// The words by which a store finds its nodes. Which they are decides nothing but time: with random ones, drawn after the input was written, any two
-/// nodes meet in all 32 bits that the table uses with chance 2^-32, so no input can be made whose nodes crowd.
+/// nodes meet in all 32 bits that the table uses with chance 2^-32, so no input can be made whose nodes collide.
 #[derive(Clone, Copy, Drop)]
 pub struct Seed {
     start: Lanes,
 }
 
 impl Seed {
-    /// The seed of five words, which are random and secret where strangers choose the squares.
+    /// The seed of five words, which must be random and secret if the squares are untrusted input.
     pub fn new(words: [u64; 5]) -> Seed {
         let [sum, next, second, third, fourth] = words;
         Seed {
@@ -87,7 +87,7 @@ impl Seed {
         words
     }
 
-    /// A seed that everybody knows, for inputs that nobody chose against it: the first 320 bits of π behind the point.
+    /// A seed that everybody knows, for inputs that nobody chose against it: the first 320 bits of π after the point.
     pub fn fixed() -> Seed {
         Seed::new([
             0x243f_6a88_85a3_08d3,

@@ -1,15 +1,18 @@
 //! A store that keeps each square once.
-ghost use Rattle.std.specs.Prelude.{◌≡◌, ◌≢◌, ◌++◌, ◌∷◌, AllPairs, ◌<◌, ◌≤◌, ◌^◌, [], length, Contains, false, None};
-ghost use Rattle.life_quad.specs.Words.{IdValue, Tree, depth, is_blank_tree, FIRST_NODE, value_of, full_content, low_content, same_id, squares, content, held, node_square, number_of, small_square, NodeValue, Knows, IsShared, IsNode, IsSmall, Answers};
+ghost use Rattle.std.specs.Prelude.{◌≡◌, All, ◌≢◌, ◌++◌, ◌∷◌, AllPairs, ◌<◌, ◌≤◌, ◌^◌, [], length, Contains, false, None};
+ghost use Rattle.life_quad.specs.Words.{IdValue, Tree, depth, is_blank_tree, FIRST_NODE, value_of, full_content, low_content, same_id, squares, content, held, node_square, number_of, small_square, NodeValue, Knows, IsShared, IsNode, IsSmall, Answers, AreFound, CanJoin, IsFound};
 
 use crate::id::{FIRST_NODE, FIRST_SMALL, LEVEL_TWO, Node, are_blank, no_room, small_number};
 use crate::join_log::JoinLog;
 use crate::marks::Marks;
-use crate::{Id, Seed, SharedSquares, Squares};
+use crate::{Id, Quarters, Seed, SharedSquares, Squares};
 use indexmap::IndexSet;
 use life_base::{Kind, State};
 use std::alloc::Global;
 use std::marker::Model;
+
+/// The answer where a square has no node. No square has this Id.
+const MISSING: Id = Id(u64::MAX);
 
 /// Squares, each nonblank square once: small ones by a mark, the others by their nodes.
 #[derive(Drop)]
@@ -52,7 +55,7 @@ fn drop_last(nodes: &mut IndexSet<Node, Seed>)
 impl Shared {
     ghost use Rattle.life_quad.specs.declared.id.TheConstants.{FIRST_SMALL};
 
-    /// An empty store for at most `limit` distinct nonblank squares of level 1 and up. With 2^32 - 66,064 of them beside the small ones
+    /// An empty store for at most `limit` distinct nonblank squares of level 1 and up. With 2^32 - 66,064 of them besides the small ones
     /// (level 1 or 2, states 0 and 1) `join` answers `Memory` for a new one that isn't small, where the limit is higher. The seed decides time
     /// alone: two stores with different ones hold the same squares by the same Ids.
     pub fn seeded(alloc: Global, seed: Seed, limit: u64) -> Shared
@@ -157,6 +160,34 @@ impl Shared {
         Ok(Id(number))
     }
 
+    /// The square of four quarters, if it has a node, and else `MISSING`.
+    #[inline(always)]
+    fn find(&self, quarters: Quarters) -> Id
+        requires { CanJoin (λ id. Knows self.now id × IsShared self.now) (content self.now)
+            quarters }
+        ensures { IsFound self.now quarters result }
+    {
+        let Quarters { nw, ne, sw, se } = quarters;
+        match self.nodes.get_index_of(&Node::of(nw, ne, sw, se)) {
+            Some(i) => Id(FIRST_NODE + i as u64),
+            None => MISSING,
+        }
+    }
+
+    /// The same of several times four quarters, in their order. No look-up waits for another one, so the processor loads what they read from
+    /// memory side by side.
+    #[inline(never)]
+    fn find_all(&self, quarters: &[Quarters], squares: &mut [Id])
+        requires each { All (CanJoin (λ id. Knows self.now id × IsShared self.now)
+            (content self.now)) quarters.now }
+        requires length { length squares.old ≡ length quarters.now }
+        ensures { AreFound self.now quarters.now squares.new (length quarters.now) }
+    {
+        for (i, quarter) in quarters.iter().enumerate() {
+            squares[i] = self.find(*quarter);
+        }
+    }
+
     /// How many squares have a node: all that are held but the small ones, of level 1 and 2 and the states 0 and 1.
     pub fn nodes(&self) -> usize
         ensures { result ≡ length self.now.nodes }
@@ -164,8 +195,8 @@ impl Shared {
         self.nodes.len()
     }
 
-    /// Makes room for so many more nodes at once, where it is known that many squares will come: else the store moves all its nodes to new
-    /// places each time it has twice as many. Where the memory is refused it does without. Nothing that can be seen of the store changes.
+    /// Reserves capacity for so many more nodes at once, where it is known that many squares will come: else the store moves all its nodes to new
+    /// places each time it has twice as many. Where the memory is refused nothing is reserved. Nothing that can be seen of the store changes.
     pub fn reserve(&mut self, nodes: usize)
         ensures { self.new ≡ self.old }
     {
@@ -213,6 +244,18 @@ impl Squares for Shared {
         }
         let level = self.level(nw) + 1;
         self.intern(Node::of(nw, ne, sw, se), level)
+    }
+
+    // The squares that are stored are found before the first new one is stored.
+    #[inline(never)]
+    fn join_all(&mut self, quarters: &[Quarters], squares: &mut [Id]) -> Result<(), Kind> {
+        self.find_all(quarters, squares);
+        for (i, quarter) in quarters.iter().enumerate() {
+            if squares[i] == MISSING {
+                squares[i] = self.join(quarter.nw, quarter.ne, quarter.sw, quarter.se)?;
+            }
+        }
+        Ok(())
     }
 
     fn parts(&self, id: Id) -> Option<[Id; 4]> {

@@ -3,11 +3,12 @@ ghost use Rattle.std.specs.Prelude.{◌≡◌, ◌↔◌, ℕ, ◌<◌, ◌≤�
 ghost use Rattle.life_base.specs.Tree.{Tree, point, quad, depth, blank, quarters, IsFull};
 ghost use Rattle.life_base.specs.declared.kind.Kind.TheVariants.{Full, Memory};
 ghost use Rattle.life_quad.specs.Keeping.{KeepsSquares, AddsOnly, IsWantKind, MakesOneSquare};
-ghost use Rattle.life_quad.specs.Refused.{SomePart};
+ghost use Rattle.life_quad.specs.Moves.{CanJoin, quads_of};
+ghost use Rattle.life_quad.specs.Refused.{SomeOf, SomePart};
 ghost use Rattle.life_quad.specs.Store.{two, four};
 ghost use Rattle.life_quad.specs.declared.id.Id.{Id as IdValue};
 
-use crate::{Id, Seed};
+use crate::{Id, Quarters, Seed};
 use life_base::{Kind, MAX_LEVEL, State};
 
 /// A store of squares. A square is named by an `Id`.
@@ -17,7 +18,7 @@ pub trait Squares {
     // The Id names a square of the store.
     ghost knows: { Self → IdValue → Type 0 };
 
-    // The square for which an Id stands.
+    // The square that has an Id.
     ghost content: { Self → IdValue → Tree };
 
     // The squares that are stored, oldest first.
@@ -75,7 +76,7 @@ pub trait Squares {
             (content self.old sw) (content self.old se) in IfOk result
             (λ id. needs_node self.old t → ¬ knows self.old id) }
 
-        // A refusal is want of room or of memory, for a new square alone.
+        // It is refused only where the store is full or memory is refused, and only for a new square.
         ensures full { let t = quad (content self.old nw) (content self.old ne)
             (content self.old sw) (content self.old se) in (result ≡ Err Full)
             ↔ (needs_node self.old t × (length (stored self.old) ≡ most self.old)) }
@@ -84,6 +85,33 @@ pub trait Squares {
         ensures needed { let t = quad (content self.old nw) (content self.old ne)
             (content self.old sw) (content self.old se) in OnErr result (needs_node self.old t) }
         ensures unchanged { OnErr result (self.new ≡ self.old) };
+
+    /// The squares of several times four quarters, in their order, each as `join` returns it. A store may look for all of them before it stores
+    /// the new ones, so that it waits for memory once and not at each square.
+    ///
+    /// # Errors
+    ///
+    /// `Full` where a square is new and the store holds its limit, and `Memory`. After either each Id has its square, some of the squares may
+    /// be stored, and what `squares` contains means nothing.
+    fn join_all(&mut self, quarters: &[Quarters], squares: &mut [Id]) -> Result<(), Kind>
+        requires each { All (CanJoin (knows self.old) (content self.old)) quarters.now }
+        requires length { length squares.old ≡ length quarters.now }
+        ensures known { OnOk result (All (knows self.new) squares.new) }
+        ensures square { OnOk result (map (content self.new) squares.new
+            ≡ quads_of (content self.old) quarters.now) }
+        ensures keeps { KeepsSquares knows content stored most self.old self.new }
+        ensures adds { AddsOnly stored
+            (λ P. SomeOf P (quads_of (content self.old) quarters.now)) self.old self.new }
+        ensures room { result ≡ Err Memory → length (stored self.new) < most self.new }
+        ensures refusals { IfErr result (IsWantKind (stored self.new) (most self.new)) }
+        ensures needed { OnErr result
+            (SomeOf (needs_node self.new) (quads_of (content self.old) quarters.now)) }
+    {
+        for (i, quarter) in quarters.iter().enumerate() {
+            squares[i] = self.join(quarter.nw, quarter.ne, quarter.sw, quarter.se)?;
+        }
+        Ok(())
+    }
 
     /// The four quarters, which a square of level 0 lacks.
     fn parts(&self, id: Id) -> Option<[Id; 4]>
@@ -164,7 +192,7 @@ pub trait Squares {
         None
     }
 
-    // Each Id stands for a full square of the greatest level at most.
+    // The square of each Id is full and of the greatest level at most.
     ghost full: { (store : Self) (id : IdValue) → knows store id → IsFull (content store id) };
 
     ghost low: { (store : Self) (id : IdValue) → knows store id → depth (content store id) ≤ MAX_LEVEL };
@@ -172,7 +200,7 @@ pub trait Squares {
 
 /// A store that keeps each square once.
 pub trait SharedSquares: Squares {
-    /// The seed by which the store hashes its nodes. Tables beside the store, such as the memory of a step, draw their own keys from it. A store
+    /// The seed by which the store hashes its nodes. Other tables, such as the memory of a step, draw their own keys from it. A store
     /// that draws no seed of its own has the fixed one, `Seed::fixed`, whose keys everybody knows: use it for input that you trust.
     fn seed(&self) -> Seed {
         Seed::fixed()

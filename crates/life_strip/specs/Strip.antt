@@ -2,6 +2,7 @@
 use Rattle.life_base.specs.declared.cell.TheConstants.{MAX_LEVEL}
 use Rattle.std.specs.Prelude.{◌≡◌, ℕ, suc, ◌+◌, ◌-◌, ◌*◌, ◌^◌, ◌<◌, ◌≤◌, ◌⊎◌, nat_lt, nat_le, if◌then◌else◌, List, [], ◌∷◌, drop, All, AllPairs, Option, Some, None, MatchOption, length, get_or}
 use Rattle.life_quad.specs.declared.id.Id.{Id}
+use Rattle.life_quad.specs.declared.moves.Quarters.{Quarters}
 use Rattle.life_base.specs.Tree.{Tree, quad, depth, blank}
 use Rattle.life_strip.specs.declared.spans.Span.{Span}
 use Rattle.life_strip.specs.declared.spans.Stretch.{Stretch}
@@ -125,3 +126,34 @@ square_in place blank column = if nat_le place.start column then place.square el
 -- the column up to which it goes on
 abbrev pub goes_to : Place → ℕ → ℕ
 goes_to place column = if nat_le place.start column then place.end else place.start
+
+-- A span of equal squares that are not joined yet. Their quarters can be joined (`Can`), and in each column of the span the square that they make
+-- (`square`) is the wanted one. From the given column to the span's start nothing is wanted (`none`), and the span ends within the plane.
+pub record IsPiece (Can : Quarters → Type 0) (square : Quarters → Tree) (want : ℕ → Tree) (none : Tree) (side column : ℕ) (span : Span) (quarters : Quarters) :
+    Type 0 where
+  pub can : Can quarters
+  pub from : column ≤ span.start
+  pub some : span.start < span.end
+  pub within : span.end ≤ side
+  pub gap : (c : ℕ) → column ≤ c → c < span.start → want c ≡ none
+  pub goes : (c : ℕ) → span.start ≤ c → c < span.end → want c ≡ square quarters
+
+-- such squares side by side from one column to another one
+abbrev pub ArePieces : (Quarters → Type 0) → (Quarters → Tree) → (ℕ → Tree) → Tree → ℕ → ℕ → List Span → List Quarters → ℕ → Type 0
+ArePieces Can square want none side column [] [] next = next ≡ column
+ArePieces Can square want none side column [] (q ∷ quarters) next = ⊥
+ArePieces Can square want none side column (s ∷ spans) [] next = ⊥
+ArePieces Can square want none side column (s ∷ spans) (q ∷ quarters) next =
+    IsPiece Can square want none side column s q × ArePieces Can square want none side s.end spans quarters next
+
+-- the spans with other squares
+abbrev pub with_squares : List Span → List Id → List Span
+with_squares [] squares = []
+with_squares (s ∷ spans) [] = []
+with_squares (s ∷ spans) (id ∷ squares) = record { start = s.start; end = s.end; square = id } ∷ with_squares spans squares
+
+-- Where a walk along two strips is: before the column all is done, and no column of the level is beyond the plane.
+pub record IsWalk (level : ℕ) (upper lower : List Span) (column : ℕ) (north south : Place) : Type 0 where
+  pub upper_place : IsAt upper (2 * column) north
+  pub lower_place : IsAt lower (2 * column) south
+  pub within : column ≤ 2 ^ (MAX_LEVEL - suc level)

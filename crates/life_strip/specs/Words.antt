@@ -3,6 +3,7 @@ pub use Rattle.life_base.specs.Refusal.{IsMemory}
 pub use Rattle.life_base.specs.Tree.{blank, depth, point, state_at, Tree, tree_cell}
 pub use Rattle.life_base.specs.declared.cell.Run.{Run as RunValue}
 pub use Rattle.life_quad.specs.Grows.{Grows, GrowsOnly}
+pub use Rattle.life_quad.specs.Moves.{CanJoin, quad_of}
 pub use Rattle.life_quad.specs.Refused.{SomePart}
 pub use Rattle.life_quad.specs.Store.{four}
 pub use Rattle.life_strip.specs.Band.{cell_in, cells_at, east_at, four_at, IsWord, nibble_of, west_at}
@@ -13,6 +14,6 @@ pub use Rattle.life_strip.specs.Picture.{AreFalling, AreStacked, height, IsLowes
 pub use Rattle.life_strip.specs.Pile.{IsClosed, IsPile, SomeOfPile, strips_of}
 pub use Rattle.life_strip.specs.Plane.{AddsRun, BeginsRow, cell_so_far, IsFilled, IsFree, IsUnfilled, state_so_far}
 pub use Rattle.life_strip.specs.Strip.{AreBefore, AreWithin, EndsAfter, FilledTo, goes_to, HaveColumns, IsAt, IsExtended, IsFound, IsNearer, IsPaired}
-pub use Rattle.life_strip.specs.Strip.{IsPast, IsStrip, quad_at, Rise, square_at, square_in}
+pub use Rattle.life_strip.specs.Strip.{ArePieces, IsPast, IsStrip, IsWalk, quad_at, Rise, square_at, square_in, with_squares}
 pub use Rattle.life_strip.specs.declared.spans.Span.{Span as SpanValue}
 pub use Rattle.std.specs.Borrow.{ftrue}

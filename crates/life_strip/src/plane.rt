@@ -60,7 +60,7 @@ impl Plane {
         ensures grows { Grows S.Squares squares.old squares.new result
             (λ P. SomeSquare P row (state_so_far (S.content squares.old) self.old)) }
     {
-        // Rows that follow one another are mostly alike, so a row gets room for a few more spans than the one before it has.
+        // Rows that follow one another are mostly alike, so a row gets capacity for a few more spans than the one before it has.
         let room = self.row.spans.len() / 8 * 9 + 2;
         let spans = self.pile.spare.take(room)?;
         let next = Strip { level: 0, spans };

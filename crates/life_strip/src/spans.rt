@@ -1,10 +1,10 @@
 //! Strips of squares, and how two of them make one of the next level.
-ghost use Rattle.std.specs.Prelude.{◌≡◌, ℕ, ◌+◌, ◌-◌, ◌*◌, ◌^◌, ◌<◌, ◌≤◌, Some, None, MatchOption, length, slice_get, IfOk, IfErr, OnOk};
-ghost use Rattle.life_strip.specs.Words.{SpanValue, blank, Grows, GrowsOnly, IsStrip, AreBefore, AreWithin, HaveColumns, IsPaired, EndsAfter, IsPast, IsFound, IsNearer, IsExtended, IsAt, Rise, quad_at, square_in, goes_to, SomeColumn, IsMemory};
+ghost use Rattle.std.specs.Prelude.{◌≡◌, ℕ, suc, ◌+◌, ◌-◌, ◌*◌, ◌^◌, ◌<◌, ◌≤◌, ◌++◌, Some, None, MatchOption, length, take, slice_get, IfOk, IfErr, OnOk};
+ghost use Rattle.life_strip.specs.Words.{SpanValue, ArePieces, CanJoin, IsWalk, quad_of, with_squares, blank, Grows, GrowsOnly, IsStrip, AreBefore, AreWithin, HaveColumns, IsPaired, EndsAfter, IsPast, IsFound, IsNearer, IsExtended, IsAt, Rise, quad_at, square_in, goes_to, SomeColumn, IsMemory};
 
 use crate::spare::Spare;
 use life_base::{Kind, MAX_LEVEL};
-use life_quad::{Id, Squares};
+use life_quad::{Id, Quarters, Squares};
 
 // Columns side by side with one square, from `start` to before `end`.
 #[derive(Clone, Copy)]
@@ -21,7 +21,7 @@ pub(crate) struct Strip {
     pub(crate) spans: Vec<Span>,
 }
 
-// The square in a column, how far it goes on, and where the span stands that is there or comes next.
+// The square in a column, how far it goes on, and the place of the span that is there or comes next.
 #[derive(Clone, Copy)]
 pub(crate) struct Stretch {
     pub(crate) index: usize,
@@ -35,7 +35,7 @@ pub(crate) struct Stretch {
 // A column beyond every plane.
 pub(crate) const NEVER: u64 = u64::MAX;
 
-// Where a strip stands in a column: the span that is there or comes next, without its columns before that one.
+// The place of a strip in a column: the span that is there or comes next, without its columns before that one.
 #[derive(Clone, Copy)]
 pub(crate) struct Place {
     pub(crate) index: usize,
@@ -46,13 +46,33 @@ pub(crate) struct Place {
     pub(crate) square: Id,
 }
 
-// A square of two columns of two strips, and where each strip stands in the eastern of them.
+// A square of two columns of two strips, and the place of each strip in the eastern of them.
 #[derive(Clone, Copy)]
 struct Joined {
     square: Id,
     north: Place,
     south: Place,
 }
+
+// The quarters of a square of two columns of two strips, and the place of each strip in the eastern of them.
+#[derive(Clone, Copy)]
+struct Four {
+    quarters: Quarters,
+    north: Place,
+    south: Place,
+}
+
+// A walk along two strips: the places of both in a column of the next level, and how many squares the last step gathered.
+#[derive(Clone, Copy)]
+struct Walk {
+    column: u64,
+    north: Place,
+    south: Place,
+    count: usize,
+}
+
+// How many squares of a strip are joined at once at most.
+const BATCH: usize = 32;
 
 // The square in a column, where the spans before `from` end before it.
 pub(crate) fn find(spans: &[Span], from: usize, column: u64, blank: Id) -> Stretch
@@ -173,6 +193,55 @@ fn end_of(place: Place, column: u64) -> u64
     }
 }
 
+// The quarters of the square of two columns of the upper strip above two of the lower. The store isn't read: it is the one of which the contract
+// speaks.
+#[inline(always)]
+fn quarters_at<S: Squares>(
+    squares: &S,
+    upper: &[Span],
+    lower: &[Span],
+    level: u8,
+    empty: Id,
+    column: u64,
+    north: Place,
+    south: Place,
+) -> Four
+    requires low { level < MAX_LEVEL }
+    requires column { column ≤ 2 ^ MAX_LEVEL }
+    requires upper { IsStrip (S.knows squares.now) (S.content squares.now) level upper.now }
+    requires lower { IsStrip (S.knows squares.now) (S.content squares.now) level lower.now }
+    requires upper_columns { HaveColumns upper.now }
+    requires lower_columns { HaveColumns lower.now }
+    requires upper_rises { Rise upper.now }
+    requires lower_rises { Rise lower.now }
+    requires known { S.knows squares.now empty }
+    requires blank { S.content squares.now empty ≡ blank level }
+    requires north { IsAt upper.now (2 * column) north }
+    requires south { IsAt lower.now (2 * column) south }
+    ensures can_join { CanJoin (S.knows squares.now) (S.content squares.now) result.quarters }
+    ensures square { quad_of (S.content squares.now) result.quarters
+        ≡ quad_at (S.content squares.now) level upper.now lower.now column }
+    ensures north { IsAt upper.now (2 * column + 1) result.north }
+    ensures south { IsAt lower.now (2 * column + 1) result.south }
+    ensures north_later { north.end ≤ result.north.end }
+    ensures south_later { south.end ≤ result.south.end }
+{
+    let _ = squares;
+    let west = 2 * column;
+    let east = 2 * column + 1;
+    let north_east = pass(upper, north, east, empty);
+    let south_east = pass(lower, south, east, empty);
+    let nw = square_of(north, west, empty);
+    let ne = square_of(north_east, east, empty);
+    let sw = square_of(south, west, empty);
+    let se = square_of(south_east, east, empty);
+    Four {
+        quarters: Quarters { nw, ne, sw, se },
+        north: north_east,
+        south: south_east,
+    }
+}
+
 // The square of two columns of the upper strip above two of the lower.
 fn join_at<S: Squares>(
     squares: &mut S,
@@ -206,19 +275,13 @@ fn join_at<S: Squares>(
     ensures grows { GrowsOnly S.Squares squares.old squares.new result
         (λ P. P (quad_at (S.content squares.old) level upper.now lower.now column)) }
 {
-    let west = 2 * column;
-    let east = 2 * column + 1;
-    let north_east = pass(upper, north, east, empty);
-    let south_east = pass(lower, south, east, empty);
-    let nw = square_of(north, west, empty);
-    let ne = square_of(north_east, east, empty);
-    let sw = square_of(south, west, empty);
-    let se = square_of(south_east, east, empty);
+    let four = quarters_at(squares, upper, lower, level, empty, column, north, south);
+    let Quarters { nw, ne, sw, se } = four.quarters;
     let square = squares.join(nw, ne, sw, se)?;
     Ok(Joined {
         square,
-        north: north_east,
-        south: south_east,
+        north: four.north,
+        south: four.south,
     })
 }
 
@@ -234,7 +297,7 @@ pub(crate) fn nearer(north: Option<u64>, south: Option<u64>) -> Option<u64>
     }
 }
 
-// The column behind the last span.
+// The column after the last span.
 fn covered(spans: &[Span]) -> u64
     ensures last { (span : SpanValue) → slice_get spans.now (length spans.now - 1) ≡ Some span
         → result ≡ span.end }
@@ -245,8 +308,15 @@ fn covered(spans: &[Span]) -> u64
     }
 }
 
-// The strip of the next level whose squares have two squares of the upper strip above two of the lower.
-pub(crate) fn pair<S: Squares>(
+// How many spans come of two strips, as a rule: each span of the two adds one at most, and there are never more spans than columns.
+fn spans_of_pair(upper: &[Span], lower: &[Span]) -> usize {
+    let columns = covered(upper).max(covered(lower)) / 2 + 1;
+    (upper.len() + lower.len()).min(columns as usize)
+}
+
+// The strip of the next level whose squares have two squares of the upper strip above two of the lower, each joined before the next one is
+// looked at.
+fn pair_one_by_one<S: Squares>(
     squares: &mut S,
     spare: &mut Spare,
     level: u8,
@@ -271,10 +341,7 @@ pub(crate) fn pair<S: Squares>(
         (quad_at (S.content squares.old) level upper.now lower.now)) }
 {
     let blank = squares.empty(level);
-    // As a rule each span of the two strips adds one span at most, and never more spans than columns come of them.
-    let columns = covered(upper).max(covered(lower)) / 2 + 1;
-    let room = (upper.len() + lower.len()).min(columns as usize);
-    let mut spans = spare.take(room)?;
+    let mut spans = spare.take(spans_of_pair(upper, lower))?;
     let mut column: u64 = 0;
     let mut north = place_at(upper, 0, 0, blank);
     let mut south = place_at(lower, 0, 0, blank);
@@ -295,6 +362,181 @@ pub(crate) fn pair<S: Squares>(
         first = north.start.min(south.start);
     }
     Ok(spans)
+}
+
+// Gathers the next squares of two strips until the slices are full or no square is left, and returns the places of the strips after the last one.
+fn gather<S: Squares>(
+    squares: &S,
+    level: u8,
+    upper: &[Span],
+    lower: &[Span],
+    walk: Walk,
+    spans: &mut [Span],
+    quarters: &mut [Quarters],
+) -> Walk
+    requires low { level < MAX_LEVEL }
+    requires upper { IsStrip (S.knows squares.now) (S.content squares.now) level upper.now }
+    requires lower { IsStrip (S.knows squares.now) (S.content squares.now) level lower.now }
+    requires upper_within { AreWithin level upper.now }
+    requires lower_within { AreWithin level lower.now }
+    requires upper_rises { Rise upper.now }
+    requires lower_rises { Rise lower.now }
+    requires walk { IsWalk level upper.now lower.now walk.column walk.north walk.south }
+    requires lengths { length quarters.old ≡ length spans.old }
+    ensures walk { IsWalk level upper.now lower.now result.column result.north result.south }
+    ensures count { result.count ≤ length spans.old }
+    ensures pieces { ArePieces (CanJoin (S.knows squares.now) (S.content squares.now))
+        (quad_of (S.content squares.now))
+        (quad_at (S.content squares.now) level upper.now lower.now) (blank (suc level))
+        (2 ^ (MAX_LEVEL - suc level)) walk.column (take result.count spans.new)
+        (take result.count quarters.new) result.column }
+    ensures over { result.count < length spans.old
+        → (NEVER ≤ result.north.start) × (NEVER ≤ result.south.start) }
+{
+    let blank = squares.empty(level);
+    let mut column = walk.column;
+    let mut north = walk.north;
+    let mut south = walk.south;
+    let mut count: usize = 0;
+    let mut first = north.start.min(south.start);
+    while first < NEVER && count < spans.len() {
+        // Up to here all is blank.
+        let start = first / 2;
+        let end = end_of(north, 2 * start).min(end_of(south, 2 * start));
+        let four = quarters_at(squares, upper, lower, level, blank, start, north, south);
+        column = (end / 2).max(start + 1);
+        quarters[count] = four.quarters;
+        spans[count] = Span {
+            start,
+            end: column,
+            square: blank,
+        };
+        count += 1;
+        north = pass(upper, four.north, 2 * column, blank);
+        south = pass(lower, four.south, 2 * column, blank);
+        first = north.start.min(south.start);
+    }
+    Walk {
+        column,
+        north,
+        south,
+        count,
+    }
+}
+
+// Puts spans with these squares after others.
+fn put(spans: &mut Vec<Span>, pieces: &[Span], squares: &[Id]) -> Result<(), Kind>
+    requires { length squares.now ≡ length pieces.now }
+    ensures put { OnOk result
+        (spans.new.items ≡ spans.old.items ++ with_squares pieces.now squares.now) }
+    ensures refusals { IfErr result IsMemory }
+{
+    for (i, piece) in pieces.iter().enumerate() {
+        spans.push(Span {
+            square: squares[i],
+            ..*piece
+        })?;
+    }
+    Ok(())
+}
+
+// The strip of the next level, whose squares are joined many at once, so that the store can look for all of them before it stores the new ones.
+#[inline(never)]
+fn pair_in_batches<S: Squares>(
+    squares: &mut S,
+    spare: &mut Spare,
+    level: u8,
+    upper: &[Span],
+    lower: &[Span],
+) -> Result<Vec<Span>, Kind>
+    requires low { level < MAX_LEVEL }
+    requires upper { IsStrip (S.knows squares.old) (S.content squares.old) level upper.now }
+    requires lower { IsStrip (S.knows squares.old) (S.content squares.old) level lower.now }
+    requires upper_within { AreWithin level upper.now }
+    requires lower_within { AreWithin level lower.now }
+    requires upper_rises { Rise upper.now }
+    requires lower_rises { Rise lower.now }
+    ensures strip { IfOk result
+        (λ r. IsStrip (S.knows squares.new) (S.content squares.new) (level + 1) r.items) }
+    ensures rises { IfOk result (λ r. Rise r.items) }
+    ensures within { IfOk result (λ r. AreWithin (level + 1) r.items) }
+    ensures paired { IfOk result (λ r. IsPaired (S.content squares.old) (S.content squares.new)
+        level upper.now lower.now r.items) }
+    ensures grows { Grows S.Squares squares.old squares.new result
+        (λ P. SomeColumn P (level + 1)
+        (quad_at (S.content squares.old) level upper.now lower.now)) }
+{
+    let blank = squares.empty(level);
+    let mut spans = spare.take(spans_of_pair(upper, lower))?;
+    let mut pieces = [Span {
+        start: 0,
+        end: 0,
+        square: blank,
+    }; BATCH];
+    let mut quarters = [Quarters {
+        nw: blank,
+        ne: blank,
+        sw: blank,
+        se: blank,
+    }; BATCH];
+    let mut joined = [blank; BATCH];
+    let north = place_at(upper, 0, 0, blank);
+    let south = place_at(lower, 0, 0, blank);
+    let mut walk = Walk {
+        column: 0,
+        north,
+        south,
+        count: BATCH,
+    };
+    while walk.count == BATCH {
+        walk = gather(
+            squares,
+            level,
+            upper,
+            lower,
+            walk,
+            &mut pieces,
+            &mut quarters,
+        );
+        let count = walk.count;
+        let answers = &mut joined[..count];
+        squares.join_all(&quarters[..count], answers)?;
+        put(&mut spans, &pieces[..count], answers)?;
+    }
+    Ok(spans)
+}
+
+// The strip of the next level whose squares have two squares of the upper strip above two of the lower. A short strip isn't worth a batch, and the
+// squares of level 3 that a strip has are mostly there already.
+pub(crate) fn pair<S: Squares>(
+    squares: &mut S,
+    spare: &mut Spare,
+    level: u8,
+    upper: &[Span],
+    lower: &[Span],
+) -> Result<Vec<Span>, Kind>
+    requires low { level < MAX_LEVEL }
+    requires upper { IsStrip (S.knows squares.old) (S.content squares.old) level upper.now }
+    requires lower { IsStrip (S.knows squares.old) (S.content squares.old) level lower.now }
+    requires upper_within { AreWithin level upper.now }
+    requires lower_within { AreWithin level lower.now }
+    requires upper_rises { Rise upper.now }
+    requires lower_rises { Rise lower.now }
+    ensures strip { IfOk result
+        (λ r. IsStrip (S.knows squares.new) (S.content squares.new) (level + 1) r.items) }
+    ensures rises { IfOk result (λ r. Rise r.items) }
+    ensures within { IfOk result (λ r. AreWithin (level + 1) r.items) }
+    ensures paired { IfOk result (λ r. IsPaired (S.content squares.old) (S.content squares.new)
+        level upper.now lower.now r.items) }
+    ensures grows { Grows S.Squares squares.old squares.new result
+        (λ P. SomeColumn P (level + 1)
+        (quad_at (S.content squares.old) level upper.now lower.now)) }
+{
+    if level != 2 && upper.len() + lower.len() >= BATCH {
+        pair_in_batches(squares, spare, level, upper, lower)
+    } else {
+        pair_one_by_one(squares, spare, level, upper, lower)
+    }
 }
 
 // A square from a column to before `end`, east of the others.

@@ -6,10 +6,10 @@ use crate::spans::{Span, Strip};
 use life_base::Kind;
 use std::alloc::Global;
 
-// For how many spans a vector that waits has room at most, so that no more memory than that waits with it.
+// For how many spans a vector that waits has capacity at most, so that no more memory than that waits with it.
 const MOST_ROOM: usize = 256;
 
-// For how many spans a new vector has room at least.
+// For how many spans a new vector has capacity at least.
 const LEAST_ROOM: usize = 8;
 
 // Vectors whose spans are of no more use. Short strips come one after the other, and each would ask the allocator for a vector of its own.
@@ -28,7 +28,7 @@ impl Spare {
         }
     }
 
-    // A vector without spans, with room for so many.
+    // A vector without spans, with capacity for so many.
     pub(crate) fn take(&mut self, room: usize) -> Result<Vec<Span>, Kind>
         ensures empty { IfOk result (λ spans. spans.items ≡ []) }
         ensures refusals { IfErr result IsMemory }
@@ -47,7 +47,7 @@ impl Spare {
     }
 
     // Keeps a vector whose spans are of no more use. One without memory of its own is dropped, a long one goes back to the allocator, and so does
-    // one that finds no room here.
+    // one for which there is no place here.
     #[inline(always)]
     pub(crate) fn give(&mut self, spans: Vec<Span>) {
         let room = spans.capacity();

@@ -6,7 +6,7 @@ use crate::spans::Span;
 use life_base::MAX_LEVEL;
 use life_quad::{Id, Squares};
 
-// The cells of 64 columns of a row, and where the last of these columns stands.
+// The cells of 64 columns of a row, and where the last of these columns is.
 #[derive(Clone, Copy)]
 pub(crate) struct Word {
     pub(crate) cells: u64,
@@ -148,7 +148,7 @@ fn all_rows(upper: TwoWords, lower: TwoWords) -> u64
     upper.north.cells | upper.south.cells | lower.north.cells | lower.south.cells
 }
 
-// The first square of level 2 from this one on with a cell, or the one behind the last.
+// The first square of level 2 from this one on with a cell, or the one after the last.
 pub(crate) fn blank_to(upper: TwoWords, lower: TwoWords, square: u64) -> u64
     requires { square < 16 }
     ensures within { result ≤ 16 }
@@ -158,7 +158,7 @@ pub(crate) fn blank_to(upper: TwoWords, lower: TwoWords, square: u64) -> u64
     u64::from(rest.leading_zeros() / 4)
 }
 
-// The square of level 2 behind the last one with a cell.
+// The square of level 2 after the last one with a cell.
 pub(crate) fn blank_from(upper: TwoWords, lower: TwoWords) -> u64
     ensures within { result ≤ 16 }
     ensures blank { (i : ℕ) → result ≤ i → i < 16 → cells_at upper lower i ≡ 0 }

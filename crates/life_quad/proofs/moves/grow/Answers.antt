@@ -28,7 +28,7 @@ needs_before : {S : Type 0} {knows : S → Id → Type 0} {content : S → Id �
     → needs (f (content new e) (content new q)) → needs (f (content old e) (content old q))
 needs_before needs f k known_e known_q = subst needs (λ i. f ((k.contents _ known_e).1 i) ((k.contents _ known_q).1 i))
 
--- what `grow` knows of the store that it is given: the quarters of a square, and a blank one beside them
+-- what `grow` knows of the store that it is given: the quarters of a square, and a blank one with them
 record Around {S : Type 0} (knows : S → Id → Type 0) (content : S → Id → Tree) (old : S) (id e : Id) (q : Quarters) : Type 0 where
   pub known : knows old e
   pub quarters : AreQuarters (knows old) (content old) (content old id) q

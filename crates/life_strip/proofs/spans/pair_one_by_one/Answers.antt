@@ -1,81 +1,18 @@
-use Rattle.std.proofs.Common.{◌≡◌, ℕ, suc, ◌+◌, ◌-◌, ◌*◌, ◌/◌, ◌^◌, ◌<◌, ◌≤◌, ◌⊎◌, inl, inr, Bool, true, false, nat_le, max, List, arith, rules, refl, sym, ◌∙◌, ap, subst}
+use Rattle.std.proofs.Common.{◌≡◌, ℕ, suc, ◌+◌, ◌-◌, ◌*◌, ◌/◌, ◌^◌, ◌<◌, ◌≤◌, arith, rules, sym, ◌∙◌, ap, subst}
 use Rattle.std.proofs.Math.Pow.{pow_mono}
 use Rattle.life_base.specs.declared.cell.TheConstants.{MAX_LEVEL}
 use Rattle.life_base.specs.Tree.{Tree, depth}
-use Rattle.life_quad.specs.declared.id.Id.{Id}
 use Rattle.life_quad.proofs.KeepingLemmas.{keeps-then, adds-then}
 use Rattle.life_quad.proofs.GrowsLemmas.{grows-behind, grows-err, grows-still, grows-same, only-grows}
-use Rattle.life_strip.specs.declared.spans.Span.{Span}
-use Rattle.life_strip.specs.declared.spans.Place.{Place}
 use Rattle.life_strip.specs.declared.spans.TheConstants.{NEVER}
-use Rattle.life_strip.specs.Strip.{FilledTo, IsAt, AreWithin, HaveColumns, EndsAfter, IsPast, Rise, goes_to, quad_at}
+use Rattle.life_strip.specs.Strip.{FilledTo, quad_at}
 use Rattle.life_strip.specs.Needed.{SomeColumn}
 use Rattle.life_strip.proofs.SpanLemmas.{before_columns, depth-square_at, filled-skip, filled-more, filled-all, extended-push, from-first, quad-blank, quad-keeps, strip-keeps}
-use Rattle.life_strip.proofs.PlaceLemmas.{IsFront, front, at-later, at-over, goes-end, quad-goes}
-use Rattle.life_strip.proofs.spans.pair.Given.{Over}
-use Rattle.life_strip.proofs.spans.pair.Goals as goal
-use Rattle.life_strip.proofs.spans.pair.Goals.{After-min-end, After-max-column}
-
--- a strip stands at its first span
-at-first : (level : ℕ) (spans : List Span) → AreWithin level spans
-    → record { columns : HaveColumns spans; past : IsPast spans 0 0; ends : EndsAfter spans 0 0; column : 0 < NEVER }
-at-first level spans within = record {
-  columns = before_columns (2 ^ (MAX_LEVEL - level)) spans within;
-  past = λ c le. refl;
-  ends = λ d lt. let some = (within 0 d lt).0 in omega (arith, some);
-  column = omega arith;
-}
-
--- where the next square begins, and up to where this one goes on in a strip
-record IsNextSquare (place : Place) (first end next side : ℕ) : Type 0 where
-  goes : end ≤ goes_to place (2 * (first / 2))
-  later : 2 * next ≤ 2 * (first / 2) + 2 ⊎ 2 * next ≤ end
-  from : 2 * (first / 2) + 1 ≤ 2 * next
-  inside : next ≤ side
-
--- a strip goes on from a place, in a later column no farther than the end of the place before
-goes_on : (level : ℕ) (spans : List Span) {column first end next : ℕ} {place joined : Place} → AreWithin level spans → Rise spans → IsAt spans column place
-    → IsAt spans (2 * (first / 2) + 1) joined → place.end ≤ joined.end → IsNextSquare place first end next (2 ^ (MAX_LEVEL - suc level))
-    → record {
-      columns : HaveColumns spans;
-      rises : Rise spans;
-      place : (before : ℕ) × (before ≤ 2 * next) × IsAt spans before joined;
-      reach : 2 * next ≤ joined.end;
-      column : 2 * next < NEVER;
-    }
-goes_on level spans {column} {first} {end} {next} {place} {joined} within rises before at later n =
-    let small = pow_mono {i = MAX_LEVEL - suc level} {j = MAX_LEVEL} (omega arith) in
-    let inside = n.inside in
-    record {
-      columns = before_columns (2 ^ (MAX_LEVEL - level)) spans within;
-      rises = rises;
-      place = (2 * (first / 2) + 1, n.from, at);
-      reach = reached n.later;
-      column = omega (arith, inside, small);
-    }
-  where
-    reached : 2 * next ≤ 2 * (first / 2) + 2 ⊎ 2 * next ≤ end → 2 * next ≤ joined.end
-    reached (inl short) = let beyond = at.beyond in omega (arith, short, beyond)
-    reached (inr long) =
-        let ends = goes-end spans column place before (2 * (first / 2)) in
-        let goes = n.goes in
-        omega (arith, long, goes, ends, later)
-
--- the next square begins beside the one before, or where that one ends
-split : (first end next : ℕ) → next ≡ max (end / 2) (first / 2 + 1) → 2 * next ≤ 2 * (first / 2) + 2 ⊎ 2 * next ≤ end
-split first end next e = by (nat_le (end / 2) (first / 2 + 1)) refl
-  where
-    by : (b : Bool) → nat_le (end / 2) (first / 2 + 1) ≡ b → 2 * next ≤ 2 * (first / 2) + 2 ⊎ 2 * next ≤ end
-    by true t = inl (let le : end / 2 ≤ first / 2 + 1 = grind arith in omega (arith, e, le))
-    by false t = inr (let lt : first / 2 + 1 < end / 2 = grind arith in omega (arith, e, lt))
-
--- a square of four in a column is one of those that the call needs
-one-column : (level : ℕ) (old now : Id → Tree) (upper lower : List Span) (start : ℕ) → quad_at now level upper lower start ≡ quad_at old level upper lower start
-    → start < 2 ^ (MAX_LEVEL - suc level) → (P : Tree → Type 0) → P (quad_at now level upper lower start)
-    → SomeColumn P (level + 1) (quad_at old level upper lower)
-one-column level old now upper lower start same within P p =
-    let deeper : level + 1 ≡ suc level = omega arith in
-    (start, subst (λ n. start < 2 ^ (MAX_LEVEL - n)) (sym deeper) within, subst P same p)
+use Rattle.life_strip.proofs.PlaceLemmas.{IsFront, front, at-later, at-over, quad-goes}
+use Rattle.life_strip.proofs.PairLemmas.{at-first, IsNextSquare, goes_on, split, one-column}
+use Rattle.life_strip.proofs.spans.pair_one_by_one.Given.{Over}
+use Rattle.life_strip.proofs.spans.pair_one_by_one.Goals as goal
+use Rattle.life_strip.proofs.spans.pair_one_by_one.Goals.{After-min-end, After-max-column}
 
 pub place_at-north-requires : goal.place_at-north-requires
 place_at-north-requires g c = at-first c.args.level c.args.upper.now c.requires.upper_within

@@ -1,0 +1,5 @@
+use Rattle.life_quad.proofs.TurningLemmas.{none-known}
+use Rattle.life_quad.proofs.turning.turned.Goals as goal
+
+pub turn_square-requires-clause-right : goal.turn_square-requires-clause-right
+turn_square-requires-clause-right g c = none-known _ _ _ _ _ c.new-known.ensures
