@@ -1,23 +1,18 @@
 -- Squares of a plane, turned, are squares of its image.
-use Rattle.std.proofs.Common.{◌≡◌, ◌==◌, ℕ, zero, suc, ◌+◌, ◌^◌, ◌≤◌, Bool, true, false, refl, sym, ap, ap₂, ◌∙◌, subst, ℤ, pos, neg_ℤ, ◌+ℤ◌, arith, if◌then◌else◌}
-use Rattle.std.proofs.lemmas.Bool.Decides.{nat_tests}
+use Rattle.std.proofs.Common.{◌≡◌, ℕ, zero, suc, ◌+◌, ◌^◌, ◌≤◌, Bool, true, false, refl, sym, ap, ap₂, ◌∙◌, subst, ℤ, pos, neg_ℤ, ◌+ℤ◌, arith, if◌then◌else◌}
 use Rattle.std.proofs.lemmas.Int.{ints}
-use Rattle.std.proofs.lemmas.Bool.{and_parts}
-use Rattle.life_base.specs.Tree.{Tree, point, quad, depth, blank, is_blank_tree, tree_cell, IsFull}
+use Rattle.life_base.specs.Tree.{Tree, point, quad, depth, tree_cell, IsFull}
 use Rattle.life_quad.specs.Cells.{population}
 use Rattle.life_canon.specs.Laws.{SquaresAreCentred, CentredSquaresTellCells}
 use Rattle.life_canon.specs.Universe.{square, centred, corner, IsBlankOutside}
-use Rattle.life_forms.specs.Turns.{Turn, turn_of, counted, differ, column_of, row_of}
-use Rattle.life_forms.specs.Trees.{one_of_four, side_of, end_of, turned_tree}
+use Rattle.life_quad.specs.Turning.{differ, one_of_four, side_of, end_of, turned_tree}
+use Rattle.life_forms.specs.Turns.{Turn, turn_of, counted, column_of, row_of}
 use Rattle.life_forms.proofs.TurnFacts.{backwards-is, pow_suc, image_cells, image-outside}
 
 -- a coordinate, or the one so many further
 abbrev stepped : Bool → ℕ → ℤ → ℤ
 stepped false n x = x
 stepped true n x = x +ℤ pos n
-
-zero-test : (n : ℕ) → (n == 0) ≡ true → n ≡ 0
-zero-test n e = grind (arith, nat_tests)
 
 -- where a side of a square begins that goes to one that begins at x
 abbrev pub begin : Bool → ℕ → ℤ → ℤ
@@ -86,36 +81,6 @@ turned-square t cell (suc n) x y =
     (axis t.rows (if t.exchange then east else south) n (line t.exchange y x) ∙ ap (begin t.rows n) (stepped-line t.exchange south east h y x)))
     ∙ turned-square t cell n (stepped east h x) (stepped south h y) in
     λ i. quad (at false false i) (at true false i) (at false true i) (at true true i)
-
--- ---- squares that a turn leaves
-
-one-of-same : (u v : Bool) (t : Tree) → one_of_four u v t t t t ≡ t
-one-of-same false false t = refl
-one-of-same true false t = refl
-one-of-same false true t = refl
-one-of-same true true t = refl
-
-turned-blank : (turn : Turn) (k : ℕ) → turned_tree turn (blank k) ≡ blank k
-turned-blank turn zero = refl
-turned-blank turn (suc k) =
-    let at = λ (u v : Bool). one-of-same u v (turned_tree turn (blank k)) ∙ turned-blank turn k in
-    λ i. quad (at (side_of turn false false) (end_of turn false false) i) (at (side_of turn true false) (end_of turn true false) i)
-    (at (side_of turn false true) (end_of turn false true) i) (at (side_of turn true true) (end_of turn true true) i)
-
-pub full-blank : (t : Tree) → IsFull t → is_blank_tree t ≡ true → t ≡ blank (depth t)
-full-blank (point s) full e = ap point (zero-test s e)
-full-blank (quad a b c d) full e =
-    let one = and_parts _ _ e in
-    let two = and_parts _ _ one.0 in
-    let three = and_parts _ _ two.0 in
-    let p = full-blank a full.0 three.0 in
-    let q = full-blank b full.1 three.1 ∙ ap blank full.4 in
-    let r = full-blank c full.2 two.1 ∙ ap blank full.5 in
-    let s = full-blank d full.3 one.1 ∙ ap blank full.6 in
-    λ i. quad (p i) (q i) (r i) (s i)
-
-pub blank-turned : (turn : Turn) (t : Tree) → IsFull t → is_blank_tree t ≡ true → t ≡ turned_tree turn t
-blank-turned turn t full e = full-blank t full e ∙ sym (turned-blank turn (depth t)) ∙ ap (turned_tree turn) (sym (full-blank t full e))
 
 -- ---- squares about (0, 0)
 

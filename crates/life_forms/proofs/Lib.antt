@@ -3,10 +3,10 @@ pub mod ShiftFacts
 pub mod LeastFacts
 pub mod FileLaws
 mod Rows
-pub mod CellMoves
 pub mod PlaneFacts
 pub mod ImageFacts
 pub mod PatternFacts
+pub mod MovedFacts
 pub mod TextFacts
 pub mod RefusalFacts
 pub mod ComparingFacts

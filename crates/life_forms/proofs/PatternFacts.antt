@@ -1,5 +1,5 @@
 -- Patterns of moved squares.
-use Rattle.std.proofs.Common.{◌≡◌, inl, inr, ℕ, zero, suc, ◌-◌, ◌^◌, ◌≤◌, Bool, true, false, refl, sym, ap, ap₂, ◌∙◌, subst, ℤ, pos, neg_ℤ, ◌+ℤ◌, arith, if◌then◌else◌, ◌&&◌}
+use Rattle.std.proofs.Common.{◌≡◌, ℕ, zero, suc, ◌-◌, ◌^◌, ◌≤◌, Bool, true, false, refl, sym, ap, ap₂, ◌∙◌, subst, ℤ, pos, neg_ℤ, ◌+ℤ◌, arith, if◌then◌else◌, ◌&&◌}
 use Rattle.std.specs.Prelude.{nat_lt, int_le, int_lt, unsigned_abs}
 use Rattle.life_base.specs.Tree.{Tree, point, quad, depth, half_side, state_at, tree_cell, IsFull}
 use Rattle.life_base.specs.declared.cell.TheConstants.{MAX_LEVEL}
@@ -9,7 +9,6 @@ use Rattle.life_mc.specs.Macrocell.{largest_state}
 use Rattle.life_mc.specs.Squares.{HasStatesUpTo}
 use Rattle.life_quad.specs.Cells.{population}
 use Rattle.life_quad.specs.Moves.{trimmed}
-use Rattle.life_quad.specs.Refused.{TrimmedTo}
 use Rattle.life_quad.specs.Store.{Nodes}
 use Rattle.life_quad.specs.declared.id.Id.{Id}
 use Rattle.life_quad.proofs.LawLemmas.{trimming_keeps_cells, trimmed_is_fixed, trimming_stops, cells_are_listed, list_is_population}
@@ -18,7 +17,7 @@ use Rattle.life_canon.specs.Store.{IsKnown, IsTrimmed, content}
 use Rattle.life_canon.specs.Universe.{Universe, IsSame, square, centred, corner, least_level, square_universe}
 pub use Rattle.life_canon.proofs.Fits.{least-one, root-high}
 use Rattle.life_forms.specs.Forms.{IsShift, IsMoved}
-use Rattle.life_forms.specs.Needed.{HasFewCells, SomeOfMoved, SomeOfMovedForm}
+use Rattle.life_forms.specs.Needed.{HasFewCells}
 use Rattle.life_forms.proofs.ShiftFacts.{same-sym, still, shift-trans, there-and-back}
 use Rattle.life_forms.proofs.PlaneFacts.{are-cells, moved-same}
 
@@ -118,20 +117,3 @@ pub few-cells : (t : Tree) → IsFull t → 1 ≤ depth t → population t ≤ 2
 few-cells t full high few =
     let list = cells_are_listed t full high in
     (list.0, are-cells t list.0 list.1, subst (λ (n : ℕ). n ≤ 2 ^ 20) (sym (list_is_population t list.0 full high list.1)) few)
-
--- ---- needed squares
-
--- what the plane of the moved cells needs, the moved form needs
-pub needed-for-plane : (t : Tree) (rule : Rule) (generation : ℕ) → IsFull t → 1 ≤ depth t → (P : Tree → Type 0)
-    → (population t ≤ 2 ^ 20) × SomeOfMoved P (tree_cell t) → SomeOfMovedForm P (square_universe rule generation t)
-needed-for-plane t rule generation full high P (few, s) = (few-cells t full high few, inl s)
-
--- so is the square to which that plane is trimmed
-pub needed-for-root : SquaresAreCentred → (t plane : Tree) (rule : Rule) (generation : ℕ) → IsFull t → 1 ≤ depth t → population t ≤ 2 ^ 20
-    → IsFull plane → depth plane ≡ MAX_LEVEL → IsMoved MAX_LEVEL (square_universe rule generation t) (square_universe rule generation plane)
-    → (P : Tree → Type 0) → TrimmedTo P plane (least_level rule) → SomeOfMovedForm P (square_universe rule generation t)
-needed-for-root centre t plane rule generation full high few whole level moved P s =
-    let same = subst (λ (k : ℕ). centred (tree_cell plane) k ≡ plane) level (centre plane whole (omega (arith, level))).0 in (
-      few-cells t full high few,
-      inr (square_universe rule generation plane, moved, subst (λ (w : Tree). TrimmedTo P w (least_level rule)) (sym same) s),
-    )

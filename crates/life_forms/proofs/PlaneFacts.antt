@@ -1,5 +1,5 @@
 -- The cells of a square of the plane, and their way into their place.
-use Rattle.std.proofs.Common.{◌≡◌, ◌≢◌, ℕ, ◌-◌, ◌<◌, ◌≤◌, ◌^◌, Bool, true, false, refl, sym, ap, ap₂, ◌∙◌, subst, ℤ, pos, neg_ℤ, ◌+ℤ◌, ◌≤ℤ◌, arith, pow_mono, List, Contains, get_or, if◌then◌else◌, to_z, of_z, w64, All, length, subst₂, SFits, to_z-of_z}
+use Rattle.std.proofs.Common.{◌≡◌, ◌≢◌, ℕ, ◌-◌, ◌≤◌, ◌^◌, Bool, true, false, refl, ap, ℤ, pos, neg_ℤ, ◌+ℤ◌, ◌≤ℤ◌, arith, pow_mono, List, if◌then◌else◌, to_z, of_z, w64, SFits}
 use Rattle.std.proofs.lemmas.Int.{ints}
 use Rattle.life_base.specs.Tree.{Tree, depth, tree_cell, half_side, is_blank_tree, state_at, point, quad}
 use Rattle.life_base.specs.declared.bounds.Bounds.{Bounds}
@@ -8,17 +8,12 @@ use Rattle.life_base.specs.declared.cell.TheConstants.{MAX_LEVEL}
 use Rattle.life_base.specs.declared.rule.Rule.{Rule}
 use Rattle.life_quad.specs.Cells as quad
 use Rattle.life_quad.proofs.LawLemmas.{cells_lie_inside}
-use Rattle.std.proofs.lemmas.Option.{slice_get-get_or, get_or_from_slice_get}
 use Rattle.std.proofs.lemmas.Bool.{and_parts}
-use Rattle.life_strip.specs.Given as strip
-use Rattle.life_strip.specs.Given.{state_by}
 use Rattle.life_canon.specs.Texts.{IsLeastBox, IsOrdered, AreCellsOf}
 use Rattle.life_canon.specs.Universe.{Universe, IsSame, IsWithin, IsBlankOutside, corner, square_universe}
 use Rattle.life_forms.specs.Forms.{IsInPlace, edge, IsMoved}
-use Rattle.life_forms.specs.Cells.{LiesOnPlane, IsWay, moved_runs}
-use Rattle.life_forms.specs.Needed.{SomeOfPlane, SomeOfMoved}
-use Rattle.life_forms.proofs.CellMoves.{states-moved}
-use Rattle.life_forms.proofs.ShiftFacts.{plus-zero, zero-unless, box-shifted, shift-sym, shift-of, shifted, still, same-sym, shift-trans, in-place-at, moved-seen, has-box, one-box, there-and-back, forth-and-back}
+use Rattle.life_forms.specs.Cells.{IsWay}
+use Rattle.life_forms.proofs.ShiftFacts.{plus-zero, zero-unless, box-shifted, shift-sym, shift-of, shifted, still, same-sym, shift-trans, in-place-at, moved-seen, has-box, one-box, there-and-back}
 
 -- the plane's ends
 pub low-end : corner MAX_LEVEL ≡ neg_ℤ (pos (2 ^ 61))
@@ -99,9 +94,6 @@ ordered-read low high h =
     let c = h.most in
     record { least = omega (arith, ints); order = omega (arith, ints); most = omega (arith, ints) }
 
-pub way-of-blank : (t : Tree) → is_blank_tree t ≡ true → IsWay (tree_cell t) (pos 0) (pos 0)
-way-of-blank t e box least = absurd (least.at_left.1 (blank-cell t e _ _))
-
 -- the way of one least box is that of all
 pub way-of-box : (t : Tree) (found : Bounds) (a b : ℤ) → quad.IsLeastBox t found
     → IsInPlace MAX_LEVEL (found.left +ℤ a) (found.right +ℤ a) → IsInPlace MAX_LEVEL (found.top +ℤ b) (found.bottom +ℤ b) → IsWay (tree_cell t) a b
@@ -133,20 +125,13 @@ moved-same top u v w moved same = record {
       (in-place-at top _ _ _ _ (plus-zero _) (plus-zero _) place.0, in-place-at top _ _ _ _ (plus-zero _) (plus-zero _) place.1);
 }
 
--- where a cell goes the plane still is
-pub lies : (t : Tree) (rule : Rule) (a b x y : ℤ) → depth t ≤ MAX_LEVEL → IsWay (tree_cell t) a b → tree_cell t x y ≢ 0 → strip.IsOnPlane (x +ℤ a) (y +ℤ b) 1
-lies t rule a b x y low way some =
-    let u = square_universe rule 0 t in
-    let outside = outside-blank t low in
-    let within = moved-seen MAX_LEVEL u (shifted u a b) (way-moved u a b way) outside (has-box MAX_LEVEL u outside) (x +ℤ a) (y +ℤ b)
-    (λ none. some (sym (ap₂ (tree_cell t) (forth-and-back x a) (forth-and-back y b)) ∙ none)) in
-    let l = low-end in
-    let e = high-end in
-    let west = within.0.0 in
-    let east = within.0.1 in
-    let north = within.1.0 in
-    let south = within.1.1 in
-    record { west = omega (arith, ints); east = omega (arith, ints); north = omega (arith, ints); south = omega (arith, ints) }
+-- a form of a square of the plane is on the plane
+pub form-outside : (t : Tree) (rule : Rule) (generation : ℕ) (v : Universe) → depth t ≤ MAX_LEVEL → IsMoved MAX_LEVEL (square_universe rule generation t) v
+    → IsBlankOutside MAX_LEVEL v.cell
+form-outside t rule generation v low moved x y out =
+    let u = square_universe rule generation t in
+    let before = outside-blank t low in
+    zero-unless _ (λ some. out (moved-seen MAX_LEVEL u v moved before (has-box MAX_LEVEL u before) x y some))
 
 -- what the code computes with is the number
 pub place-read : (low high r : ℤ) → IsOrdered low high → SFits w64 r → IsInPlace MAX_LEVEL (to_z w64 (of_z w64 low) +ℤ r) (to_z w64 (of_z w64 high) +ℤ r)
@@ -157,42 +142,5 @@ place-read low high r order fits place =
     let c = order.most in
     in-place-at MAX_LEVEL _ _ _ _ (omega (arith, ints)) (omega (arith, ints)) place
 
-pub way-read : (cell : ℤ → ℤ → ℕ) (a b : ℤ) → SFits w64 a → SFits w64 b → IsWay cell a b → IsWay cell (to_z w64 (of_z w64 a)) (to_z w64 (of_z w64 b))
-way-read cell a b f g way = subst₂ (λ (m n : ℤ). IsWay cell m n) (sym (to_z-of_z f)) (sym (to_z-of_z g)) way
-
 pub are-cells : (t : Tree) (cells : List Cell) → quad.IsCellList t cells → AreCellsOf (tree_cell t) cells
 are-cells t cells list = record { in_order = list.in_order; true_cells = list.true_cells; all_cells = list.all_cells }
-
--- what the runs of the cells need, the cells need, moved into their place
-pub plane-needed : (t : Tree) (cells given : List Cell) (a b : ℤ) → given ≡ cells → quad.IsCellList t cells → IsWay (tree_cell t) a b
-    → (P : Tree → Type 0) → SomeOfPlane P (moved_runs a b given) → SomeOfMoved P (tree_cell t)
-plane-needed t cells given a b e list way P s = record {
-  cells = given;
-  are = subst (λ (xs : List Cell). AreCellsOf (tree_cell t) xs) (sym e) (are-cells t cells list);
-  columns = a;
-  rows = b;
-  way = way;
-  square = s;
-}
-
-has-at : (cells : List Cell) (k : ℕ) (d : Cell) → k < length cells → Contains cells (get_or cells k d)
-has-at cells k d lt = (k, lt, get_or_from_slice_get cells k (get_or cells k d) _ (slice_get-get_or cells k d lt))
-
-pub all-lie : (t : Tree) (cells given : List Cell) (rule : Rule) (a b : ℤ) → given ≡ cells → quad.IsCellList t cells → depth t ≤ MAX_LEVEL
-    → IsWay (tree_cell t) a b
-    → All (LiesOnPlane a b) given
-all-lie t cells given rule a b e list low way = subst (λ (xs : List Cell). All (LiesOnPlane a b) xs) (sym e) (λ k d lt.
-    let is = list.true_cells _ (has-at cells k d lt) in
-    lies t rule a b _ _ low way (λ none. is.1 (sym is.0 ∙ none)))
-
-pub moved-by : (t s : Tree) (cells given : List Cell) (a b : ℤ) → given ≡ cells → quad.IsCellList t cells → IsWay (tree_cell t) a b
-    → ((x y : ℤ) → tree_cell s x y ≡ state_by (moved_runs a b given) x y) → (rule : Rule) (generation : ℕ)
-    → IsMoved MAX_LEVEL (square_universe rule generation t) (square_universe rule generation s)
-moved-by t s cells given a b e list way h rule generation =
-    let u = square_universe rule generation t in
-    moved-same MAX_LEVEL u (shifted u a b) (square_universe rule generation s) (way-moved u a b way) (record {
-      rule = refl;
-      generation = refl;
-      cells = λ x y. sym (h x y ∙ ap (λ (xs : List Cell). state_by (moved_runs a b xs) x y) e
-          ∙ states-moved (tree_cell t) cells (are-cells t cells list) a b x y);
-    })

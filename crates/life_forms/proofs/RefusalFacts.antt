@@ -1,5 +1,5 @@
 -- Refusals that are handed on.
-use Rattle.std.proofs.Common.{◌≡◌, Result, Ok, Err, IsErrAnd, ap}
+use Rattle.std.proofs.Common.{◌≡◌, Result, Ok, Err, OnErr, IsErrAnd, ap}
 use Rattle.life_base.specs.Refusal.{fault_of}
 use Rattle.life_base.specs.declared.fault.Fault.{Fault}
 use Rattle.life_base.specs.declared.kind.Kind.{Kind}
@@ -14,3 +14,8 @@ handed-on {x = x} {y = y} (Err z) is needed e = let same : x ≡ y = cc in neede
 pub kind-of-full : {T U : Type 0} (kind : Kind) → ◌≡◌ {A = Result T Fault} (Err (fault_of kind)) (Err (fault_of Full))
     → ◌≡◌ {A = Result U Kind} (Err kind) (Err Full)
 kind-of-full kind e = let same : fault_of kind ≡ fault_of Full = cc in ap (λ (f : Fault). Err f.kind) same
+
+-- what holds after each error holds after this one
+pub of-err : {T E P : Type 0} {e : E} (r : Result T E) → r ≡ Err e → OnErr r P → P
+of-err (Ok x) is h = absurd (cc)
+of-err (Err x) is h = h

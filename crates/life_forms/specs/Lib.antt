@@ -3,6 +3,5 @@ pub mod Forms
 pub mod Laws
 pub mod Cells
 pub mod Needed
-pub mod Trees
 pub mod Images
 pub mod Words

@@ -3,36 +3,31 @@ use Rattle.std.specs.Prelude.{◌≡◌, ℕ, ◌^◌, ◌<◌, ◌≤◌, ◌�
 use Rattle.life_base.specs.Refusal.{OrMemory, fault_of}
 use Rattle.life_base.specs.Tree.{Tree}
 use Rattle.life_base.specs.declared.cell.Cell.{Cell}
-use Rattle.life_base.specs.declared.cell.Run.{Run}
 use Rattle.life_base.specs.declared.cell.TheConstants.{MAX_LEVEL}
 use Rattle.life_base.specs.declared.fault.Fault.{Fault}
 use Rattle.life_base.specs.declared.kind.Kind.TheVariants.{TooManyCells}
 use Rattle.life_quad.specs.Cells.{population}
 use Rattle.life_quad.specs.Keeping.{AddsOnly}
-use Rattle.life_quad.specs.Refused.{TrimmedTo}
+use Rattle.life_quad.specs.Moves.{trimmed}
+use Rattle.life_quad.specs.Refused.{SomePart, TrimmedTo}
 use Rattle.life_quad.specs.Store.{Nodes, held}
-use Rattle.life_strip.specs.Given.{state_by, by_columns}
-use Rattle.life_strip.specs.Needed.{SomeSquare}
-use Rattle.life_canon.specs.Needs.{IsNew, SomeOfRuns}
+use Rattle.life_canon.specs.Needs.{IsNew}
 use Rattle.life_canon.specs.Store.{content}
 use Rattle.life_canon.specs.Texts.{AreCellsOf}
 use Rattle.life_canon.specs.Universe.{Universe, least_level, centred}
 use Rattle.life_canon.specs.declared.pattern.Pattern.{Pattern}
 use Rattle.life_forms.specs.Forms.{IsMoved}
-use Rattle.life_forms.specs.Cells.{moved_runs, IsWay}
 
--- a square of the plane that these runs fill has a property: one above a run, or one of the whole plane
-abbrev pub SomeOfPlane : (Tree → Type 0) → List Run → Type 0
-SomeOfPlane P runs = SomeOfRuns P runs ⊎ SomeSquare P (2 ^ MAX_LEVEL) (by_columns (state_by runs))
+-- the root of a pattern that is moved into its place: the square of the whole plane of the moved form, trimmed down to this least level at most
+pub record IsMovedRoot (u : Universe) (least : ℕ) (root : Tree) : Type 0 where
+  pub form : Universe
+  pub moved : IsMoved MAX_LEVEL u form
+  pub square : root ≡ trimmed (centred form.cell MAX_LEVEL) least
 
--- so does one of the plane of these cells, moved into their place
-pub record SomeOfMoved (P : Tree → Type 0) (cell : ℤ → ℤ → ℕ) : Type 0 where
-  pub cells : List Cell
-  pub are : AreCellsOf cell cells
-  pub columns : ℤ
-  pub rows : ℤ
-  pub way : IsWay cell columns rows
-  pub square : SomeOfPlane P (moved_runs columns rows cells)
+-- a part of that square of the whole plane, or the root, has a property
+abbrev pub SomeOfMoved : (Tree → Type 0) → Universe → ℕ → Type 0
+SomeOfMoved P u least =
+    (v : Universe) × IsMoved MAX_LEVEL u v × (SomePart P (centred v.cell MAX_LEVEL) ⊎ TrimmedTo P (centred v.cell MAX_LEVEL) least)
 
 -- at most 2^20 cells aren't 0
 abbrev pub HasFewCells : (ℤ → ℤ → ℕ) → Type 0
@@ -50,12 +45,10 @@ IsMany store pattern = 2 ^ 20 < population (content store pattern.root)
 abbrev pub RefusesTurning : Nodes → Pattern → Fault → Type 0
 RefusesTurning store pattern fault = OrMemory fault ((fault ≡ fault_of TooManyCells) × IsMany store pattern)
 
--- A square that is needed to move a pattern has a property: the pattern has few enough cells, and it is a square of the plane of its cells, moved
--- into their place, or the one to which the whole plane of the moved form is trimmed.
+-- A square that is needed to move a pattern has a property: the pattern has few enough cells, and it is a part of the square of the whole plane of the
+-- moved form, or the square to which that one is trimmed.
 abbrev pub SomeOfMovedForm : (Tree → Type 0) → Universe → Type 0
-SomeOfMovedForm P u =
-    HasFewCells u.cell
-    × (SomeOfMoved P u.cell ⊎ ((v : Universe) × IsMoved MAX_LEVEL u v × TrimmedTo P (centred v.cell MAX_LEVEL) (least_level u.rule)))
+SomeOfMovedForm P u = HasFewCells u.cell × SomeOfMoved P u (least_level u.rule)
 
 -- the store lacks such a square
 abbrev pub LacksForMoved : Universe → Nodes → Type 0

@@ -8,16 +8,14 @@ pub use Rattle.life_base.specs.declared.rule.Rule.{Rule}
 pub use Rattle.life_canon.specs.Store.{IsTrimmed, IsWant, universe_in, IsKnown, content}
 pub use Rattle.life_canon.specs.Texts.{IsOrdered}
 pub use Rattle.life_canon.specs.Universe.{Universe, square_universe, least_level}
-pub use Rattle.life_forms.specs.Cells.{moved_run, moved_runs, LiesOnPlane, IsWay}
 pub use Rattle.life_forms.specs.Forms.{IsShift, IsTurnedShift, IsMoved, IsUpTo, IsInPlace}
 pub use Rattle.life_forms.specs.Images.{IsImageText, IsTurnedText, numbered}
 pub use Rattle.life_forms.specs.Laws.{TurnsAreEight, TurnsAreClosed, TurnsHaveInverses, ImagesStayOnPlane, ImagesKeepShifts, MovedFormsExist, MovedFormsAreOnPlane, MovedFormsTellShifts, MovedFormsAreFixed, MovedTextsTellShifts, MovedTextsTellFiles, TurnedTextsTellFiles, MovedTextsAreFiles, TurnedTextsAreFiles, FilesHaveForms, ForFaithfulTexts, TurnedFormsExist, TurnedFormsAreOnPlane, TurnedTextsTellTurns, TurnedFormsAreFixed}
-pub use Rattle.life_forms.specs.Needed.{IsFew, IsMany, AddsMoved, AddsEitherMoved, LacksForMoved, RefusesTurning, SomeOfPlane, SomeOfMoved}
-pub use Rattle.life_forms.specs.Trees.{turned_tree, id_of_four, side_of, end_of}
+pub use Rattle.life_forms.specs.Needed.{IsFew, IsMany, AddsMoved, AddsEitherMoved, IsMovedRoot, LacksForMoved, RefusesTurning, SomeOfMoved}
 pub use Rattle.life_forms.specs.Turns.{image}
 pub use Rattle.life_mc.specs.Macrocell.{largest_state}
-pub use Rattle.life_quad.specs.Cells.{IsBefore, population}
+pub use Rattle.life_quad.specs.Cells.{IsLeastBox as IsSquareBox, population}
 pub use Rattle.life_quad.specs.Grows.{IsWantOf}
 pub use Rattle.life_quad.specs.Keeping.{IsWantKind}
 pub use Rattle.life_quad.specs.Store.{held}
-pub use Rattle.life_strip.specs.Given.{state_by}
+pub use Rattle.life_slide.specs.Pieces.{IsNear}

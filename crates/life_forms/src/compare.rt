@@ -50,7 +50,7 @@ fn are_equal(first: &[u8], second: &[u8]) -> bool
     first == second
 }
 
-/// Whether two patterns of one store have one rule and one generation, and a shift behind one of the eight turns and reflections takes the cells of
+/// Whether two patterns of one store have one rule and one generation, and one of the eight turns and reflections followed by a shift takes the cells of
 /// the one to those of the other: whether their turned forms have one text.
 ///
 /// # Errors

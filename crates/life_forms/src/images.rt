@@ -1,56 +1,17 @@
 //! Texts of a pattern's images.
 
 ghost use Rattle.std.specs.Prelude.{◌≡◌, ◌≢◌, ◌⊎◌, IfOk, IfErr, OnOk};
-ghost use Rattle.life_forms.specs.Words.{depth, MAX_LEVEL, Memory, TooManyCells, IsWantKind, IsTrimmed, universe_in, held, IsMoved, IsUpTo, IsImageText, IsTurnedText, numbered, IsFew, IsMany, RefusesTurning, turned_tree, image};
-ghost use Rattle.life_quad.specs.Grows.{Keeps};
+ghost use Rattle.life_forms.specs.Words.{MAX_LEVEL, Memory, TooManyCells, IsWantKind, IsTrimmed, universe_in, held, IsMoved, IsUpTo, IsImageText, IsTurnedText, numbered, IsFew, IsMany, RefusesTurning, image};
 
 use crate::patterns::moved_pattern;
-use crate::turn::Turn;
-use crate::turns::placed;
 use life_base::{Fault, Kind};
 use life_canon::laws::{centred_squares_tell_cells, squares_are_centred};
 use life_canon::{MOST_CELLS, Pattern, text_of};
-use life_quad::{Id, Shared, SharedSquares, Squares, divide, is_blank_at, population};
+use life_quad::{Shared, SharedSquares, Turn, population, turned};
 use std::alloc::Global;
 
 /// A store of an image is bounded by memory alone.
 const MOST_SQUARES: u64 = 1 << 62;
-
-/// The image of a square about its middle, in another store.
-///
-/// # Errors
-///
-/// `Full` where a square is new and the store holds its limit, and `Memory`. After either each Id has its square.
-fn image_of<S: Squares, T: Squares>(
-    from: &S,
-    to: &mut T,
-    turn: Turn,
-    level: u8,
-    id: Id,
-) -> Result<Id, Kind>
-    requires level { depth (S.content from.now id) ≡ level }
-    requires known { S.knows from.now id }
-    ensures known { IfOk result (T.knows to.new) }
-    ensures level { IfOk result (λ image. depth (T.content to.new image) ≡ level) }
-    ensures square { IfOk result
-        (λ image. T.content to.new image ≡ turned_tree turn (S.content from.now id)) }
-    ensures keeps { Keeps T.Squares to.old to.new }
-    ensures refusals { IfErr result (IsWantKind (T.stored to.new) (T.most to.new)) }
-{
-    if let Some(state) = from.state(id) {
-        return Ok(to.cell(state));
-    }
-    if is_blank_at(from, level, id) {
-        return Ok(to.empty(level));
-    }
-    let parts = divide(from, id);
-    let below = level - 1;
-    let nw = image_of(from, to, turn, below, placed(turn, parts, false, false))?;
-    let ne = image_of(from, to, turn, below, placed(turn, parts, true, false))?;
-    let sw = image_of(from, to, turn, below, placed(turn, parts, false, true))?;
-    let se = image_of(from, to, turn, below, placed(turn, parts, true, true))?;
-    to.join(nw, ne, sw, se)
-}
 
 /// The turn with this number.
 fn numbered(number: u8) -> Turn
@@ -73,7 +34,7 @@ fn numbered(number: u8) -> Turn
     }
 }
 
-/// Want of room in a store that is bounded by memory alone is want of memory.
+/// Where a store that is bounded by memory alone is full, memory was refused.
 fn without_limit(kind: Kind) -> Kind
     ensures kind { (result ≡ kind) ⊎ (result ≡ Memory) }
     ensures room { result ≢ Kind.Full }
@@ -103,8 +64,7 @@ fn moved_image(
     squares_are_centred();
     centred_squares_tell_cells();
     let rule = pattern.rule.copy(alloc)?;
-    let level = store.level(pattern.root);
-    let square = image_of(store, squares, turn, level, pattern.root)?;
+    let square = turned(alloc, store, squares, turn, pattern.root)?;
     moved_pattern(alloc, squares, rule, pattern.generation, square)
 }
 
@@ -141,7 +101,7 @@ fn lesser(first: Vec<u8>, second: Vec<u8>) -> Vec<u8>
 }
 
 /// The canonical text of the turned form of a pattern: of the eight turns and reflections of the pattern, each moved as by `moved_of`, the one
-/// whose canonical text is least, byte by byte. The texts of two patterns are one exactly if a shift behind a turn takes the one pattern to
+/// whose canonical text is least, byte by byte. The texts of two patterns are one exactly if a turn followed by a shift takes the one pattern to
 /// the other (`laws::turned_texts_tell_turns`). Whether the rule is the same from each side is not asked.
 ///
 /// # Errors

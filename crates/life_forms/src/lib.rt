@@ -6,10 +6,8 @@ mod images;
 pub mod laws;
 mod moves;
 mod patterns;
-mod turn;
-mod turns;
 
 pub use compare::{are_shifts, are_turns};
 pub use images::turned_text;
+pub use life_quad::Turn;
 pub use patterns::moved_of;
-pub use turn::Turn;

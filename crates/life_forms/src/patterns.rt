@@ -4,11 +4,11 @@ ghost use Rattle.std.specs.Prelude.{◌≡◌, ◌⊎◌, ◌^◌, ◌<◌, ◌�
 ghost use Rattle.life_forms.specs.Words.{fault_of, depth, tree_cell, MAX_LEVEL, Full, TooManyCells, largest_state, population, IsWantKind, held, IsKnown, IsTrimmed, IsWant, content, universe_in, least_level, square_universe, IsMoved, IsFew, IsMany, AddsMoved, LacksForMoved};
 ghost use Rattle.life_canon.specs.Store.{Keeps};
 
-use crate::moves::moved_plane;
+use crate::moves::moved_root;
 use life_base::{Fault, Kind, Rule};
 use life_canon::laws::squares_are_centred;
 use life_canon::{Pattern, least_level};
-use life_quad::{Id, Shared, trim};
+use life_quad::{Id, Shared};
 use std::alloc::Global;
 
 /// The cells of a square, moved into their place, as a pattern under this rule and in this generation.
@@ -20,7 +20,7 @@ pub(crate) fn moved_pattern(
     square: Id,
 ) -> Result<Pattern, Kind>
     requires known { IsKnown store.old square }
-    requires high { 1 ≤ depth (content store.old square) }
+    requires high { least_level rule ≤ depth (content store.old square) }
     requires states { (x y : ℤ) → tree_cell (content store.old square) x y ≤ largest_state rule }
     ensures trimmed { IfOk result (IsTrimmed store.new) }
     ensures moved { IfOk result (λ moved. IsMoved MAX_LEVEL
@@ -38,8 +38,7 @@ pub(crate) fn moved_pattern(
     ensures keeps { Keeps store.old store.new }
 {
     squares_are_centred();
-    let plane = moved_plane(alloc, store, square)?;
-    let root = trim(store, plane, least_level(&rule))?;
+    let root = moved_root(alloc, store, square, least_level(&rule))?;
     Ok(Pattern {
         rule,
         generation,
@@ -47,7 +46,7 @@ pub(crate) fn moved_pattern(
     })
 }
 
-/// The moved form of a pattern, in its store: the pattern with its least box at (0, 0), or, where the box would leave the plane so, ending with
+/// The moved form of a pattern, in its store: the pattern with its bounding box at (0, 0), or, where the box would leave the plane so, ending with
 /// the plane, columns and rows each for themselves. Two patterns have one moved form exactly if a shift takes the one to the other
 /// (`laws::moved_forms_tell_shifts`).
 ///

@@ -15,11 +15,11 @@ use Rattle.life_forms.proofs.images.moved_image.Goals as goal
 pub moved_pattern-requires-clause-states : goal.moved_pattern-requires-clause-states
 moved_pattern-requires-clause-states c =
     let t = content c.args.store.now c.args.pattern.now.root in
-    let s = content c.image_of.new.to c.in_ok-square.square in
+    let s = content c.turned.new.to c.in_ok-square.square in
     let full = (known_squares_are_full c.args.store.now c.args.pattern.now.root c.requires.known.0).0 in
-    let also = (known_squares_are_full c.image_of.new.to c.in_ok-square.square c.in_ok-square.ensures.known.0).0 in
+    let also = (known_squares_are_full c.turned.new.to c.in_ok-square.square c.in_ok-square.ensures.known.0).0 in
     let high = root-high c.args.pattern.now.rule _ c.requires.level in
-    let level = c.in_ok-square.ensures.level ∙ c.level-level.ensures.level in
+    let level = c.in_ok-square.ensures.level in
     let cells = turned-cells c.squares_are_centred.ensures c.centred_squares_tell_cells.ensures c.args.turn t s full also high level
     c.in_ok-square.ensures.square in
     λ x y. subst₂ (λ (n : ℕ) (r : Rule). n ≤ largest_state r) (sym (cells x y)) (sym c.in_ok-rule.ensures.ok)
@@ -29,11 +29,11 @@ pub returns-clause-moved : goal.returns-clause-moved
 returns-clause-moved c =
     let pattern = c.args.pattern.now in
     let t = content c.args.store.now pattern.root in
-    let s = content c.image_of.new.to c.in_ok-square.square in
+    let s = content c.turned.new.to c.in_ok-square.square in
     let full = (known_squares_are_full c.args.store.now pattern.root c.requires.known.0).0 in
-    let also = (known_squares_are_full c.image_of.new.to c.in_ok-square.square c.in_ok-square.ensures.known.0).0 in
+    let also = (known_squares_are_full c.turned.new.to c.in_ok-square.square c.in_ok-square.ensures.known.0).0 in
     let high = root-high pattern.rule _ c.requires.level in
-    let level = c.in_ok-square.ensures.level ∙ c.level-level.ensures.level in
+    let level = c.in_ok-square.ensures.level in
     let cells = turned-cells c.squares_are_centred.ensures c.centred_squares_tell_cells.ensures c.args.turn t s full also high level
     c.in_ok-square.ensures.square in
     IfOk-weaker c.moved_pattern.result _ _

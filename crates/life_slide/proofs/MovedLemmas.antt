@@ -1,0 +1,315 @@
+-- The cells of a square from another origin, and the square that has them.
+use Rattle.std.proofs.Common.{◌≡◌, ◌≢◌, ◌⊎◌, inl, inr, ℕ, zero, suc, ◌+◌, ◌-◌, ◌^◌, ◌<◌, ◌≤◌, nat_lt, if◌then◌else◌, Bool, true, false, true≢false, ℤ, pos, neg_ℤ, ◌+ℤ◌, ◌≤ℤ◌, ◌<ℤ◌, refl, sym, ◌∙◌, ap, subst, arith, to_z, of_z, w64}
+use Rattle.std.proofs.lemmas.Int.{ints}
+use Rattle.std.proofs.Math.Pow.{pow_mono}
+use Rattle.life_base.specs.Tree.{Tree, point, quad, depth, blank, half_side, state_at, tree_cell, IsFull}
+use Rattle.life_base.specs.declared.bounds.Bounds.{Bounds}
+use Rattle.life_base.proofs.Squares.{Inside, is_inside, inside_facts, inside_test, inside_offset, cell_inside, cell_outside, depth-blank, full-blank}
+use Rattle.life_quad.specs.Cells.{IsLeastBox}
+use Rattle.life_base.specs.declared.cell.TheConstants.{MAX_LEVEL}
+use Rattle.life_quad.specs.Moves.{trimmed}
+use Rattle.life_quad.specs.Refused.{SomePart}
+use Rattle.life_quad.proofs.LawLemmas.{cells_lie_inside, equal_by_plane, trimmed_by_cells, trimmed_is_fixed, trimming_keeps_cells, trimming_stops}
+use Rattle.life_block.specs.Needed.{square_from}
+use Rattle.life_block.specs.Pieces.{IsPiece, ahead}
+use Rattle.life_block.proofs.NeedLemmas.{AreParts, depth-square, joined-is, own-part, piece-is, quads, quarter-part, square-piece}
+use Rattle.life_block.proofs.PieceLemmas.{IsPiece-moved, blank-of_zero}
+use Rattle.life_block.proofs.RootLemmas.{corner, cells-of_piece}
+use Rattle.life_slide.specs.Needed.{SomeOfPlane}
+use Rattle.life_slide.specs.Pieces.{cells_from, IsNear, plane_from, south_eastern}
+use Rattle.life_slide.proofs.PlaneLemmas.{side}
+
+-- ---- from another origin
+
+abbrev from : (ℤ → ℤ → ℕ) → ℤ → ℤ → ℤ → ℤ → ℕ
+from f a b x y = f (x +ℤ a) (y +ℤ b)
+
+pub piece-from : (f : ℤ → ℤ → ℕ) (a b : ℤ) (s : Tree) (x y : ℤ) → IsPiece f (x +ℤ a) (y +ℤ b) s → IsPiece (from f a b) x y s
+piece-from f a b (point s) x y h = h
+piece-from f a b (quad p q r s) x y h =
+    let d = pos (2 ^ depth p) in
+    let ex : (x +ℤ a) +ℤ d ≡ (x +ℤ d) +ℤ a = omega (arith, ints) in
+    let ey : (y +ℤ b) +ℤ d ≡ (y +ℤ d) +ℤ b = omega (arith, ints) in (
+      piece-from f a b p x y h.0,
+      piece-from f a b q (x +ℤ d) y (IsPiece-moved f _ _ _ _ q ex refl h.1),
+      piece-from f a b r x (y +ℤ d) (IsPiece-moved f _ _ _ _ r refl ey h.2),
+      piece-from f a b s (x +ℤ d) (y +ℤ d) (IsPiece-moved f _ _ _ _ s ex ey h.3),
+    )
+
+pub square-from : (f : ℤ → ℤ → ℕ) (a b : ℤ) (k : ℕ) (x y : ℤ) → square_from f k (x +ℤ a) (y +ℤ b) ≡ square_from (from f a b) k x y
+unfolding square_from
+square-from f a b zero x y = refl
+square-from f a b (suc k) x y =
+    let d = 2 ^ k in
+    let ex : ahead (x +ℤ a) d ≡ ahead x d +ℤ a = omega (arith, ints) in
+    let ey : ahead (y +ℤ b) d ≡ ahead y d +ℤ b = omega (arith, ints) in
+    quads _ _ _ _ _ _ _ _
+    (square-from f a b k x y)
+    (ap (λ u. square_from f k u (y +ℤ b)) ex ∙ square-from f a b k (ahead x d) y)
+    (ap (λ v. square_from f k (x +ℤ a) v) ey ∙ square-from f a b k x (ahead y d))
+    ((λ i. square_from f k (ex i) (ey i)) ∙ square-from f a b k (ahead x d) (ahead y d))
+
+-- ---- the whole of a plane is in a square that is a piece of it, where all is 0 outside
+
+pub cells-of_root : (cells : ℤ → ℤ → ℕ) (r : Tree) (start : ℤ) → IsFull r → 1 ≤ depth r → start ≡ corner r → IsPiece cells start start r
+    → ((x y : ℤ) → (Inside (half_side r) x y → ⊥) → cells x y ≡ 0) → (x y : ℤ) → tree_cell r x y ≡ cells x y
+cells-of_root cells r start full high begin piece outside x y = by (is_inside (half_side r) x y) refl
+  where
+    whole : half_side r + half_side r ≡ 2 ^ depth r
+    whole = side (depth r) high
+
+    by : (b : Bool) → is_inside (half_side r) x y ≡ b → tree_cell r x y ≡ cells x y
+    by true e =
+        let k = inside_facts (half_side r) x y e in
+        let a = inside_offset (half_side r) x k.west k.east in
+        let b = inside_offset (half_side r) y k.north k.south in
+        let at-x = a.1 in
+        let at-y = b.1 in
+        let ex : corner r +ℤ pos a.0 ≡ x = omega (arith, ints, at-x) in
+        let ey : corner r +ℤ pos b.0 ≡ y = omega (arith, ints, at-y) in
+        cell_inside r x y a.0 b.0 e a.1 b.1 ∙ cells-of_piece cells r (corner r) (corner r) full
+        (IsPiece-moved cells _ _ _ _ r begin begin piece) a.0 b.0 (omega (arith, whole, a.2)) (omega (arith, whole, b.2))
+        ∙ (λ z. cells (ex z) (ey z))
+    by false e = cell_outside r x y e ∙ sym (outside x y (λ i. true≢false (sym (inside_test (half_side r) x y i) ∙ e)))
+
+zero-unless : (n : ℕ) → (n ≢ 0 → ⊥) → n ≡ 0
+zero-unless zero h = refl
+zero-unless (suc n) h = absurd (h (λ e. omega (arith, e)))
+
+-- ---- squares of planes without states above 255
+
+one-below : (v w : Bool) (p q r s : ℕ) → p < 256 → q < 256 → r < 256 → s < 256 → (if v then (if w then p else q) else (if w then r else s)) < 256
+one-below true true p q r s e f g h = e
+one-below true false p q r s e f g h = f
+one-below false true p q r s e f g h = g
+one-below false false p q r s e f g h = h
+
+state-below : (t : Tree) → IsFull t → (i j : ℕ) → state_at t i j < 256
+state-below (point s) h i j = h
+state-below (quad a b c d) h i j =
+    one-below (nat_lt j (2 ^ depth a)) (nat_lt i (2 ^ depth a)) _ _ _ _ (state-below a h.0 i j) (state-below b h.1 (i - 2 ^ depth a) j)
+    (state-below c h.2 i (j - 2 ^ depth a)) (state-below d h.3 (i - 2 ^ depth a) (j - 2 ^ depth a))
+
+below-or-none : (b : Bool) (n : ℕ) → n < 256 → (if b then n else 0) < 256
+below-or-none true n l = l
+below-or-none false n l = omega arith
+
+pub cell-below : (t : Tree) → IsFull t → (x y : ℤ) → tree_cell t x y < 256
+cell-below t full x y = below-or-none _ _ (state-below t full _ _)
+
+pub full-square : (f : ℤ → ℤ → ℕ) → ((x y : ℤ) → f x y < 256) → (k : ℕ) (x y : ℤ) → IsFull (square_from f k x y)
+unfolding square_from
+full-square f below zero x y = below x y
+full-square f below (suc k) x y =
+    let same : (u v : ℤ) → depth (square_from f k u v) ≡ depth (square_from f k x y) = (λ u v. depth-square f k u v ∙ sym (depth-square f k x y)) in (
+      full-square f below k x y,
+      full-square f below k _ y,
+      full-square f below k x _,
+      full-square f below k _ _,
+      same _ y,
+      same x _,
+      same _ _,
+    )
+
+-- the square about the middle has the plane's cells, where all others are 0
+pub centre-cells : (f : ℤ → ℤ → ℕ) → ((x y : ℤ) → f x y < 256) → (k : ℕ) → ((x y : ℤ) → (Inside (2 ^ k) x y → ⊥) → f x y ≡ 0) → (x y : ℤ)
+    → tree_cell (square_from f (suc k) (neg_ℤ (pos (2 ^ k))) (neg_ℤ (pos (2 ^ k)))) x y ≡ f x y
+centre-cells f below k outside =
+    let c = neg_ℤ (pos (2 ^ k)) in
+    let r = square_from f (suc k) c c in
+    let level : depth r ≡ suc k = depth-square f (suc k) c c in
+    let half : half_side r ≡ 2 ^ k = ap (λ n. 2 ^ n) (omega (arith, level)) in
+    cells-of_root f r c (full-square f below (suc k) c c) (omega (arith, level)) (ap (λ n. neg_ℤ (pos n)) (sym half)) (square-piece f (suc k) c c)
+    (λ x y apart. outside x y (λ i. apart (subst (λ n. Inside n x y) (sym half) i)))
+
+-- a part of a square's north-western quarter, and so on downwards
+lower-part : (P : Tree → Type 0) (f : ℤ → ℤ → ℕ) (d j : ℕ) (x y : ℤ) → SomePart P (square_from f j x y) → SomePart P (square_from f (d + j) x y)
+lower-part P f zero j x y s =
+    let e : j ≡ 0 + j = omega arith in subst (λ n. SomePart P (square_from f n x y)) e s
+lower-part P f (suc d) j x y s =
+    let e : suc (d + j) ≡ suc d + j = omega arith in
+    subst (λ n. SomePart P (square_from f n x y)) e (quarter-part P f (d + j) x y (inl (lower-part P f d j x y s)))
+
+less-or-same : (m n : ℕ) → m ≤ n → (m < n) ⊎ (m ≡ n)
+less-or-same m n h = grind arith
+
+-- the trimmed square of a plane is needed: it is smaller, or the square itself
+module _ (P : Tree → Type 0) (f : ℤ → ℤ → ℕ) where
+  abbrev whole : Tree
+  whole = square_from f 62 (neg_ℤ (pos (2 ^ 61))) (neg_ℤ (pos (2 ^ 61)))
+
+  trimmed-needed : IsFull whole → (m : ℕ) → 1 ≤ m → P (trimmed whole m) → SomeOfPlane P whole m
+  trimmed-needed full m positive p = by (less-or-same _ _ (trimming_stops whole m full positive).2)
+    where
+      by : (depth (trimmed whole m) < depth whole) ⊎ (depth (trimmed whole m) ≡ depth whole) → SomeOfPlane P whole m
+      by (inl l) = inr (record { smaller = l; has = p })
+      by (inr e) =
+          let is = equal_by_plane (trimmed whole m) whole (trimmed_is_fixed whole m full positive).0 full e (trimming_keeps_cells whole m full positive) in
+          inl (own-part P f 61 _ _ (trimmed whole m) is p)
+
+-- ---- the least box at (0, 0)
+
+module _ (t : Tree) (box : Bounds) (least : IsLeastBox t box) (high : 1 ≤ depth t) where
+  abbrev g : ℤ → ℤ → ℕ
+  g = cells_from t box.left box.top
+
+  abbrev k : ℕ
+  k = depth t
+
+  abbrev c : ℤ
+  c = neg_ℤ (pos (2 ^ k))
+
+  -- where a cell goes
+  goes : (x y : ℤ) → g x y ≢ 0 → (pos 0 ≤ℤ x) × (x <ℤ pos (2 ^ k)) × (pos 0 ≤ℤ y) × (y <ℤ pos (2 ^ k))
+  goes x y some =
+      let in-box = least.inside _ _ some in
+      let here = cells_lie_inside t _ _ some in
+      let left = cells_lie_inside t _ _ least.at_left.1 in
+      let top = cells_lie_inside t _ _ least.at_top.1 in
+      let twice = side (depth t) high in
+      let a = in-box.0 in
+      let b = in-box.2 in
+      let e = here.1 in
+      let s = here.3 in
+      let w = left.0 in
+      let n = top.2 in
+      (omega (arith, ints, a), omega (arith, ints, e, w, twice), omega (arith, ints, b), omega (arith, ints, s, n, twice))
+
+  west-zero : (x y : ℤ) → x <ℤ pos 0 → g x y ≡ 0
+  west-zero x y l = zero-unless _ (λ some. let a = (goes x y some).0 in omega (arith, ints, a, l))
+
+  north-zero : (x y : ℤ) → y <ℤ pos 0 → g x y ≡ 0
+  north-zero x y l = zero-unless _ (λ some. let a = (goes x y some).2 in omega (arith, ints, a, l))
+
+  pub outside-zero : (x y : ℤ) → (Inside (2 ^ k) x y → ⊥) → g x y ≡ 0
+  outside-zero x y apart = zero-unless _ (λ some.
+      let at = goes x y some in
+      let w = at.0 in
+      let e = at.1 in
+      let n = at.2 in
+      let s = at.3 in
+      apart (record { west = omega (arith, ints, w); east = e; north = omega (arith, ints, n); south = s }))
+
+  middle : ahead c (2 ^ k) ≡ pos 0
+  middle = omega (arith, ints)
+
+  -- the square that begins at the box is the south-eastern quarter of that of the moved cells
+  pub quarter-is : (inner : Tree) → IsFull inner → depth inner ≡ k → IsPiece (tree_cell t) box.left box.top inner
+      → south_eastern inner ≡ square_from g (suc k) c c
+  quarter-is inner full level piece =
+      let m = middle in
+      let blank-at : (u v : ℤ) → ((x y : ℤ) → u ≤ℤ x → x <ℤ ahead u (2 ^ k) → v ≤ℤ y → y <ℤ ahead v (2 ^ k) → g x y ≡ 0)
+      → blank k ≡ square_from g k u v = (λ u v zeros.
+      piece-is g k u v (blank k) (full-blank k) (depth-blank k) (blank-of_zero g k u v (record { zero_at = zeros }))) in
+      let ex : box.left ≡ ahead c (2 ^ k) +ℤ box.left = omega (arith, ints) in
+      let ey : box.top ≡ ahead c (2 ^ k) +ℤ box.top = omega (arith, ints) in
+      let quarters : AreParts g k c c (blank k) (blank k) (blank k) inner = record {
+        nw = blank-at c c (λ x y w e n s. west-zero x y (omega (arith, ints, e, m)));
+        ne = blank-at _ c (λ x y w e n s. north-zero x y (omega (arith, ints, s, m)));
+        sw = blank-at c _ (λ x y w e n s. west-zero x y (omega (arith, ints, e, m)));
+        se = piece-is g k _ _ inner full level (piece-from (tree_cell t) box.left box.top inner _ _ (IsPiece-moved (tree_cell t) _ _ _ _ inner ex ey piece));
+      } in
+      ap (λ n. quad (blank n) (blank n) (blank n) inner) level ∙ joined-is quarters
+
+  -- the square that begins at the box, from the other origin
+  pub inner-square : square_from (tree_cell t) k box.left box.top ≡ square_from g k (pos 0) (pos 0)
+  inner-square =
+      let ex : box.left ≡ pos 0 +ℤ box.left = omega (arith, ints) in
+      let ey : box.top ≡ pos 0 +ℤ box.top = omega (arith, ints) in
+      (λ i. square_from (tree_cell t) k (ex i) (ey i)) ∙ square-from (tree_cell t) box.left box.top k _ _
+
+  pub column-near : IsNear k box.left
+  column-near =
+      let left = cells_lie_inside t _ _ least.at_left.1 in
+      let w = left.0 in
+      let e = left.1 in
+      record { low = omega (arith, ints, w); high = omega (arith, ints, e) }
+
+  pub row-near : IsNear k box.top
+  row-near =
+      let top = cells_lie_inside t _ _ least.at_top.1 in
+      let n = top.2 in
+      let s = top.3 in
+      record { low = omega (arith, ints, n); high = omega (arith, ints, s) }
+
+  half-low : depth t ≤ 62 → half_side t ≤ 2 ^ 61
+  half-low low = pow_mono {i = depth t - 1} {j = 61} (omega (arith, low))
+
+  -- what the code computes with is the number
+  pub left-read : depth t ≤ 62 → to_z w64 (of_z w64 box.left) ≡ box.left
+  left-read low =
+      let half = half-low low in
+      let left = cells_lie_inside t _ _ least.at_left.1 in
+      let w = left.0 in
+      let e = left.1 in
+      omega (arith, ints, half, w, e)
+
+  pub top-read : depth t ≤ 62 → to_z w64 (of_z w64 box.top) ≡ box.top
+  top-read low =
+      let half = half-low low in
+      let top = cells_lie_inside t _ _ least.at_top.1 in
+      let n = top.2 in
+      let s = top.3 in
+      omega (arith, ints, half, n, s)
+
+  -- ---- on the plane
+
+  module _ (full : IsFull t) (low : depth t < MAX_LEVEL) where
+    below : (x y : ℤ) → g x y < 256
+    below x y = cell-below t full _ _
+
+    abbrev root : Tree
+    root = square_from g (suc k) c c
+
+    abbrev plane : Tree
+    plane = plane_from t box.left box.top
+
+    full-plane : IsFull plane
+    full-plane = full-square g below MAX_LEVEL _ _
+
+    -- the plane of the moved cells, trimmed, is their square one level higher, trimmed
+    pub root-trimmed : (m : ℕ) → 1 ≤ m → m ≤ k → trimmed (square_from g (suc k) c c) m ≡ trimmed (plane_from t box.left box.top) m
+    root-trimmed m positive le =
+        let side : 2 ^ k ≤ 2 ^ 61 = pow_mono {i = k} {j = 61} (omega (arith, low)) in
+        let higher : (x y : ℤ) → Inside (2 ^ k) x y → Inside (2 ^ 61) x y = (λ x y i.
+        let w = i.west in
+        let e = i.east in
+        let n = i.north in
+        let s = i.south in
+        record {
+          west = omega (arith, ints, side, w);
+          east = omega (arith, ints, side, e);
+          north = omega (arith, ints, side, n);
+          south = omega (arith, ints, side, s);
+        }) in
+        let deep-root : depth root ≡ suc k = depth-square g (suc k) c c in
+        let deep-plane : depth plane ≡ 62 = depth-square g 62 _ _ in
+        (trimmed_by_cells root plane m (full-square g below (suc k) c c) full-plane positive (omega (arith, deep-root, le))
+        (omega (arith, deep-plane, low, le))).1
+        (λ x y. centre-cells g below k outside-zero x y ∙ sym (centre-cells g below 61 (λ u v apart. outside-zero u v (λ i. apart (higher u v i))) x y))
+
+    -- the trimmed one is needed, and a part of the square that begins at the box
+    pub root-needed : (P : Tree → Type 0) (m : ℕ) → 1 ≤ m → P (trimmed (plane_from t box.left box.top) m) → SomeOfPlane P (plane_from t box.left box.top) m
+    root-needed P m positive p = trimmed-needed P g full-plane m positive p
+
+    pub inner-needed : (P : Tree → Type 0) (m : ℕ) → SomePart P (square_from (tree_cell t) k box.left box.top) → SomeOfPlane P (plane_from t box.left box.top) m
+    inner-needed P m s =
+        let levels : (61 - k) + k ≡ 61 = omega (arith, low) in
+        let at : pos 0 ≡ ahead (neg_ℤ (pos (2 ^ 61))) (2 ^ 61) = omega (arith, ints) in
+        let here = subst (λ n. SomePart P (square_from g n (pos 0) (pos 0))) levels
+        (lower-part P g (61 - k) k (pos 0) (pos 0) (subst (SomePart P) inner-square s)) in
+        inl (quarter-part P g 61 _ _ (inr (inr (inr (subst (λ z. SomePart P (square_from g 61 z z)) at here)))))
+
+-- the square of the plane that begins at another place
+pub plane-is : (t r : Tree) (a b x0 y0 : ℤ) → depth t ≡ 62 → IsFull r → depth r ≡ depth t
+    → x0 ≡ neg_ℤ (pos (2 ^ 61)) +ℤ neg_ℤ a → y0 ≡ neg_ℤ (pos (2 ^ 61)) +ℤ neg_ℤ b → IsPiece (tree_cell t) x0 y0 r
+    → r ≡ plane_from t (neg_ℤ a) (neg_ℤ b)
+plane-is t r a b x0 y0 whole full level ex ey piece =
+    let c = neg_ℤ (pos (2 ^ 61)) in
+    piece-is (cells_from t (neg_ℤ a) (neg_ℤ b)) 62 c c r full (level ∙ whole)
+    (piece-from (tree_cell t) (neg_ℤ a) (neg_ℤ b) r c c (IsPiece-moved (tree_cell t) _ _ _ _ r ex ey piece))
+
+pub plane-square : (t : Tree) (a b x0 y0 : ℤ) → depth t ≡ 62 → x0 ≡ neg_ℤ (pos (2 ^ 61)) +ℤ neg_ℤ a → y0 ≡ neg_ℤ (pos (2 ^ 61)) +ℤ neg_ℤ b
+    → square_from (tree_cell t) (depth t) x0 y0 ≡ plane_from t (neg_ℤ a) (neg_ℤ b)
+plane-square t a b x0 y0 whole ex ey =
+    (λ i. square_from (tree_cell t) (whole i) (ex i) (ey i)) ∙ square-from (tree_cell t) (neg_ℤ a) (neg_ℤ b) 62 _ _

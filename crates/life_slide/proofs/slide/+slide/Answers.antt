@@ -1,0 +1,276 @@
+use Rattle.std.proofs.Common.{◌≡◌, ℤ, ℕ, ◌+◌, ◌-◌, ◌%◌, ◌^◌, Result, Ok, Err, IfOk, refl, sym, ◌∙◌, ap, subst, arith}
+use Rattle.std.proofs.lemmas.Result.{IfOk-weaker}
+use Rattle.life_base.specs.Tree.{Tree, depth}
+use Rattle.life_base.proofs.Results.{on_err_any, on_err_both}
+use Rattle.life_quad.specs.Refused.{SomePart}
+use Rattle.life_quad.specs.Store.{four}
+use Rattle.life_quad.proofs.KeepingLemmas.{keeps-then, adds-as}
+use Rattle.life_sweep.proofs.NeedLemmas.{adds-more}
+use Rattle.life_block.specs.Needed.{square_from}
+use Rattle.life_block.specs.Pieces.{IsAt, IsPiece, ahead}
+use Rattle.life_block.proofs.NeedLemmas.{AreParts, is-piece, joined-is, parts-of_pieces, own-part, still-needs, on_err_map}
+use Rattle.life_block.proofs.PieceLemmas.{IsPiece-moved}
+use Rattle.life_block.proofs.SquareLemmas.{square-is}
+use Rattle.life_slide.specs.Needed.{SomeOfBlock, SomeOfNine}
+use Rattle.life_slide.specs.Pieces.{AreNine, IsBlock}
+use Rattle.life_slide.proofs.NeedLemmas.{nine-of, of_north_east, of_north_west, of_quarters, of_south_east, of_south_west, swapped}
+use Rattle.life_slide.proofs.SlideLemmas.{ahead-none, AreNine-kept, begins, block-eastern, block-western, new-answer, recalled-at, recalled-slid, rest-less, Remembers-kept, Remembers-more, slid-blank}
+use Rattle.life_slide.proofs.slide.+slide.Given.{Over}
+use Rattle.life_slide.proofs.slide.+slide.Goals as goal
+use Rattle.life_slide.proofs.slide.+slide.Goals.{slid_of-After-small, slid_by_quarters-After-quarters-nine, slid_by_quarters-After-remember, slid_of_nine-After-join}
+
+both : {T E : Type 0} {P Q R : T → Type 0} (r : Result T E) → ((x : T) → P x → Q x → R x) → IfOk r P → IfOk r Q → IfOk r R
+both (Ok x) f p q = f x p q
+both (Err e) f p q = tt
+
+pub slid_of-returns-then-is_still-clause-slid : goal.slid_of-returns-then-is_still-clause-slid
+slid_of-returns-then-is_still-clause-slid g m c cells x y h =
+    let s = c.is_still.ensures in
+    let is = c.if-is_still.true in
+    IsPiece-moved cells x _ y _ _ (ahead-none x _ (s.columns is)) (ahead-none y _ (s.rows is)) h.nw
+
+pub slid_of-returns-then-are_all-clause-slid : goal.slid_of-returns-then-are_all-clause-slid
+slid_of-returns-then-are_all-clause-slid g m c cells x y h =
+    let k = c.args.level in
+    slid-blank (g.S.Squares.content c.args.squares.now) cells k x y (c.args.offset.columns % 2 ^ k) (c.args.offset.rows % 2 ^ k) c.empty-blank.result
+    c.args.block.now c.empty-blank.ensures.square (rest-less _ k) (rest-less _ k) (c.are_all.ensures c.if-are_all.true) h
+
+-- the square whose cells are told is the one that begins there
+leaf-is : (g : Over) (m : ℕ) (c : slid_of-After-small g m) (cells : ℤ → ℤ → ℕ) (x y : ℤ)
+    → IsBlock (g.S.Squares.content c.args.squares.now) cells (2 ^ c.args.level) x y c.args.block.now
+    → four c.in-Some.cells ≡ square_from cells c.args.level (ahead x (c.args.offset.columns % 2 ^ c.args.level))
+    (ahead y (c.args.offset.rows % 2 ^ c.args.level))
+leaf-is g m c cells x y h =
+    let e = c.in-Some.ensures.level in
+    let content = g.S.Squares.content c.args.squares.now in
+    let n = c.in-Some.cells in
+    let columns = c.args.offset.columns in
+    let rows = c.args.offset.rows in
+    subst (λ l. IsBlock content cells (2 ^ l) x y c.args.block.now → four n ≡ square_from cells l (ahead x (columns % 2 ^ l)) (ahead y (rows % 2 ^ l))) (sym e)
+    (λ p. square-is cells _ _ n c.in-Some.ensures.small (c.in-Some.ensures.cells cells x y p)) h
+
+pub slid_of-returns-in-Some-clause-at : goal.slid_of-returns-in-Some-clause-at
+slid_of-returns-in-Some-clause-at g m c =
+    let e = c.in-Some.ensures.level in
+    both c.small.result (λ r known is. record { known = known; level = ap depth is ∙ sym e }) c.small.ensures.known c.small.ensures.square
+
+pub slid_of-returns-in-Some-clause-remembers : goal.slid_of-returns-in-Some-clause-remembers
+slid_of-returns-in-Some-clause-remembers g m c =
+    IfOk-weaker c.small.result _ _ (λ r known. Remembers-kept c.small.ensures.keeps c.requires.remembers) c.small.ensures.known
+
+pub slid_of-returns-in-Some-clause-slid : goal.slid_of-returns-in-Some-clause-slid
+slid_of-returns-in-Some-clause-slid g m c =
+    IfOk-weaker c.small.result _ _
+    (λ r is cells x y h. is-piece cells c.args.level _ _ _ (is ∙ leaf-is g m (goal.at.slid_of-returns-in-Some-clause-slid g m c).After-small cells x y h))
+    c.small.ensures.square
+
+pub slid_of-returns-in-Some-clause-needed : goal.slid_of-returns-in-Some-clause-needed
+slid_of-returns-in-Some-clause-needed g m c =
+    on_err_map c.small.result
+    (λ needed cells x y h. subst (SomePart (g.S.Squares.needs_node c.small.new.self))
+    (leaf-is g m (goal.at.slid_of-returns-in-Some-clause-needed g m c).After-small cells x y h) needed)
+    c.small.ensures.needed
+
+pub slid_of-returns-in-Some-clause-adds : goal.slid_of-returns-in-Some-clause-adds
+slid_of-returns-in-Some-clause-adds g m c =
+    adds-as _ c.small.ensures.adds
+    (λ P some cells x y h. subst (SomePart P) (leaf-is g m (goal.at.slid_of-returns-in-Some-clause-adds g m c).After-small cells x y h) some)
+
+-- ---- by quarters
+
+pub slid_by_quarters-returns-in-Some-clause-at : goal.slid_by_quarters-returns-in-Some-clause-at
+slid_by_quarters-returns-in-Some-clause-at g m c = recalled-at c.requires.remembers c.in-Some.ensures.answer c.requires.known
+
+pub slid_by_quarters-returns-in-Some-clause-slid : goal.slid_by_quarters-returns-in-Some-clause-slid
+slid_by_quarters-returns-in-Some-clause-slid g m c = recalled-slid c.requires.remembers c.in-Some.ensures.answer c.requires.known
+
+-- the square that the nine answer
+slid-of : (g : Over) (m : ℕ) (c : slid_by_quarters-After-remember g m) (cells : ℤ → ℤ → ℕ) (x y : ℤ)
+    → IsBlock (g.S.Squares.content c.args.squares.now) cells (2 ^ c.args.level) x y c.args.block.now
+    → IsPiece cells (ahead x (c.args.offset.columns % 2 ^ c.args.level)) (ahead y (c.args.offset.rows % 2 ^ c.args.level))
+    (g.S.Squares.content c.slid_of_nine.new.squares c.in_ok-answer.answer)
+slid-of g m c cells x y h =
+    let j = c.args.level - 1 in
+    let level : j + 1 ≡ c.args.level = omega (arith, c.requires.low) in
+    IsPiece-moved cells _ _ _ _ _ (begins c.digit.result c.args.offset.columns j c.args.level x c.digit.ensures level)
+    (begins c.digit-2.result c.args.offset.rows j c.args.level y c.digit-2.ensures level)
+    (c.in_ok-answer.ensures.slid cells _ _
+    (nine-of (g.S.Squares.content c.args.squares.now) 0 0 c.args.level c.digit.result c.digit-2.result c.requires.low
+    c.quarters-nine.ensures.pieces cells x y h))
+
+pub slid_by_quarters-returns-clause-slid : goal.slid_by_quarters-returns-clause-slid
+slid_by_quarters-returns-clause-slid g m c = slid-of g m (goal.at.slid_by_quarters-returns-clause-slid g m c).After-remember
+
+pub slid_by_quarters-returns-clause-remembers : goal.slid_by_quarters-returns-clause-remembers
+slid_by_quarters-returns-clause-remembers g m c =
+    let n = c.in_ok-answer.ensures in
+    let s = c.slid_of_nine.new.squares in
+    let level : c.args.level - 1 + 1 ≡ c.args.level = omega (arith, c.requires.low) in
+    let at = subst (λ l. IsAt (g.S.Squares.knows s) (g.S.Squares.content s) l c.in_ok-answer.answer) level n.at in
+    Remembers-more
+    (new-answer n.keeps c.requires.known at (slid-of g m (goal.at.slid_by_quarters-returns-clause-remembers g m c).After-remember))
+    c.remember.ensures n.remembers
+
+-- a part of the square of nine quarters is one of the square
+quarters-part : (g : Over) (m : ℕ) (c : slid_by_quarters-After-quarters-nine g m) (P : Tree → Type 0)
+    → SomeOfNine P (g.S.Squares.content c.args.squares.now) c.args.offset.columns c.args.offset.rows (c.args.level - 1) c.quarters-nine.result
+    → SomeOfBlock P (g.S.Squares.content c.args.squares.now) c.args.offset.columns c.args.offset.rows c.args.level c.args.block.now
+quarters-part g m c P =
+    of_quarters (g.S.Squares.content c.args.squares.now) c.args.offset.columns c.args.offset.rows c.args.level c.digit.result c.digit-2.result c.requires.low
+    c.quarters-nine.ensures.pieces P c.digit.ensures c.digit-2.ensures
+
+pub slid_by_quarters-returns-in_err-answer-clause-needed : goal.slid_by_quarters-returns-in_err-answer-clause-needed
+slid_by_quarters-returns-in_err-answer-clause-needed g m c =
+    on_err_any c.from_residual.result
+    (quarters-part g m (goal.at.slid_by_quarters-returns-in_err-answer-clause-needed g m c).After-quarters-nine
+    (g.S.Squares.needs_node c.slid_of_nine.new.squares) c.in_err-answer.ensures.needed)
+
+pub slid_by_quarters-returns-in_err-answer-clause-adds : goal.slid_by_quarters-returns-in_err-answer-clause-adds
+slid_by_quarters-returns-in_err-answer-clause-adds g m c =
+    adds-as _ c.in_err-answer.ensures.adds
+    (quarters-part g m (goal.at.slid_by_quarters-returns-in_err-answer-clause-adds g m c).After-quarters-nine)
+
+pub slid_by_quarters-returns-clause-adds : goal.slid_by_quarters-returns-clause-adds
+slid_by_quarters-returns-clause-adds g m c =
+    adds-as _ c.in_ok-answer.ensures.adds (quarters-part g m (goal.at.slid_by_quarters-returns-clause-adds g m c).After-quarters-nine)
+
+-- ---- of nine
+
+pub slid_of_nine-returns-clause-remembers : goal.slid_of_nine-returns-clause-remembers
+slid_of_nine-returns-clause-remembers g m c =
+    IfOk-weaker c.join.result _ _ (λ r known. Remembers-kept c.join.ensures.keeps c.in_ok-se.ensures.remembers) c.join.ensures.known
+
+pub slid_of_nine-returns-in_err-sw-clause-keeps : goal.slid_of_nine-returns-in_err-sw-clause-keeps
+slid_of_nine-returns-in_err-sw-clause-keeps g m c = keeps-then (keeps-then c.in_ok-nw.ensures.keeps c.in_ok-ne.ensures.keeps) c.in_err-sw.ensures.keeps
+
+pub slid_of_nine-returns-in_err-se-clause-keeps : goal.slid_of_nine-returns-in_err-se-clause-keeps
+slid_of_nine-returns-in_err-se-clause-keeps g m c =
+    keeps-then (keeps-then (keeps-then c.in_ok-nw.ensures.keeps c.in_ok-ne.ensures.keeps) c.in_ok-sw.ensures.keeps) c.in_err-se.ensures.keeps
+
+pub slid_of_nine-returns-clause-keeps : goal.slid_of_nine-returns-clause-keeps
+slid_of_nine-returns-clause-keeps g m c =
+    keeps-then (keeps-then (keeps-then (keeps-then c.in_ok-nw.ensures.keeps c.in_ok-ne.ensures.keeps) c.in_ok-sw.ensures.keeps) c.in_ok-se.ensures.keeps)
+    c.join.ensures.keeps
+
+-- the four answers are the quarters of the square
+parts : (g : Over) (m : ℕ) (c : slid_of_nine-After-join g m) (cells : ℤ → ℤ → ℕ) (x y : ℤ)
+    → AreNine (g.S.Squares.content c.args.squares.now) cells (2 ^ c.args.level) x y c.args.nine.now
+    → let now = g.S.Squares.content c.slid_of-4.new.squares in
+    AreParts cells c.args.level (ahead x (c.args.offset.columns % 2 ^ c.args.level)) (ahead y (c.args.offset.rows % 2 ^ c.args.level))
+    (now c.in_ok-nw.nw) (now c.in_ok-ne.ne) (now c.in_ok-sw.sw) (now c.in_ok-se.se)
+parts g m c cells x y h =
+    let k = c.args.level in
+    let side = 2 ^ k in
+    let content = g.S.Squares.content in
+    let nw = c.in_ok-nw.ensures in
+    let ne = c.in_ok-ne.ensures in
+    let sw = c.in_ok-sw.ensures in
+    let se = c.in_ok-se.ensures in
+    let north = keeps-then nw.keeps ne.keeps in
+    let h2 = AreNine-kept nw.keeps cells k side x y c.args.nine.now c.requires.known h in
+    let h3 = AreNine-kept north cells k side x y c.args.nine.now c.requires.known h in
+    let h4 = AreNine-kept (keeps-then north sw.keeps) cells k side x y c.args.nine.now c.requires.known h in
+    let ex = swapped x side (c.args.offset.columns % 2 ^ k) in
+    let ey = swapped y side (c.args.offset.rows % 2 ^ k) in
+    parts-of_pieces _ _ g.met.S.Squares.full refl _ _ ne.keeps sw.keeps se.keeps nw.at ne.at sw.at se.at
+    (nw.slid cells _ _ (block-western _ cells c.western.ensures h.first h.second))
+    (IsPiece-moved cells _ _ _ _ _ ex refl (ne.slid cells _ _ (block-eastern _ cells c.eastern.ensures h2.first h2.second)))
+    (IsPiece-moved cells _ _ _ _ _ refl ey (sw.slid cells _ _ (block-western _ cells c.western-2.ensures h3.second h3.third)))
+    (IsPiece-moved cells _ _ _ _ _ ex ey (se.slid cells _ _ (block-eastern _ cells c.eastern-2.ensures h4.second h4.third)))
+
+pub slid_of_nine-returns-clause-slid : goal.slid_of_nine-returns-clause-slid
+slid_of_nine-returns-clause-slid g m c =
+    IfOk-weaker c.join.result _ _
+    (λ r e cells x y h. is-piece _ _ _ _ _ (e ∙ joined-is (parts g m (goal.at.slid_of_nine-returns-clause-slid g m c).After-join cells x y h)))
+    c.join.ensures.square
+
+pub slid_of_nine-returns-in_err-nw-clause-needed : goal.slid_of_nine-returns-in_err-nw-clause-needed
+slid_of_nine-returns-in_err-nw-clause-needed g m c =
+    on_err_any c.from_residual.result
+    (of_north_west (g.S.Squares.needs_node c.slid_of.new.squares) c.args.offset.columns c.args.offset.rows c.args.level (g.S.Squares.content c.args.squares.now)
+    c.western.ensures c.in_err-nw.ensures.needed)
+
+pub slid_of_nine-returns-in_err-ne-clause-needed : goal.slid_of_nine-returns-in_err-ne-clause-needed
+slid_of_nine-returns-in_err-ne-clause-needed g m c =
+    on_err_any c.from_residual-in_err-ne.result
+    (of_north_east (g.S.Squares.needs_node c.slid_of-2.new.squares) c.args.offset.columns c.args.offset.rows c.args.level c.in_ok-nw.ensures.keeps
+    c.requires.known
+    c.eastern.ensures c.in_err-ne.ensures.needed)
+
+pub slid_of_nine-returns-in_err-sw-clause-needed : goal.slid_of_nine-returns-in_err-sw-clause-needed
+slid_of_nine-returns-in_err-sw-clause-needed g m c =
+    on_err_any c.from_residual-in_err-sw.result
+    (of_south_west (g.S.Squares.needs_node c.slid_of-3.new.squares) c.args.offset.columns c.args.offset.rows c.args.level
+    (keeps-then c.in_ok-nw.ensures.keeps c.in_ok-ne.ensures.keeps) c.requires.known c.western-2.ensures c.in_err-sw.ensures.needed)
+
+pub slid_of_nine-returns-in_err-se-clause-needed : goal.slid_of_nine-returns-in_err-se-clause-needed
+slid_of_nine-returns-in_err-se-clause-needed g m c =
+    on_err_any c.from_residual-in_err-se.result
+    (of_south_east (g.S.Squares.needs_node c.slid_of-4.new.squares) c.args.offset.columns c.args.offset.rows c.args.level
+    (keeps-then (keeps-then c.in_ok-nw.ensures.keeps c.in_ok-ne.ensures.keeps) c.in_ok-sw.ensures.keeps) c.requires.known c.eastern-2.ensures
+    c.in_err-se.ensures.needed)
+
+pub slid_of_nine-returns-clause-needed : goal.slid_of_nine-returns-clause-needed
+slid_of_nine-returns-clause-needed g m c =
+    let N = g.S.Squares.needs_node in
+    on_err_both c.join.result
+    (λ needs same cells x y h.
+    own-part (N c.join.new.self) _ _ _ _ _ (joined-is (parts g m (goal.at.slid_of_nine-returns-clause-needed g m c).After-join cells x y h))
+    (still-needs N _ _ _ same needs))
+    c.join.ensures.needed c.join.ensures.unchanged
+
+pub slid_of_nine-returns-in_err-nw-clause-adds : goal.slid_of_nine-returns-in_err-nw-clause-adds
+slid_of_nine-returns-in_err-nw-clause-adds g m c =
+    adds-as _ c.in_err-nw.ensures.adds
+    (λ P. of_north_west P c.args.offset.columns c.args.offset.rows c.args.level (g.S.Squares.content c.args.squares.now) c.western.ensures)
+
+pub slid_of_nine-returns-in_err-ne-clause-adds : goal.slid_of_nine-returns-in_err-ne-clause-adds
+slid_of_nine-returns-in_err-ne-clause-adds g m c =
+    let nw = c.in_ok-nw.ensures in
+    adds-more
+    (adds-as _ nw.adds (λ P. of_north_west P c.args.offset.columns c.args.offset.rows c.args.level (g.S.Squares.content c.args.squares.now) c.western.ensures))
+    c.in_err-ne.ensures.adds (λ P. of_north_east P c.args.offset.columns c.args.offset.rows c.args.level nw.keeps c.requires.known c.eastern.ensures)
+
+pub slid_of_nine-returns-in_err-sw-clause-adds : goal.slid_of_nine-returns-in_err-sw-clause-adds
+slid_of_nine-returns-in_err-sw-clause-adds g m c =
+    let nw = c.in_ok-nw.ensures in
+    let ne = c.in_ok-ne.ensures in
+    let north = keeps-then nw.keeps ne.keeps in
+    adds-more
+    (adds-more
+    (adds-as _ nw.adds (λ P. of_north_west P c.args.offset.columns c.args.offset.rows c.args.level (g.S.Squares.content c.args.squares.now) c.western.ensures))
+    ne.adds (λ P. of_north_east P c.args.offset.columns c.args.offset.rows c.args.level nw.keeps c.requires.known c.eastern.ensures))
+    c.in_err-sw.ensures.adds (λ P. of_south_west P c.args.offset.columns c.args.offset.rows c.args.level north c.requires.known c.western-2.ensures)
+
+pub slid_of_nine-returns-in_err-se-clause-adds : goal.slid_of_nine-returns-in_err-se-clause-adds
+slid_of_nine-returns-in_err-se-clause-adds g m c =
+    let nw = c.in_ok-nw.ensures in
+    let ne = c.in_ok-ne.ensures in
+    let sw = c.in_ok-sw.ensures in
+    let north = keeps-then nw.keeps ne.keeps in
+    adds-more
+    (adds-more
+    (adds-more
+    (adds-as _ nw.adds (λ P. of_north_west P c.args.offset.columns c.args.offset.rows c.args.level (g.S.Squares.content c.args.squares.now) c.western.ensures))
+    ne.adds (λ P. of_north_east P c.args.offset.columns c.args.offset.rows c.args.level nw.keeps c.requires.known c.eastern.ensures))
+    sw.adds (λ P. of_south_west P c.args.offset.columns c.args.offset.rows c.args.level north c.requires.known c.western-2.ensures))
+    c.in_err-se.ensures.adds
+    (λ P. of_south_east P c.args.offset.columns c.args.offset.rows c.args.level (keeps-then north sw.keeps) c.requires.known c.eastern-2.ensures)
+
+pub slid_of_nine-returns-clause-adds : goal.slid_of_nine-returns-clause-adds
+slid_of_nine-returns-clause-adds g m c =
+    let nw = c.in_ok-nw.ensures in
+    let ne = c.in_ok-ne.ensures in
+    let sw = c.in_ok-sw.ensures in
+    let north = keeps-then nw.keeps ne.keeps in
+    adds-more
+    (adds-more
+    (adds-more
+    (adds-more
+    (adds-as _ nw.adds (λ P. of_north_west P c.args.offset.columns c.args.offset.rows c.args.level (g.S.Squares.content c.args.squares.now) c.western.ensures))
+    ne.adds (λ P. of_north_east P c.args.offset.columns c.args.offset.rows c.args.level nw.keeps c.requires.known c.eastern.ensures))
+    sw.adds (λ P. of_south_west P c.args.offset.columns c.args.offset.rows c.args.level north c.requires.known c.western-2.ensures))
+    c.in_ok-se.ensures.adds
+    (λ P. of_south_east P c.args.offset.columns c.args.offset.rows c.args.level (keeps-then north sw.keeps) c.requires.known c.eastern-2.ensures))
+    c.join.ensures.adds
+    (λ P p cells x y h. own-part P _ _ _ _ _ (joined-is (parts g m (goal.at.slid_of_nine-returns-clause-adds g m c).After-join cells x y h)) p)

@@ -1,0 +1,4 @@
+pub mod Needed
+pub mod Pieces
+pub mod Remembered
+pub mod Words

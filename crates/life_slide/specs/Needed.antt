@@ -1,0 +1,30 @@
+-- Which squares a call stores that makes the square which begins at another place, and which one a refused call had to store.
+use Rattle.std.specs.Prelude.{◌⊎◌, ℕ, suc, ◌%◌, ◌^◌, ℤ}
+use Rattle.life_base.specs.Tree.{Tree, depth, tree_cell}
+use Rattle.life_quad.specs.Refused.{SomePart, TrimmedTo}
+use Rattle.life_quad.specs.declared.id.Id.{Id}
+use Rattle.life_quad.specs.declared.moves.Quarters.{Quarters}
+use Rattle.life_block.specs.Needed.{square_from}
+use Rattle.life_block.specs.Pieces.{ahead}
+use Rattle.life_slide.specs.Pieces.{AreNine, IsBlock, Nine}
+
+-- Both say that a square has a property which is part of the square that begins so many columns east and rows south of the first of several squares,
+-- wherever on a plane these are: the square of their level, of four squares two by two, or the square one level higher, of nine.
+module _ (P : Tree → Type 0) (content : Id → Tree) (columns rows k : ℕ) where
+  abbrev pub SomeOfBlock : Quarters → Type 0
+  SomeOfBlock block =
+      (cells : ℤ → ℤ → ℕ) (x y : ℤ) → IsBlock content cells (2 ^ k) x y block
+      → SomePart P (square_from cells k (ahead x (columns % 2 ^ k)) (ahead y (rows % 2 ^ k)))
+
+  abbrev pub SomeOfNine : Nine → Type 0
+  SomeOfNine nine =
+      (cells : ℤ → ℤ → ℕ) (x y : ℤ) → AreNine content cells (2 ^ k) x y nine
+      → SomePart P (square_from cells (suc k) (ahead x (columns % 2 ^ k)) (ahead y (rows % 2 ^ k)))
+
+-- a part of the square of the plane, or the square to which it is trimmed, has a property
+abbrev pub SomeOfPlane : (Tree → Type 0) → Tree → ℕ → Type 0
+SomeOfPlane P plane least = SomePart P plane ⊎ TrimmedTo P plane least
+
+-- the square of the plane of a square's own cells that has its level and begins at a place
+abbrev pub own_square_at : Tree → ℤ → ℤ → Tree
+own_square_at t x y = square_from (tree_cell t) (depth t) x y

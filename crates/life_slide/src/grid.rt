@@ -1,0 +1,140 @@
+//! Squares of one level side by side.
+ghost use Rattle.std.specs.Prelude.{◌≡◌, ℕ, ℤ, ◌+◌, ◌^◌, true};
+ghost use Rattle.life_slide.specs.Words.{IsAt, InThree, InFour, InNine, InBlock, IsBlock, AreNine, AreFour, AreTwo, ahead, start, four_of, three_from, western, eastern, ids_of};
+
+use life_quad::{Id, Quarters, Squares, divide};
+
+/// Three values side by side, from west to east or from north to south.
+#[derive(Clone, Copy)]
+pub(crate) struct Three<T> {
+    pub(crate) first: T,
+    pub(crate) second: T,
+    pub(crate) third: T,
+}
+
+/// Four values side by side, from west to east or from north to south.
+#[derive(Clone, Copy)]
+pub(crate) struct Four<T> {
+    pub(crate) first: T,
+    pub(crate) second: T,
+    pub(crate) third: T,
+    pub(crate) fourth: T,
+}
+
+/// Three rows of three squares.
+pub(crate) type Nine = Three<Three<Id>>;
+
+impl<T: Copy> Four<T> {
+    // These four, in order.
+    fn of(first: T, second: T, third: T, fourth: T) -> Four<T>
+        ensures { result ≡ four_of first second third fourth }
+    {
+        Four {
+            first,
+            second,
+            third,
+            fourth,
+        }
+    }
+
+    // The last three of them, or the first three.
+    fn three(&self, last: bool) -> Three<T>
+        ensures { result ≡ three_from last self.now }
+    {
+        if last {
+            Three {
+                first: self.second,
+                second: self.third,
+                third: self.fourth,
+            }
+        } else {
+            Three {
+                first: self.first,
+                second: self.second,
+                third: self.third,
+            }
+        }
+    }
+}
+
+// The northern halves of two squares side by side, and their southern halves.
+#[inline(always)]
+fn halves<S: Squares>(squares: &S, level: u8, west: Id, east: Id) -> (Four<Id>, Four<Id>)
+    requires west { IsAt (S.knows squares.now) (S.content squares.now) (level + 1) west }
+    requires east { IsAt (S.knows squares.now) (S.content squares.now) (level + 1) east }
+    ensures northern { InFour (IsAt (S.knows squares.now) (S.content squares.now) level) result.0 }
+    ensures southern { InFour (IsAt (S.knows squares.now) (S.content squares.now) level) result.1 }
+    ensures north { (cells : ℤ → ℤ → ℕ) (x y : ℤ)
+        → AreTwo (S.content squares.now) cells (2 ^ (level + 1)) x y west east
+        → AreFour (S.content squares.now) cells (2 ^ level) x y result.0 }
+    ensures south { (cells : ℤ → ℤ → ℕ) (x y : ℤ)
+        → AreTwo (S.content squares.now) cells (2 ^ (level + 1)) x y west east
+        → AreFour (S.content squares.now) cells (2 ^ level) x (ahead y (2 ^ level)) result.1 }
+{
+    let west = divide(squares, west);
+    let east = divide(squares, east);
+    (
+        Four::of(west.nw, west.ne, east.nw, east.ne),
+        Four::of(west.sw, west.se, east.sw, east.se),
+    )
+}
+
+/// Of the sixteen quarters of four squares, two by two, nine: the last three of each row or the first three, of the last three rows or the first.
+pub(crate) fn quarters<S: Squares>(
+    squares: &S,
+    level: u8,
+    block: &Quarters,
+    east: bool,
+    south: bool,
+) -> Nine
+    requires { InBlock (IsAt (S.knows squares.now) (S.content squares.now) (level + 1)) block.now }
+    ensures known { InNine (IsAt (S.knows squares.now) (S.content squares.now) level) result }
+    ensures pieces { (cells : ℤ → ℤ → ℕ) (x y : ℤ)
+        → IsBlock (S.content squares.now) cells (2 ^ (level + 1)) x y block.now
+        → AreNine (S.content squares.now) cells (2 ^ level) (start east x (2 ^ level))
+        (start south y (2 ^ level)) result }
+{
+    let (a, b) = halves(squares, level, block.nw, block.ne);
+    let (c, d) = halves(squares, level, block.sw, block.se);
+    let rows = Four::of(a.three(east), b.three(east), c.three(east), d.three(east));
+    rows.three(south)
+}
+
+// The four western squares of two rows of three.
+pub(crate) fn western(north: &Three<Id>, south: &Three<Id>) -> Quarters
+    ensures { result ≡ western north.now south.now }
+{
+    Quarters {
+        nw: north.first,
+        ne: north.second,
+        sw: south.first,
+        se: south.second,
+    }
+}
+
+// The four eastern ones.
+pub(crate) fn eastern(north: &Three<Id>, south: &Three<Id>) -> Quarters
+    ensures { result ≡ eastern north.now south.now }
+{
+    Quarters {
+        nw: north.second,
+        ne: north.third,
+        sw: south.second,
+        se: south.third,
+    }
+}
+
+/// Whether each of four is this square.
+pub(crate) fn are_all(block: &Quarters, id: Id) -> bool
+    ensures { result ≡ true → InBlock (λ other. other ≡ id) block.now }
+{
+    block.nw == id && block.ne == id && block.sw == id && block.se == id
+}
+
+/// The four squares as nine Ids, for a memory of nine: the first again in place of the other five.
+pub(crate) fn ids(block: &Quarters) -> [Id; 9]
+    ensures { result ≡ ids_of block.now }
+{
+    let Quarters { nw, ne, sw, se } = *block;
+    [nw, ne, sw, se, nw, nw, nw, nw, nw]
+}
