@@ -16,7 +16,7 @@ pub fn append(out: &mut Vec<u8>, bytes: &[u8]) -> Result<(), Kind>
     Ok(())
 }
 
-/// Adds a number in digits at the end, behind `-` if it is below 0; a refusal leaves the vector as it was.
+/// Adds a number in digits at the end, after `-` if it is below 0; a refusal leaves the vector as it was.
 pub fn append_number<N: Integer>(out: &mut Vec<u8>, number: N) -> Result<(), Kind>
     ensures ok { OnOk result (out.new.items ≡ out.old.items ++ N.text number) }
     ensures err { OnErr result (out.new.items ≡ out.old.items) }

@@ -11,19 +11,19 @@ pub trait Source {
     // How many calls have failed: 0 or 1.
     ghost failures: { Self → ℕ };
 
-    // The bytes that are left to read, where the source tells them.
+    // The bytes that are left to read, where the source reports them.
     ghost remaining: { Self → Option (List ℕ) } = { λ _. None };
 
     /// Whether a call has failed.
     fn failed(&self) -> bool
         ensures { IsTrue result ↔ (failures self.now ≡ 1) };
 
-    /// About how many bytes the source has, or 0 where it can't tell. That is a hint for the room that they take, and may be wrong.
+    /// About how many bytes the source has, or 0 where that isn't known. It is a hint for the capacity to reserve, and may be wrong.
     fn expected(&self) -> u64 {
         0
     }
 
-    /// Reads some of the next bytes into `buf`, and answers how many. A count of 0 into a nonempty `buf` is the end. A failure of
+    /// Reads some of the next bytes into `buf`, and returns how many. A count of 0 into a nonempty `buf` is the end. A failure of
     /// any cause is `ReadFault`.
     fn read(&mut self, buf: &mut [u8]) -> Result<usize, Kind>
         requires { failures self.old ≡ 0 }
@@ -40,7 +40,7 @@ pub trait Sink {
     // How many calls have failed: 0 or 1.
     ghost failures: { Self → ℕ };
 
-    // The bytes that were written, where the sink tells them.
+    // The bytes that were written, where the sink reports them.
     ghost contents: { Self → Option (List ℕ) } = { λ _. None };
 
     // Whether a write took none of the bytes that it was given. Nothing else sets it, and nothing takes it back.
@@ -53,7 +53,7 @@ pub trait Sink {
     fn failed(&self) -> bool
         ensures { IsTrue result ↔ (failures self.now ≡ 1) };
 
-    /// Writes the first bytes of `buf`, and answers how many. A failure of any cause is `WriteFault`, and then none was written.
+    /// Writes the first bytes of `buf`, and returns how many. A failure of any cause is `WriteFault`, and then none was written.
     fn write(&mut self, buf: &[u8]) -> Result<usize, Kind>
         requires { failures self.old ≡ 0 }
         ensures count { WritesAtMost result buf.now }
@@ -75,7 +75,7 @@ pub trait Sink {
     ghost at_most_one: { (s : Self) → failures s ≤ 1 };
 }
 
-/// A device over any reader or writer of `std`. It tells its bytes where the reader or writer does. An interrupted call has failed
+/// A device over any reader or writer of `std`. It reports its bytes where the reader or writer does. An interrupted call has failed
 /// like any other.
 #[derive(Drop)]
 pub struct Device<T> {

@@ -6,7 +6,7 @@ use thiserror::Error;
 /// A line of the input, counted from 1; 0 where the fault isn't of a line.
 #[derive(Clone, Copy, Debug, PartialEq, Eq)]
 pub struct Place {
-    /// The line's number. A number above 2^64 - 1 is told as 2^64 - 1.
+    /// The line's number. A number above 2^64 - 1 is reported as 2^64 - 1.
     pub line: u64,
 }
 

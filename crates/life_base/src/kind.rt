@@ -5,7 +5,7 @@ ghost use Rattle.life_base.specs.Words.{Memory};
 
 use std::alloc::{AllocError, AllocFailed};
 
-/// Why something was refused. `number` and `name` tell the kind outside the program.
+/// Why something was refused. `number` and `name` give the kind outside the program.
 #[derive(Clone, Copy, Debug, PartialEq, Eq)]
 pub enum Kind {
     /// The first line of RLE that is no comment doesn't begin with `x`, line 1 of a macrocell file not with `[M2]`, or the input ends before a header.
@@ -16,7 +16,7 @@ pub enum Kind {
     BadRule,
     /// A rule text with `:`.
     BoundedGrid,
-    /// A rule text with neighbours that aren't supported (`V` or `H` at the end of a B/S text, but for `V` behind `B`, `S` and digits up to 4), or
+    /// A rule text with neighbours that aren't supported (`V` or `H` at the end of a B/S text, but for `V` after `B`, `S` and digits up to 4), or
     /// with `/` and of no known form.
     UnsupportedRule,
     /// A B/S rule with 0 among its births.
@@ -33,7 +33,7 @@ pub enum Kind {
     StateRange,
     /// A position or a run outside the plane, or in a step a cell outside it that would not stay 0.
     OutOfPlane,
-    /// `#CXRLE` behind the header of RLE, or `#R` or `#G` behind the first node line.
+    /// `#CXRLE` after the header of RLE, or `#R` or `#G` after the first node line.
     LateHeader,
     /// A second header line in RLE.
     SecondHeader,
@@ -43,7 +43,7 @@ pub enum Kind {
     BadLevel,
     /// A child that is no earlier line, or whose level isn't one less.
     BadChild,
-    /// A leaf line with another byte, a ninth cell in a row, or anything behind the eighth `$`.
+    /// A leaf line with another byte, a ninth cell in a row, or anything after the eighth `$`.
     BadLeaf,
     /// A macrocell line that begins with `#FRAME`.
     Timeline,
@@ -146,7 +146,7 @@ impl Kind {
         }
     }
 
-    /// The name of the kind, as it is spelled in `Kind`.
+    /// The name of the kind, as it is written in `Kind`.
     pub fn name(&self) -> &'static str
         ensures { result.now ≡ kind_name self.now }
     {
@@ -208,7 +208,7 @@ impl From<AllocError> for Kind {
 impl<T: Drop> From<AllocFailed<T>> for Kind {
     ghost from_gives = { λ _ kind. kind ≡ Memory };
 
-    /// `Memory`; the value that found no room is dropped.
+    /// `Memory`; the value for which there was no memory is dropped.
     fn from(_refused: AllocFailed<T>) -> Kind {
         Kind::Memory
     }

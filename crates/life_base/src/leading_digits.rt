@@ -1,9 +1,9 @@
-//! The digits in front of a text.
+//! The digits at the beginning of a text.
 
 ghost use Rattle.std.specs.Prelude.{◌≡◌, ◌+◌, ◌*◌, ◌≤◌, length, take_while};
 ghost use Rattle.life_base.specs.Words.{is_ascii_digit, prefix_len, capped, value_of};
 
-/// A number with one digit more behind it, or the greatest of the type.
+/// A number with one digit more after it, or the greatest of the type.
 fn with_digit(number: u64, digit: u8) -> u64
     requires { digit ≤ 9 }
     ensures { result ≡ capped (number * 10 + digit) }
@@ -14,8 +14,8 @@ fn with_digit(number: u64, digit: u8) -> u64
     number.saturating_mul(10).saturating_add(u64::from(digit))
 }
 
-/// The number that the digits in front of a text write, and how many digits these are; a number of 2^64 or more is told as 2^64 - 1.
-/// Where no digit is in front both are 0.
+/// The number that the digits at the beginning of a text write, and how many digits these are; a number of 2^64 or more gives 2^64 - 1.
+/// Both are 0 if the text begins with no digit.
 pub fn leading_number(text: &[u8]) -> (u64, usize)
     ensures number { result.0 ≡ capped (value_of (take_while is_ascii_digit text.now)) }
     ensures count { result.1 ≡ prefix_len is_ascii_digit text.now }

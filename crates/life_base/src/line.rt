@@ -15,7 +15,7 @@ pub fn is_too_long(line: &[u8]) -> bool
     line.len() > LONGEST_LINE
 }
 
-/// Whether a line of `kept` bytes, with `more` bytes behind them, is no longer than a line may be.
+/// Whether a line of `kept` bytes, with `more` bytes after them, is no longer than a line may be.
 pub fn line_fits(kept: u64, more: u64) -> bool
     ensures { result ≡ nat_le (kept + more) (2 ^ 20) }
 {
@@ -23,7 +23,7 @@ pub fn line_fits(kept: u64, more: u64) -> bool
     kept <= longest && more <= longest - kept
 }
 
-/// Where the first line feed stands.
+/// The place of the first line feed.
 pub fn line_end(bytes: &[u8]) -> Option<usize>
     ensures { result ≡ position (λ b. b == byte "\n") bytes.now }
 {

@@ -13,7 +13,7 @@ pub enum Near {
     VonNeumann,
 }
 
-/// A B/S rule: the counts of live neighbours at which a dead cell is born and a live one survives. Bit d of a set stands for the
+/// A B/S rule: the counts of live neighbours at which a dead cell is born and a live one survives. Bit d of a set represents the
 /// count d; no cell is born on 0, and no count is above the number of neighbours, 8 or 4.
 #[derive(Clone, Copy, PartialEq, Eq)]
 pub struct LifeRule {
@@ -63,7 +63,7 @@ impl Model for Name {
 pub enum Rule {
     /// A B/S rule, by the number of a cell's live neighbours.
     Life(LifeRule),
-    /// A rule that only its name tells.
+    /// A rule that is given by its name alone.
     Named(Name),
 }
 

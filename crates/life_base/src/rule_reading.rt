@@ -39,7 +39,7 @@ fn digit_set(text: &[u8]) -> u16
     set
 }
 
-/// The digits before, between and behind the bytes that are no digits.
+/// The digits before, between and after the bytes that are no digits.
 fn digit_groups(alloc: Global, text: &[u8]) -> Result<Vec<&[u8]>, AllocError>
     ensures { IfOk result
         (λ groups. map (λ group. group.now) groups.items ≡ digit_groups text.now) }

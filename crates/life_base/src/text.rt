@@ -27,7 +27,7 @@ pub fn begins_with(text: &[u8], front: &[u8]) -> bool
     text.starts_with(front)
 }
 
-/// The text without the whitespace at its front.
+/// The text without the whitespace at its beginning.
 pub fn trimmed_start(text: &[u8]) -> &[u8]
     ensures { result.now ≡ trim_start text.now }
 {
@@ -115,7 +115,7 @@ fn negated(size: u64) -> i64
     -(size as i64)
 }
 
-/// The number that a digit text writes, behind an optional `-`: from -2^63 to 2^63 - 1. Another number is `TooLarge`, another text
+/// The number that a digit text writes, after an optional `-`: from -2^63 to 2^63 - 1. Another number is `TooLarge`, another text
 /// `BadNumber`.
 pub fn read_i64(text: &[u8]) -> Result<i64, Kind>
     ensures { result ≡ i64_of text.now }

@@ -5,14 +5,14 @@ ghost use Rattle.life_base.specs.Words.{is_whitespace, words_of, with_word};
 
 use crate::text::{is_whitespace, trimmed_start};
 
-/// Where the first whitespace stands.
+/// The place of the first whitespace.
 fn word_end(text: &[u8]) -> Option<usize>
     ensures { result ≡ position is_whitespace text.now }
 {
     text.iter().position(|byte| is_whitespace(*byte))
 }
 
-/// The first word of a text and what stands behind it; an empty word, if there is none.
+/// The first word of a text and what is after it; an empty word, if there is none.
 pub fn split_word(text: &[u8]) -> (&[u8], &[u8])
     ensures words { words_of text.now ≡ with_word result.0.now (words_of result.1.now) }
     ensures shorter { length result.0.now + length result.1.now ≤ length text.now }

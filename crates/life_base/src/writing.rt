@@ -6,7 +6,7 @@ use crate::devices::Sink;
 use crate::kind::Kind;
 
 /// Writes the whole text. `WriteFault` is the only refusal: the sink failed, or else it took no bytes and stalls from then on.
-/// A front of the text was written then.
+/// A prefix of the text was written then.
 pub fn write_text<W: Sink>(writer: &mut W, text: &[u8]) -> Result<(), Kind>
     requires { W.failures writer.old ≡ 0 }
     ensures text { WritesText (W.contents writer.old) (W.contents writer.new) text.now result }

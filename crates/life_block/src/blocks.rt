@@ -142,7 +142,7 @@ pub fn next_life_square<S: SharedSquares>(
     squares.join(north_west, north_east, south_west, south_east)
 }
 
-/// The square of the next generation under a B/S rule of the whole plane, of which no cell stands at the edge. Each square that it joins is part of
+/// The square of the next generation under a B/S rule of the whole plane, none of whose cells is at the edge. Each square that it joins is part of
 /// that one.
 ///
 /// # Errors

@@ -5,7 +5,7 @@ ghost use Rattle.life_block.specs.Words.{bit_at, count_of, next_by_count, count_
 use life_base::{LifeRule, Near};
 use life_sweep::Column;
 
-/// A word of cells, and those of the rows one further north and south. Bits i and i + 2 stand beside bit i + 1 in its row.
+/// A word of cells, and those of the rows one further north and south. Bits i and i + 2 are beside bit i + 1 in its row.
 pub(crate) type RowWords = Column<u64>;
 
 /// A number of 0 to 15 for each place.

@@ -28,7 +28,7 @@ fn is_off_edge(bounds: &Bounds) -> bool
     true
 }
 
-/// Whether the sweep has to answer: the square is that of the whole plane, and a cell stands at its edge, or it has no cell.
+/// Whether the sweep has to answer: the square is that of the whole plane, and a cell is at its edge, or it has no cell.
 ///
 /// # Errors
 ///
@@ -57,7 +57,7 @@ fn reaches_edge<S: SharedSquares>(alloc: Global, squares: &S, id: Id) -> Result<
 /// # Errors
 ///
 /// The first of these that holds: `TooManyCells` if more have one; `OutOfPlane` if a cell outside the plane would not stay 0. Or, before it is
-/// told, `Full` if the store holds its limit and a square of the generation is new, or `Memory`. After an error each Id has its square.
+/// reported, `Full` if the store holds its limit and a square of the generation is new, or `Memory`. After an error each Id has its square.
 pub fn next_life_generation<S: SharedSquares>(
     alloc: Global,
     squares: &mut S,

@@ -3,7 +3,7 @@
 //!
 //! A `Nine` is a square amid its neighbours, a `Sixteen` four rows of four squares, whose middle four have all their neighbours. Where nine
 //! squares are blank, the next states of the one in their middle are blank too. Where the sixteen have level 2, `leaf` makes four words
-//! of their 256 cells, `words` puts them in rows, and `counts` tells the next states of 64 places at once.
+//! of their 256 cells, `words` puts them in rows, and `counts` computes the next states of 64 places at once.
 #![tactic(auto)]
 
 mod blocks;

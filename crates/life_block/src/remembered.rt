@@ -1,11 +1,11 @@
-//! The next states of squares that were told before.
+//! The next states of squares that were computed before.
 ghost use Rattle.std.specs.Prelude.{◌≡◌, ◌⊎◌, IfSome};
 ghost use Rattle.life_block.specs.Words.{Recalls, IdValue, NineValue, ids_of};
 
 use crate::grid::Nine;
 use life_quad::{Id, NeighbourhoodMemory};
 
-/// The least level of squares that are remembered: lower ones are told as fast anew.
+/// The least level of squares that are remembered: lower ones are computed as fast again.
 const LEAST_LEVEL: u8 = 5;
 
 /// The answer that is remembered for a square of this level amid its neighbours.

@@ -69,7 +69,7 @@ pub(crate) fn next_squares(above: u64, here: u64, below: u64, rule: &LifeRule) -
         here,
         south: one_south(here, below),
     };
-    // The next states stand one place lower than their cells.
+    // The next states are one place lower than their cells.
     let next = squares_of_rows(next_word(&words, rule) << 1);
     (
         ((next >> 32) % 0x1_0000) as u16,

@@ -10,7 +10,7 @@ use Rattle.life_canon.specs.Room.{room_for, HoldsOnly, HoldsFront, AddsLines, Ad
 use Rattle.life_canon.proofs.NeedFacts.{front-more, whole-needs}
 use Rattle.life_canon.proofs.RoomCount.{room_suffices, few-more}
 
--- ---- what a store holds beside a list
+-- ---- what a store holds besides a list
 
 pub fronts_hold : FrontsHold
 fronts_hold bytes more base old new h = (

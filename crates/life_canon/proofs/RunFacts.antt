@@ -1,7 +1,7 @@
 -- How an input is read in pieces to its end.
 use Rattle.std.proofs.Common.{◌≡◌, ℕ, ◌+◌, ◌<◌, ◌≤◌, true, false, List, [], ◌++◌, length, take, refl, ap, sym, ◌∙◌, subst, arith, ◌⊎◌, inl, inr, Option, Some, None, length-append}
-use Rattle.std.specs.Prelude.{MatchOption, IfSome, Result, Ok, Err, IfErr, IsErrAnd, OnOk}
-use Rattle.std.proofs.lemmas.Result.{IfErr-weaker}
+use Rattle.std.specs.Prelude.{MatchOption, IfSome, Result, Ok, Err, IfOk, IfErr, IsErrAnd, OnOk}
+use Rattle.std.proofs.lemmas.Result.{IfOk-weaker, IfErr-weaker}
 use Rattle.std.specs.Io.KnownBytes.{Consumes, IsAtEnd}
 use Rattle.std.proofs.KnownBytes.{Consumes-trans}
 use Rattle.std.proofs.lemmas.List.{append-nil}
@@ -21,7 +21,8 @@ use Rattle.life_canon.specs.Laws.{LengthsStay}
 use Rattle.life_canon.specs.Needs.{LacksFor, LacksForFront, SomeOfFile}
 use Rattle.life_canon.specs.Room.{AddsLines, AddsFile, HoldsFile, HoldsFront, HoldsOnly, room_for}
 use Rattle.life_canon.specs.Running.{ReadRefuses, by_file, by_want, LacksForRead, for_front, for_file, AddsForRead, HoldsRead, IsTightForRead, ReadsSource}
-use Rattle.life_canon.specs.Store.{IsWant, Keeps, RefusesIn}
+use Rattle.life_canon.specs.ReadWhole.{ReadsWhole}
+use Rattle.life_canon.specs.Store.{IsRead, IsWant, Keeps, RefusesIn}
 use Rattle.life_canon.specs.declared.pattern.Pattern.{Pattern}
 use Rattle.life_mc.proofs.LineKinds.{broken_kind}
 use Rattle.life_rle.proofs.LineKinds.{Breaks-kind}
@@ -237,6 +238,16 @@ module _ (first store new : Nodes) (before mid after : Option (List ℕ)) (total
   pub ended-holds : refused ≡ None → {A : Type 0} (result : Result A Fault) → OnOk result (HoldsFile fed.bytes (held new))
       → OnOk result (HoldsRead most new (record { before = before; after = after; failures = failures }))
   ended-holds is result all = on-ok result all (λ holds. record { bytes = fed.bytes; read = ended-read is; all = holds })
+
+  -- the end came, and nothing was stored but what it needs
+  pub ended-whole : refused ≡ None → (result : Result Pattern Fault)
+      → IfOk result (λ pattern. (fed.spent ≡ false) × IsRead MAX_LEVEL fed.bytes new pattern) → AddsFile fed.bytes store new
+      → IfOk result (ReadsWhole most first new (record { before = before; after = after; failures = failures }))
+  ended-whole is result told adds =
+      let same = sym (open-state r is).1 in
+      let all : AddsFile fed.bytes first new = adds-then (λ P. SomeOfFile MAX_LEVEL P (lines_of fed.bytes)) r.adds adds
+      (λ P s. subst (λ (b : List ℕ). SomeOfFile MAX_LEVEL P (lines_of b)) same (whole-needs P r.bytes s)) (λ P s. s) in
+      IfOk-weaker result _ _ (λ pattern h. record { bytes = fed.bytes; read = ended-read is; is = h.1; adds = all }) told
 
   -- the end came, and the store has no room for what it has
   pub ended-lacks : refused ≡ None → LacksFor MAX_LEVEL fed.bytes new

@@ -15,6 +15,7 @@ pub mod Taking
 pub mod Feeding
 pub mod Fronts
 pub mod Running
+pub mod ReadWhole
 pub mod Pieces
 pub mod PieceLaws
 pub mod Walking

@@ -21,10 +21,6 @@ IsKnown store id = Knows store id × IsShared store
 abbrev pub content : Nodes → Id → Tree
 content store id = square_of (squares store.nodes) id
 
--- each Id keeps its square
-abbrev pub KeepsContents : Nodes → Nodes → Type 0
-KeepsContents old new = (id : Id) → IsKnown old id → IsKnown new id × (content new id ≡ content old id)
-
 -- each Id keeps its square, nothing stored is taken away, and the limit stays
 abbrev pub Keeps : Nodes → Nodes → Type 0
 Keeps = KeepsSquares IsKnown content held (λ store. store.limit)

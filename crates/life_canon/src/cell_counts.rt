@@ -28,7 +28,7 @@ fn leaf_count(rows: &[u8; 8]) -> u128
     u128::from(u64::from_be_bytes(*rows).count_ones())
 }
 
-/// Whether a number stands for a cell of a state other than 0 in a line of level 1: 1 or 0.
+/// Whether a number represents a cell of a state other than 0 in a line of level 1: 1 or 0.
 #[inline(always)]
 fn cell_count(number: u64) -> u128
     ensures count { (counts : List ℕ) → result ≡ number_count counts 1 number }
@@ -37,7 +37,7 @@ fn cell_count(number: u64) -> u128
     u128::from(number != 0)
 }
 
-/// How many cells what a number stands for in a line above level 1 has, where the squares of the lines before have so many.
+/// How many cells the square has that a number represents in a line above level 1, given how many the squares of the lines before have.
 #[inline(always)]
 fn square_count(counts: &[u128], number: u64) -> u128
     ensures { (level : ℕ) → (level == 1) ≡ false

@@ -1,4 +1,4 @@
-//! The front of a file, cut into lines.
+//! The prefix of a file that has been read so far, cut into lines.
 
 ghost use Rattle.std.specs.Prelude.{◌≡◌, ◌==◌, ◌⊎◌, ◌++◌, ◌<◌, ◌≤◌, ◌+◌, ◌-◌, ◌^◌, min, codes, true, ℕ, List, [], length, position, Some, None, IfSome, IfOk, IfErr, OnOk};
 ghost use Rattle.life_canon.specs.Words.{byte, Full, Memory, has_no_feed, fault_at, fault_of, Nodes, Stores, StoresFile, StoresLines, RefusesFront, HasBytes, HoldsFile, held, IsFrontIn, IsOpenIn, TakesLine, whole_lines, SomeOfLines, IsKnown, IsRead, IsWant, RefusesIn, content, IsEnd, IsFrontOf, IsOpen, IsOver, StandsFor, bytes_of};
@@ -17,13 +17,13 @@ pub(crate) struct Front {
     // The bytes so far, in pieces; only contracts see them.
     pub(crate) pieces: LineLog,
     pub(crate) kept: Vec<u8>,
-    // How many lines have ended before `!`; a number above 2^64 - 1 is told as that.
+    // How many lines have ended before `!`; a number above 2^64 - 1 counts as that.
     pub(crate) ended: u64,
     pub(crate) progress: Progress,
 }
 
 impl Front {
-    /// The front of no bytes. It takes no memory.
+    /// The prefix of no bytes. It takes no memory.
     pub(crate) fn new(alloc: Global) -> Front
         ensures front { IsFrontOf result }
         ensures bytes { bytes_of result.pieces.lines ≡ [] }
@@ -46,7 +46,7 @@ impl Front {
         Fault::at(self.ended.saturating_add(1), kind)
     }
 
-    /// Where the line ends that is being read, if it ends in these bytes. Behind `!` nobody asks.
+    /// Where the line ends that is being read, if it ends in these bytes. It isn't called after `!`.
     fn next_end(&self, bytes: &[u8]) -> Option<usize>
         requires { IsOpen self.now.progress }
         ensures going { IfSome result (λ _. IsOver self.now.progress → ⊥) }
@@ -145,7 +145,7 @@ impl Front {
         Ok(())
     }
 
-    /// Takes the bytes of a piece behind its last line feed, or behind `!`.
+    /// Takes the bytes of a piece after its last line feed, or after `!`.
     fn end_piece(&mut self, rest: &[u8]) -> Result<(), Fault>
         requires front { IsFrontOf self.old }
         requires last { IsOver self.old.progress ⊎ (has_no_feed rest.now ≡ true) }

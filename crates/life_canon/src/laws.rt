@@ -108,7 +108,7 @@ pub fn patterns_fit()
     ensures { PatternsFit MAX_LEVEL }
 {}
 
-/// What was read into a store stays read behind each call that keeps the store's squares.
+/// What was read into a store stays read after each call that keeps the store's squares.
 pub fn patterns_stay()
     ensures { PatternsStay MAX_LEVEL }
 {}
@@ -123,18 +123,18 @@ pub fn readers_stand()
     ensures { ReadersStand }
 {}
 
-/// A fault that is told stays: what can be told of the front of an input is the fault of every longer input, whatever bytes follow.
+/// A fault stays: what can be reported of a prefix of an input is the fault of every longer input, whatever bytes follow.
 pub fn faults_stay()
     ensures { FaultsStay MAX_LEVEL }
 {}
 
-/// What is too long stays too long: an input of which more bytes came than may be read is never read to its end with more bytes behind it.
+/// What is too long stays too long: an input of which more bytes came than may be read is never read to its end with more bytes after it.
 pub fn lengths_stay()
     ensures { LengthsStay }
 {}
 
-/// The length of an input hides no fault: what can be told of its first bytes, as many as may be read, is the fault of the whole, and the fault
-/// of a line that ends in them can be told of them.
+/// The length of an input hides no fault: what can be reported of its first bytes, as many as may be read, is the fault of the whole, and the fault
+/// of a line that ends in them can be reported of them.
 pub fn length_hides_no_fault()
     ensures { LengthHidesNoFault MAX_LEVEL }
 {}
@@ -145,12 +145,12 @@ pub fn few_squares()
 {}
 
 /// A store that lacks a square of a file, and holds only squares of a list and squares of the file, each once, holds fewer than the list has and
-/// 14 n + 264 more: so it is not full, if its limit leaves room for these.
+/// 14 n + 264 more: so it is not full, if its limit allows these.
 pub fn room_suffices()
     ensures { RoomSuffices }
 {}
 
-/// What a store holds beside a list, while a file comes in pieces, are squares of the lines that have ended, and so squares of the file.
+/// What a store holds besides a list, while a file comes in pieces, are squares of the lines that have ended, and so squares of the file.
 pub fn fronts_hold()
     ensures { FrontsHold }
 {}

@@ -32,7 +32,7 @@ fn two_rows<S: Squares>(squares: &S, id: Id) -> [u8; 2]
     ]
 }
 
-/// The four rows of the square of level 2 with these cells, as `Squares::small_cells` tells them.
+/// The four rows of the square of level 2 with these cells, as `Squares::small_cells` gives them.
 #[inline(always)]
 fn rows_of_cells(cells: u16) -> [u8; 4]
     ensures rows { result ≡ row_of_four (four cells) 0 ∷ row_of_four (four cells) 1
@@ -96,7 +96,7 @@ fn beside(west: [u8; 4], east: [u8; 4]) -> [u8; 4]
     ]
 }
 
-/// The rows of eight cells of two squares of level 2 side by side. Where the store tells the cells of both, no square is looked up.
+/// The rows of eight cells of two squares of level 2 side by side. If the store gives the cells of both, no square is looked up.
 #[inline(always)]
 fn rows_beside<S: Squares>(squares: &S, west: Id, east: Id) -> [u8; 4]
     requires west { S.knows squares.now west }

@@ -23,7 +23,7 @@ pub(crate) trait LineSink<D> {
     // It is so after a line that it refused with this kind.
     ghost refuses: { Self × D → KindValue → Type 0 };
 
-    /// Takes a line behind those that it took before.
+    /// Takes a line after those that it took before.
     fn take(&mut self, device: &mut D, line: &Line) -> Result<(), Kind>
         requires { ready (self.old, device.old) }
         ensures ready { OnOk result (ready (self.new, device.new)) }
@@ -53,6 +53,6 @@ pub(crate) trait LineSink<D> {
     // At first it took nothing.
     ghost begins: { (a : Self × D) → took a a [] };
 
-    // It may stop behind each line.
+    // It may stop after each line.
     ghost stops: { (a : Self × D) → ready a → BreaksOff took broke a a };
 }

@@ -37,7 +37,7 @@ fn two_digits(rows: &[u8; 8], column: u8, row: u8) -> u16
     4 * north + south
 }
 
-/// The cells of the square of level 2 whose north-west cell stands in this column and row of a leaf, as `Squares::small` takes them.
+/// The cells of the square of level 2 whose north-west cell is in this column and row of a leaf, as `Squares::small` takes them.
 fn sixteen_bits(rows: &[u8; 8], column: u8, row: u8) -> u16
     requires column { column < 5 }
     requires row { row < 5 }
@@ -60,7 +60,7 @@ fn leaf_square<S: Squares>(squares: &mut S, rows: &[u8; 8]) -> Result<Id, Kind>
     squares.join(nw, ne, sw, se)
 }
 
-/// The square that a number stands for in a line of the next level: a cell's state, the blank square, or the square of an
+/// The square that a number represents in a line of the next level: a cell's state, the blank square, or the square of an
 /// earlier line.
 fn quarter<S: Squares>(squares: &S, ids: &[Id], level: u8, number: u64) -> Id
     requires level { level < MAX_LEVEL }

@@ -19,7 +19,7 @@ fn is_leaf(rule: &Rule, level: u8) -> bool
     }
 }
 
-/// The number that stands for a square of a level in a node line, where nothing has to be written for it: a cell's state, 0 for a blank
+/// The number that represents a square of a level in a node line, where nothing has to be written for it: a cell's state, 0 for a blank
 /// square, else the number that it has.
 fn known_number<S: SharedSquares>(
     squares: &S,
@@ -48,9 +48,9 @@ fn known_number<S: SharedSquares>(
     numbers.get(id)
 }
 
-/// Gives a sink the lines of the squares of the walk over a square of a level that have no number yet, each behind those of its quarters, and
-/// gives them numbers. It answers the number that stands for the square in a node line. Besides what the sink refuses, memory is refused only
-/// where a square of the store had no room for its number.
+/// Gives a sink the lines of the squares of the walk over a square of a level that have no number yet, each after those of its quarters, and
+/// gives them numbers. It answers the number that represents the square in a node line. Besides what the sink refuses, memory is refused only
+/// if there was no capacity for the number of a square of the store.
 #[cycle(walk)]
 #[inline(always)]
 fn walk_square<S: SharedSquares, D, L: LineSink<D>>(
@@ -129,7 +129,7 @@ fn walk_new_square<S: SharedSquares, D, L: LineSink<D>>(
 }
 
 /// Gives a sink the lines of the squares of a pattern, in their order. No square has a number yet. Besides what the sink refuses, memory is
-/// refused only where a square of the store has no room for its number.
+/// refused only if there is no capacity for the number of a square of the store.
 pub(crate) fn walk_pattern<S: SharedSquares, D, L: LineSink<D>>(
     squares: &S,
     pattern: &Pattern,

@@ -1,4 +1,4 @@
-//! A piece of a text, which is written before it outgrows its room.
+//! A piece of a text, which is written before it outgrows its capacity.
 
 ghost use Rattle.std.specs.Prelude.{refl, ◌≡◌, ◌⊎◌, ◌+◌, ◌++◌, ◌≤◌, [], true, vec_len, vec_capacity, OnOk, OnErr};
 ghost use Rattle.life_canon.specs.Words.{WriteFault, WritesPrefix, LeavesSink, node_text, WritesFront, PieceTakes, PieceBreaks, piece-begins, piece-stops, unfailed};
@@ -10,14 +10,14 @@ use life_mc::{LONGEST_NODE_LINE, Line, append_line};
 /// How many bytes are read, or held before they are written, at once.
 pub(crate) const PIECE: usize = 65536;
 
-/// Whether a line fits behind what the piece holds.
+/// Whether a line fits after what the piece holds.
 fn has_room_for_line(piece: &Vec<u8>) -> bool
     ensures { result ≡ true → vec_len piece.now + 105 ≤ 65536 }
 {
     piece.len() <= PIECE - LONGEST_NODE_LINE
 }
 
-/// Writes what the piece holds, and empties it. Its room stays. It is never inlined, so that a line that fits is written in few steps.
+/// Writes what the piece holds, and empties it. Its capacity stays. It is never inlined, so that a line that fits is written in few steps.
 #[inline(never)]
 fn write_piece<W: Sink>(piece: &mut Vec<u8>, writer: &mut W) -> Result<(), Kind>
     requires { W.failures writer.old ≡ 0 }
@@ -34,7 +34,7 @@ fn write_piece<W: Sink>(piece: &mut Vec<u8>, writer: &mut W) -> Result<(), Kind>
     Ok(())
 }
 
-/// Adds a line, behind what the piece holds. Where it may not fit, that is written first.
+/// Adds a line, after what the piece holds. Where it may not fit, that is written first.
 #[inline(always)]
 fn write_line<W: Sink>(line: &Line, piece: &mut Vec<u8>, writer: &mut W) -> Result<(), Kind>
     requires room { 65536 ≤ vec_capacity piece.old }
@@ -53,7 +53,7 @@ fn write_line<W: Sink>(line: &Line, piece: &mut Vec<u8>, writer: &mut W) -> Resu
     append_line(piece, line)
 }
 
-/// A text of which a front was written. This holds the rest, and has room for 65,536 bytes.
+/// A text of which a prefix was written. This holds the rest, and has space for 65,536 bytes.
 #[derive(Drop)]
 pub(crate) struct Piece {
     pub(crate) bytes: Vec<u8>,

@@ -17,9 +17,9 @@ use std::alloc::Global;
 pub(crate) enum Progress {
     /// No line came.
     Undecided,
-    /// The front of an RLE file, its runs, and room for those of one line.
+    /// What comes before the items of an RLE file, its runs, and a vector for those of one line.
     Rle(RleLines, Builder, Vec<Run>),
-    /// The front of a macrocell file, and the squares of its node lines.
+    /// What comes before the node lines of a macrocell file, and the squares of these lines.
     Macrocell(McLines, Vec<Id>),
 }
 
@@ -39,7 +39,7 @@ fn add_runs<S: Squares>(squares: &mut S, builder: &mut Builder, runs: &[Run]) ->
     Ok(())
 }
 
-/// Takes a line of an RLE file. The vector lends room for its runs.
+/// Takes a line of an RLE file. The vector lends memory for its runs.
 fn take_rle_line<S: Squares>(
     squares: &mut S,
     lines: &mut RleLines,

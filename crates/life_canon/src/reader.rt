@@ -11,9 +11,9 @@ use std::alloc::Global;
 use std::marker::Model;
 
 /// Takes a file of either format in pieces, cut anywhere, and puts each line into a store as the line ends. It keeps at most
-/// 2^20 bytes of an unfinished line, and none behind the line that holds `!`.
+/// 2^20 bytes of an unfinished line, and none after the line that holds `!`.
 ///
-/// One store serves all calls: each square that the reader keeps has to stand in it.
+/// One store serves all calls: it must have each square that the reader keeps.
 #[derive(Drop)]
 pub struct Reader {
     front: Front,
@@ -61,7 +61,7 @@ impl Reader {
         ensures open { OnOk result ((self.old.spent ≡ false) × (self.new.spent ≡ false)) }
         ensures stands { OnOk result (Stands store.new self.new) }
 
-        // A line's fault is told by the call in which the line ends or grows too long, and by no later one.
+        // A line's fault is reported by the call in which the line ends or grows too long, and by no later one.
         ensures front { OnOk result
             ((fault : FaultValue) → RefusesFront MAX_LEVEL self.new.bytes fault → ⊥) }
         ensures fault { self.old.spent ≡ false
@@ -71,7 +71,7 @@ impl Reader {
         ensures refused { OnErr result (self.new.spent ≡ true) }
         ensures spent { self.old.spent ≡ true → IfErr result (λ fault. fault ≡ fault_of Spent) }
 
-        // Behind the line that holds `!` no byte is kept.
+        // After the line that holds `!` no byte is kept.
         ensures over { OnOk result (IsOverAt MAX_LEVEL self.new.bytes → self.new.kept ≡ []) }
     {
         if self.spent {

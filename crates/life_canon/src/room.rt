@@ -1,17 +1,17 @@
-//! Room for the squares of an input of which the length is known.
+//! Capacity for the squares of an input whose length is known.
 
 ghost use Rattle.std.specs.Prelude.{◌≡◌};
 
 use life_quad::Shared;
 
-/// How many bytes come before room is made for the first time.
+/// How many bytes come before capacity is reserved for the first time.
 const SAMPLE: u64 = 1 << 16;
 
-/// Room is made for no more than one node for so many bytes that are still to come, whatever the rate was: an input may be dense in its
-/// front alone.
+/// Capacity is reserved for no more than one node for so many bytes that are still to come, whatever the rate was: an input may be dense at its
+/// beginning only.
 const LEAST_BYTES: u64 = 8;
 
-/// When room is made in a store for the squares of the rest of an input, and for how many: at the rate of the bytes before it. It changes
+/// When capacity is reserved in a store for the squares of the rest of an input, and for how many: at the rate of the bytes before it. It changes
 /// nothing that can be seen.
 #[derive(Drop)]
 pub(crate) struct Room {
@@ -19,7 +19,7 @@ pub(crate) struct Room {
     nodes: usize,
     /// About how many bytes the input has, or 0.
     expected: u64,
-    /// Behind how many bytes room is made the next time.
+    /// After how many bytes capacity is reserved the next time.
     next: u64,
 }
 
@@ -32,7 +32,7 @@ impl Room {
         }
     }
 
-    /// Makes room, where it is time, behind so many bytes of the input: behind 64 KiB, and each time that they are twice as many.
+    /// Reserves capacity after the first 64 KiB of the input, and again each time the byte count doubles.
     pub(crate) fn make(&mut self, store: &mut Shared, count: u64)
         ensures { store.new ≡ store.old }
     {

@@ -2,6 +2,7 @@
 
 ghost use Rattle.std.specs.Prelude.{◌≡◌, ◌≢◌, ◌⊎◌, ◌+◌, ◌<◌, ◌≤◌, ◌^◌, ℕ, List, length, true, false, IsTrue, ◌↔◌, IfOk, IfErr, OnOk, IfSome, Some, None, Err, ◌++◌};
 ghost use Rattle.life_canon.specs.Words.{source_run, sink_run, fault_of, ReadsPattern, RunsCanon, AreWorking, RefusesFront, Stands, whole_lines, Tree, LacksForFront, AddsLines, HoldsFront, room_for, Keeps, IsWant};
+ghost use Rattle.life_canon.specs.ReadWhole.{ReadsWhole};
 
 use crate::pattern::Pattern;
 use crate::piece::PIECE;
@@ -15,14 +16,17 @@ use std::alloc::Global;
 /// The most bytes of an input.
 const LONGEST_INPUT: u64 = 1 << 30;
 
-/// Whether a fault of this kind ends the run at once: want of room or of memory.
+/// How many bytes are read at once of an input that is expected to have fewer.
+const SHORT_PIECE: usize = 2048;
+
+/// Whether a fault of this kind ends the run at once: a full store, or no more memory.
 fn ends_at_once(kind: Kind) -> bool
     ensures { IsTrue result ↔ ((kind ≡ Kind.Full) ⊎ (kind ≡ Kind.Memory)) }
 {
     matches!(kind, Kind::Full | Kind::Memory)
 }
 
-/// Feeds a piece, unless a line was refused, and answers the fault of a refused line. Want of room or of memory ends the run.
+/// Feeds a piece, unless a line was refused, and returns the fault of a refused line. A full store, or no more memory, ends the run.
 fn feed_piece(
     reader: &mut Reader,
     store: &mut Shared,
@@ -55,25 +59,29 @@ fn feed_piece(
     }
 }
 
-/// Reads to the end of the input, and answers its pattern.
-fn read_source<R: Source>(
+/// Reads to the end of the input, as many bytes at once as the buffer holds, and returns its pattern.
+#[inline(never)]
+fn read_by_pieces<R: Source>(
     alloc: Global,
     store: &mut Shared,
     source: &mut R,
     most: u64,
+    piece: &mut [u8],
 ) -> Result<Pattern, Fault>
     requires working { R.failures source.old ≡ 0 }
     requires bound { most ≤ 2 ^ 30 }
-    ensures { ReadsPattern most store.old store.new
+    requires some { 0 < length piece.old }
+    ensures reads { ReadsPattern most store.old store.new
         (source_run R.remaining R.failures source.old source.new) result }
+    ensures only { IfOk result (ReadsWhole most store.old store.new
+        (source_run R.remaining R.failures source.old source.new)) }
 {
     let mut reader = Reader::new(alloc);
     let mut room = Room::new(store, source.expected());
     let mut refused = None;
     let mut total = 0u64;
-    let mut piece = [0u8; PIECE];
     loop {
-        let count = source.read(&mut piece)?;
+        let count = source.read(piece)?;
         if count == 0 {
             break;
         }
@@ -90,27 +98,53 @@ fn read_source<R: Source>(
     }
 }
 
+/// Reads to the end of the input, and returns its pattern. A buffer is filled with zeros before it is read into, so an input that is expected to be
+/// short gets a short one.
+fn read_source<R: Source>(
+    alloc: Global,
+    store: &mut Shared,
+    source: &mut R,
+    most: u64,
+) -> Result<Pattern, Fault>
+    requires working { R.failures source.old ≡ 0 }
+    requires bound { most ≤ 2 ^ 30 }
+    ensures reads { ReadsPattern most store.old store.new
+        (source_run R.remaining R.failures source.old source.new) result }
+    ensures only { IfOk result (ReadsWhole most store.old store.new
+        (source_run R.remaining R.failures source.old source.new)) }
+{
+    let expected = source.expected();
+    if 0 < expected && expected < SHORT_PIECE as u64 {
+        let mut piece = [0u8; SHORT_PIECE];
+        return read_by_pieces(alloc, store, source, most, &mut piece);
+    }
+    let mut piece = [0u8; PIECE];
+    read_by_pieces(alloc, store, source, most, &mut piece)
+}
+
 /// Makes the pattern of a file of either format in the store, as `read` does of its bytes, and holds none but those of a line: it reads to
 /// the end of the input, at most 2^30 bytes and a piece, and keeps no more than 2^20 bytes of them. Of an input whose length is known it
-/// makes room for the squares beforehand.
+/// reserves capacity for the squares beforehand.
 ///
 /// # Errors
 ///
-/// `ReadFault` where a read fails and `InputTooLong` where more than 2^30 bytes come, also behind a refused line; the fault of the file,
+/// `ReadFault` where a read fails and `InputTooLong` where more than 2^30 bytes come, also after a refused line; the fault of the file,
 /// once all of it was read; `Full` where the store holds its limit, and `Memory`, at once. After a fault too each Id of the store names the
 /// square that it named, and nothing stored is gone. `Full` doesn't come where the limit is `14 * length + 264` squares above those that the
 /// store holds, or more, with the length of the input.
 ///
-/// What is too long stays so with more bytes behind it (`laws::lengths_stay`), and hides no fault of a line that ended in its first 2^30
-/// bytes: they alone have that fault (`laws::length_hides_no_fault`), and `Reader`, which sets no limit, tells it.
+/// What is too long stays so with more bytes after it (`laws::lengths_stay`), and hides no fault of a line that ended in its first 2^30
+/// bytes: they alone have that fault (`laws::length_hides_no_fault`), and `Reader`, which sets no limit, reports it.
 pub fn read_from<R: Source>(
     alloc: Global,
     store: &mut Shared,
     source: &mut R,
 ) -> Result<Pattern, Fault>
     requires { R.failures source.old ≡ 0 }
-    ensures { ReadsPattern (2 ^ 30) store.old store.new
+    ensures reads { ReadsPattern (2 ^ 30) store.old store.new
         (source_run R.remaining R.failures source.old source.new) result }
+    ensures only { IfOk result (ReadsWhole (2 ^ 30) store.old store.new
+        (source_run R.remaining R.failures source.old source.new)) }
 {
     read_source(alloc, store, source, LONGEST_INPUT)
 }
@@ -120,9 +154,9 @@ pub fn read_from<R: Source>(
 ///
 /// # Errors
 ///
-/// `ReadFault` where a read fails and `InputTooLong` where more than `most` bytes come, also behind a refused line; the fault of the
+/// `ReadFault` where a read fails and `InputTooLong` where more than `most` bytes come, also after a refused line; the fault of the
 /// file; `Full` where the store holds its limit, and `Memory`; `WriteFault` where a write or the flush fails, or a write takes no bytes.
-/// After a `WriteFault` the sink has a front of the text, after every other fault it is as it was. The store keeps what it has in each case,
+/// After a `WriteFault` the sink has a prefix of the text, after every other fault it is as it was. The store keeps what it has in each case,
 /// and a limit of `14 * length + 264` squares more suffices for an input of this length.
 pub fn run_canon_within<R: Source, W: Sink>(
     alloc: Global,

@@ -12,7 +12,7 @@ use life_base::{Bounds, Fault, Kind, MAX_LEVEL, append, append_number};
 use life_quad::{Shared, bounds};
 use std::alloc::Global;
 
-/// Adds a word, the number behind it and a line feed at the end.
+/// Adds a word, the number after it and a line feed at the end.
 fn append_line(out: &mut Vec<u8>, word: &[u8], number: u64) -> Result<(), Kind>
     ensures ok { OnOk result
         (out.new.items ≡ out.old.items ++ word.now ++ decimal number ++ codes "\n") }
@@ -51,7 +51,7 @@ fn side(low: i64, high: i64) -> u64
     (high - low) as u64 + 1
 }
 
-/// Adds the line of the least box at the end.
+/// Adds the line of the bounding box at the end.
 fn append_box(out: &mut Vec<u8>, found: Option<Bounds>) -> Result<(), Kind>
     requires { IfSome found AreOrdered }
     ensures ok { OnOk result (out.new.items ≡ out.old.items ++ box_text found) }
@@ -130,7 +130,7 @@ pub fn five_lines_of(alloc: Global, store: &Shared, pattern: &Pattern) -> Result
     Ok(five_lines(alloc, store, pattern)?)
 }
 
-/// Five lines on the pattern of a file of either format: its rule, its generation, how many cells aren't 0, their least box, and how
+/// Five lines on the pattern of a file of either format: its rule, its generation, how many cells aren't 0, their bounding box, and how
 /// many node lines its canonical file has.
 ///
 /// # Errors

@@ -66,7 +66,7 @@ pub fn text_of(alloc: Global, store: &Shared, pattern: &Pattern) -> Result<Vec<u
     Ok(text.bytes)
 }
 
-/// The first lines of a pattern's text. Room for so many bytes was made at once.
+/// The first lines of a pattern's text. Capacity for so many bytes was reserved at once.
 fn front_with_room(alloc: Global, pattern: &Pattern, room: usize) -> Result<Vec<u8>, Kind>
     ensures front { IfOk result
         (λ front. front.items ≡ front_text pattern.now.rule pattern.now.generation) }
@@ -77,7 +77,7 @@ fn front_with_room(alloc: Global, pattern: &Pattern, room: usize) -> Result<Vec<
     Ok(front)
 }
 
-/// The same, with room for a piece behind them.
+/// The same, with space for a piece after them.
 fn begin_front(alloc: Global, pattern: &Pattern) -> Result<Vec<u8>, Kind>
     ensures front { IfOk result
         (λ front. front.items ≡ front_text pattern.now.rule pattern.now.generation) }
@@ -89,7 +89,7 @@ fn begin_front(alloc: Global, pattern: &Pattern) -> Result<Vec<u8>, Kind>
     Ok(front)
 }
 
-/// Numbers for a walk over a pattern's squares that may be refused memory: no square has one yet. Under a B/S rule a store has room for all of its
+/// Numbers for a walk over a pattern's squares that may be refused memory: no square has one yet. Under a B/S rule there is capacity for all of a store's
 /// nodes at once, unless it is large, so that the pattern may be a small part of it. Under a name small squares have numbers too.
 pub(crate) fn begin_numbers(
     alloc: Global,
@@ -105,7 +105,7 @@ pub(crate) fn begin_numbers(
     }
 }
 
-/// What a pattern's text is written with: the numbers, of which no square has one yet, and the front, with room for a piece behind it.
+/// What a pattern's text is written with: the numbers, of which no square has one yet, and the header lines, with space for a piece after them.
 pub(crate) fn begin_text(
     alloc: Global,
     store: &Shared,
@@ -124,8 +124,8 @@ pub(crate) fn begin_text(
     Ok((numbers, front))
 }
 
-/// Writes the front and then the lines of the squares of a pattern, in their order, and flushes, where there is room for every number. The text is
-/// gathered in the front's room, and written whenever a line may not fit. It takes no memory.
+/// Writes the header lines and then the lines of the squares of a pattern, in their order, and flushes. There is capacity for the number of each
+/// square that needs one. The text is gathered in the space after the header lines, and written whenever a line may not fit. It takes no memory.
 pub(crate) fn deliver_squares<S: SharedSquares, W: Sink>(
     squares: &S,
     pattern: &Pattern,

@@ -2,7 +2,7 @@
 
 ghost use Rattle.life_mc.specs.Words.{MAX_LEVEL, FilesAreValid, LinesAreValid, IsBlankOutside, NodeLinesCounted, GrammarsAgree, FilesAreUnique, FaultsAreUnique, FrontsAreUnbroken, FrontsAreFiles, KindsNameLines, LongLinesBreak, RefusalsHaveKinds, WiderPlanesKeepFiles, LinesBreakByKinds, LinesStandForSquares, TextsReadBack};
 
-/// The format told as a whole and the format told by the rule that a line breaks accept the same lines, with the same
+/// The format defined as a whole and the format defined by the rule that a line breaks accept the same lines, with the same
 /// meaning.
 pub fn grammars_agree()
     ensures { GrammarsAgree MAX_LEVEL }
@@ -23,7 +23,7 @@ pub fn fronts_are_unbroken()
     ensures { FrontsAreUnbroken MAX_LEVEL }
 {}
 
-/// Lines, of which there are some, are the front of a file exactly if they are a file.
+/// One or more lines are the prefix of a file exactly if they are a file.
 pub fn fronts_are_files()
     ensures { FrontsAreFiles MAX_LEVEL }
 {}
@@ -68,7 +68,7 @@ pub fn texts_read_back()
     ensures { TextsReadBack MAX_LEVEL }
 {}
 
-/// Each node line of a valid file stands for one square, and the cells of the file are those of the root's square.
+/// Each node line of a valid file represents one square, and the cells of the file are those of the root's square.
 pub fn lines_stand_for_squares()
     ensures { LinesStandForSquares MAX_LEVEL }
 {}

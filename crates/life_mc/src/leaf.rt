@@ -5,7 +5,7 @@ ghost use Rattle.life_mc.specs.Words.{mask_l, byte, is_empty, is_leaf, leaf_byte
 
 use std::simd::prelude::*;
 
-/// What a cell adds to the byte of its row, where its column has this bit, and 0 is behind the last one; nothing, if it can't stand there.
+/// What a cell adds to the byte of its row, where its column has this bit, and 0 is after the last one; nothing, if it can't be there.
 /// It is computed without a branch on the state, which no processor can guess.
 fn cell_bit(cell: u8, bit: u8) -> Option<u8>
     ensures { MatchOption result ((is_cell cell && nat_lt 0 bit) ≡ false)
@@ -38,7 +38,7 @@ fn places(text: &[u8], byte: u8) -> u64
         .to_bitmask()
 }
 
-/// How many cells are in front of a text, of its first eight bytes. Bit 8 stands for the byte behind these.
+/// How many of the first eight bytes of a text are cells, up to the first that is none. Bit 8 represents the byte after these.
 fn cells_in_front(text: &[u8]) -> usize
     requires { 8 ≤ length text.now }
     ensures { result ≡ front_cells 8 text.now }
@@ -109,7 +109,7 @@ fn read_row(text: &[u8]) -> Option<(u8, usize)>
     }
 }
 
-/// What stands behind a row of this length and the `$` that ends it.
+/// What follows a row of this length and the `$` that ends it.
 fn behind_row(text: &[u8], end: usize) -> &[u8]
     requires { end < length text.now }
     ensures { result.now ≡ drop (end + 1) text.now }

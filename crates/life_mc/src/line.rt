@@ -24,7 +24,7 @@ pub enum Line {
     },
 }
 
-/// What a line behind the header is. One that is blank or a comment is nothing.
+/// What a line after the header is. One that is blank or a comment is nothing.
 #[derive(Drop)]
 pub(crate) enum ParsedLine {
     Nothing,
@@ -44,7 +44,7 @@ fn is_command(letter: u8, line: &[u8]) -> bool
     }
 }
 
-/// The generation behind `#G`.
+/// The generation after `#G`.
 fn read_generation(text: &[u8]) -> Result<u64, Kind>
     ensures { MatchResult result
         (λ n. (n ≡ value_of (trim text.now)) × (result_err (u64_of (trim text.now)) ≡ None))
@@ -63,7 +63,7 @@ fn begins_as_node(line: &[u8]) -> bool
     }
 }
 
-/// What a line behind the header is, where this is the rule and these the levels so far; None of a node line.
+/// What a line after the header is, where this is the rule and these the levels so far; None of a node line.
 #[inline(always)]
 fn parse_command(
     alloc: Global,
@@ -79,7 +79,7 @@ fn parse_command(
     parse_by_tests(alloc, rule, levels, line)
 }
 
-/// The same by one test after another. It is never inlined: of most lines the first byte tells that they are node lines.
+/// The same by one test after another. It is never inlined: of most lines the first byte says that they are node lines.
 #[inline(never)]
 fn parse_by_tests(
     alloc: Global,
@@ -113,7 +113,7 @@ fn parse_by_tests(
     Ok(None)
 }
 
-/// What a line behind the header is, where this is the rule and these the levels so far.
+/// What a line after the header is, where this is the rule and these the levels so far.
 pub(crate) fn parse_line(
     alloc: Global,
     rule: &Rule,

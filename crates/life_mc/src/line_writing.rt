@@ -1,4 +1,4 @@
-//! Node lines as texts, made in a room of a fixed size.
+//! Node lines as texts, made in a buffer of a fixed size.
 
 ghost use Rattle.std.specs.Prelude.{◌≡◌, ◌++◌, ◌∷◌, ◌+◌, ◌<◌, ◌≤◌, take, drop, length, flat_map, decimal, codes, vec_len, vec_capacity, OnOk, OnErr, IfErr};
 ghost use Rattle.life_mc.specs.Words.{Quad, node_text, row_text, IsMemory};
@@ -10,7 +10,7 @@ use life_base::Kind;
 /// The most bytes of a node line: five numbers of 20 digits, the four spaces between them, and a line feed.
 pub const LONGEST_NODE_LINE: usize = 105;
 
-/// The text of each row, one behind another, with spaces behind it up to nine bytes.
+/// The text of each row, one after another, each filled up with spaces to nine bytes.
 static ROW_TEXTS: [u8; 2304] = *b"\
     $        .......*$......*$ ......**$.....*$  .....*.*$.....**$ .....***$\
     ....*$   ....*..*$....*.*$ ....*.**$....**$  ....**.*$....***$ ....****$\
@@ -53,7 +53,7 @@ fn row_length(row: u8) -> usize
     9 - (u32::from(row) | 256).trailing_zeros() as usize
 }
 
-/// The text of a row, with spaces behind it.
+/// The text of a row, with spaces after it.
 fn row_bytes(row: u8) -> &'static [u8]
     ensures nine { length result.now ≡ 9 }
     ensures text { take (length (row_text row)) result.now ≡ row_text row }
@@ -62,7 +62,7 @@ fn row_bytes(row: u8) -> &'static [u8]
     &ROW_TEXTS[start..start + 9]
 }
 
-/// Writes a row of a leaf from a place on, and answers where it ends. What stood behind it is written over.
+/// Writes a row of a leaf from a place on, and returns where it ends. Bytes after it are overwritten.
 fn write_row(room: &mut [u8; LONGEST_NODE_LINE], at: usize, row: u8) -> usize
     requires { at ≤ 96 }
     ensures written { take result room.new ≡ take at room.old ++ row_text row }
@@ -72,7 +72,7 @@ fn write_row(room: &mut [u8; LONGEST_NODE_LINE], at: usize, row: u8) -> usize
     at + row_length(row)
 }
 
-/// Writes the line of a leaf at the front of the room, and answers where it ends.
+/// Writes the line of a leaf at the beginning of the space, and returns where it ends.
 fn write_leaf(room: &mut [u8; LONGEST_NODE_LINE], rows: &[u8; 8]) -> usize
     ensures written { take result room.new ≡ flat_map row_text rows.now ++ codes "\n" }
     ensures end { result ≤ 105 }
@@ -85,7 +85,7 @@ fn write_leaf(room: &mut [u8; LONGEST_NODE_LINE], rows: &[u8; 8]) -> usize
     end + 1
 }
 
-/// Writes a byte before a place, and answers where it stands.
+/// Writes a byte before a place, and returns its place.
 fn write_byte(room: &mut [u8; LONGEST_NODE_LINE], end: usize, byte: u8) -> usize
     requires { (1 ≤ end) × (end ≤ 105) }
     ensures written { drop result room.new ≡ byte ∷ drop end room.old }
@@ -95,7 +95,7 @@ fn write_byte(room: &mut [u8; LONGEST_NODE_LINE], end: usize, byte: u8) -> usize
     end - 1
 }
 
-/// Writes a space and a number before a place, and answers where they start.
+/// Writes a space and a number before a place, and returns where they start.
 fn write_quarter(room: &mut [u8; LONGEST_NODE_LINE], end: usize, number: u64) -> usize
     requires { (21 ≤ end) × (end ≤ 105) }
     ensures written { drop result room.new ≡ codes " " ++ decimal number ++ drop end room.old }
@@ -105,7 +105,7 @@ fn write_quarter(room: &mut [u8; LONGEST_NODE_LINE], end: usize, number: u64) ->
     write_byte(room, start, b' ')
 }
 
-/// Writes the line of a square of four quarters at the end of the room, and answers where it starts.
+/// Writes the line of a square of four quarters at the end of the space, and returns where it starts.
 fn write_quad(
     room: &mut [u8; LONGEST_NODE_LINE],
     level: u8,
@@ -125,8 +125,8 @@ fn write_quad(
     write_digits(u64::from(level), room, end)
 }
 
-/// Adds the line of a square at the end, ended by a line feed. A refusal leaves the vector as it was; where room for
-/// [`LONGEST_NODE_LINE`] bytes is there, none comes.
+/// Adds the line of a square at the end, ended by a line feed. A refusal leaves the vector as it was; if there is capacity for
+/// [`LONGEST_NODE_LINE`] more bytes, none comes.
 ///
 /// # Errors
 ///

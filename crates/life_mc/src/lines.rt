@@ -57,7 +57,7 @@ impl Kept {
         }
     }
 
-    /// Takes the next line, and answers its square, if it has one.
+    /// Takes the next line, and returns its square, if it has one.
     fn take(&mut self, line: &[u8]) -> Result<Option<Line>, Kind>
         ensures ok { (lines : List (List ℕ)) → StandsAfter MAX_LEVEL lines self.old
             → IfOk result (λ square. (square ≡ square_behind lines line.now)
@@ -80,7 +80,7 @@ impl Kept {
         self.keep(parsed)
     }
 
-    /// Keeps what a line is, and answers its square.
+    /// Keeps what a line is, and returns its square.
     fn keep(&mut self, parsed: ParsedLine) -> Result<Option<Line>, Kind>
         ensures square { IfOk result (λ square. square ≡ form_square (form_of parsed)) }
         ensures rule { OnOk result
@@ -163,7 +163,7 @@ impl McLines {
         }
     }
 
-    /// Takes the next line, without its line feed, and answers its square, if it is a node line. A line feed in the line is a
+    /// Takes the next line, without its line feed, and returns its square, if it is a node line. A line feed in the line is a
     /// byte like any other, so a caller that has bytes cuts them first.
     ///
     /// # Errors
@@ -173,7 +173,7 @@ impl McLines {
         ensures lines { OnOk result
             (self.new ≡ record { lines = self.old.lines ++ line.now ∷ []; refused = false }) }
 
-        // The lines so far are the front of a file, and the answer is the square of the line.
+        // The lines so far are a prefix of a file, and the answer is the square of the line.
         ensures front { OnOk result (Prefix (Accepts MAX_LEVEL) self.new.lines) }
         ensures square { IfOk result (λ square. square ≡ square_behind self.old.lines line.now) }
         ensures squares { IfOk result (λ square. squares_of self.new.lines

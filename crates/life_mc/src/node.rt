@@ -31,7 +31,7 @@ fn is_child(levels: &[u8], level: u8, number: u64) -> bool
     }
 }
 
-/// Whether a number may stand for a quarter of a square of this level.
+/// Whether a number may represent a quarter of a square of this level.
 fn is_quarter(rule: &Rule, levels: &[u8], level: u8, number: u64) -> bool
     requires { 1 ≤ level }
     ensures { result ≡ is_quarter rule.now levels.now level number }
@@ -43,7 +43,7 @@ fn is_quarter(rule: &Rule, levels: &[u8], level: u8, number: u64) -> bool
     }
 }
 
-/// Whether four numbers may stand for the quarters of a square of this level.
+/// Whether four numbers may represent the quarters of a square of this level.
 fn are_quarters(rule: &Rule, levels: &[u8], level: u8, quarters: [u64; 4]) -> bool
     requires { 1 ≤ level }
     ensures { result ≡ list_all (is_quarter rule.now levels.now level) quarters }

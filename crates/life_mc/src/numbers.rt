@@ -40,7 +40,7 @@ fn few_digits(text: &[u8], from: usize) -> (u64, usize)
     (number, most)
 }
 
-/// Whether digits between two places are a word, and a space is behind it.
+/// Whether digits between two places are a word, and a space is after it.
 #[inline(always)]
 fn is_spaced_word(text: &[u8], from: usize, end: usize) -> bool
     requires from { from ≤ end }
@@ -57,7 +57,7 @@ fn is_spaced_word(text: &[u8], from: usize, end: usize) -> bool
     }
 }
 
-/// The first number of a text and what stands behind it, if the first word is a digit text.
+/// The first number of a text and what follows it, if the first word is a digit text.
 fn next_number(text: &[u8]) -> Option<(u64, &[u8])>
     ensures { MatchOption result (begins_with_number (words_of text.now) ≡ false)
         (λ p. (word : List ℕ) × (words_of text.now ≡ word ∷ words_of p.1.now)
@@ -82,7 +82,7 @@ fn has_no_word(text: &[u8]) -> bool
     trimmed_start(text).is_empty()
 }
 
-/// The five numbers of a quarter line, if each has few digits and one space stands between two.
+/// The five numbers of a quarter line, if each has few digits and there is one space between two.
 #[inline(always)]
 fn few_numbers(text: &[u8]) -> Option<(u64, u64, u64, u64, u64)>
     ensures { IfSome result
@@ -111,7 +111,7 @@ fn few_numbers(text: &[u8]) -> Option<(u64, u64, u64, u64, u64)>
     Some((level, nw, ne, sw, se))
 }
 
-/// The five numbers of a quarter line in any spelling. It is never inlined: few lines have other spellings than `few_numbers` reads.
+/// The five numbers of a quarter line, however they are written. It is never inlined: `few_numbers` reads most lines.
 #[inline(never)]
 fn spelled_numbers(text: &[u8]) -> Option<(u64, u64, u64, u64, u64)>
     ensures { option_map (λ n. Quad n.0 n.1 n.2 n.3 n.4) result ≡ quad_words (words_of text.now) }
@@ -128,7 +128,7 @@ fn spelled_numbers(text: &[u8]) -> Option<(u64, u64, u64, u64, u64)>
 }
 
 /// The five numbers of a quarter line as they are written, if it has exactly five and nothing else: the level, and the quarters in the
-/// north-west, north-east, south-west and south-east. One above the greatest of the type stands as that.
+/// north-west, north-east, south-west and south-east. A number above the type's greatest gives that.
 #[inline(always)]
 pub(crate) fn read_numbers(text: &[u8]) -> Option<(u64, u64, u64, u64, u64)>
     ensures { option_map (λ n. Quad n.0 n.1 n.2 n.3 n.4) result ≡ quad_words (words_of text.now) }

@@ -30,7 +30,7 @@ fn take_line(reader: &mut McLines, squares: &mut Vec<Line>, line: &[u8]) -> Resu
 ///
 /// # Errors
 ///
-/// The place is the first line behind which the bytes can't be continued to a file, 1 where there are no lines, and the kind is that of
+/// The place is the first line after which the bytes can't be continued to a file, 1 where there are no lines, and the kind is that of
 /// the first rule which that line breaks. Where a growth of memory is refused the fault is `Memory`, which names no line.
 pub fn read_mc(alloc: Global, bytes: &[u8]) -> Result<McFile, Fault>
     ensures ok { IfOk result (λ file. IsFile MAX_LEVEL (lines_of bytes.now) file) }

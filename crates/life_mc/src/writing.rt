@@ -20,7 +20,7 @@ fn append_lines(out: &mut Vec<u8>, lines: &[Line]) -> Result<(), Kind>
     Ok(())
 }
 
-/// Adds the front of a file at the end: the header, the rule, and the generation if it isn't 0, each line ended by a line feed.
+/// Adds the prefix of a file at the end: the header, the rule, and the generation if it isn't 0, each line ended by a line feed.
 ///
 /// # Errors
 ///
@@ -50,7 +50,7 @@ fn append_parts(out: &mut Vec<u8>, rule: &Rule, generation: u64, lines: &[Line])
     append_lines(out, lines)
 }
 
-/// The text of a file: the header, the rule, the generation if it isn't 0, and the squares as they stand, each line ended by
+/// The text of a file: the header, the rule, the generation if it isn't 0, and the squares in their order, each line ended by
 /// a line feed.
 ///
 /// # Errors

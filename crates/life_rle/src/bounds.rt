@@ -17,7 +17,7 @@ fn bounds_of_cell(cell: &Cell) -> Bounds
     }
 }
 
-/// The least box around a box and a cell.
+/// The bounding box of a box and a cell.
 fn joined(bounds: Bounds, cell: &Cell) -> Bounds
     ensures left { result.left ≡ int_min bounds.left cell.now.x }
     ensures top { result.top ≡ int_min bounds.top cell.now.y }
@@ -32,7 +32,7 @@ fn joined(bounds: Bounds, cell: &Cell) -> Bounds
     }
 }
 
-/// The least box around a cell and more cells.
+/// The bounding box of a cell and more cells.
 pub(crate) fn bounds_of(first: &Cell, cells: &[Cell]) -> Bounds
     ensures { result ≡ box_of first.now cells.now }
 {

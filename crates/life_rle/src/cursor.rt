@@ -1,4 +1,4 @@
-//! The place where the next item stands.
+//! The place of the next item.
 
 ghost use Rattle.std.specs.Prelude.{◌≡◌, ◌≤◌, List, IfErr};
 ghost use Rattle.life_rle.specs.Words.{most_count, item_fault, IsNear, start_of, moved, item_count, row_limit, Cells, RowEnds, Rule, Run, TakesItem};
@@ -27,7 +27,7 @@ pub(crate) fn start_of(position: Position) -> Cursor
     }
 }
 
-/// The column up to which cells may stand in a row: the edge of the plane, and below the plane one west of every column.
+/// The column up to which a row may have cells: the edge of the plane, and below the plane one west of every column.
 #[inline(always)]
 pub(crate) fn row_limit(y: i64) -> i64
     ensures { result ≡ row_limit MAX_LEVEL y }
@@ -35,7 +35,7 @@ pub(crate) fn row_limit(y: i64) -> i64
     if y < EDGE { EDGE } else { i64::MIN }
 }
 
-/// Which rule cells break that stand there, in a row with this limit.
+/// Which rule is broken by cells at this place, in a row with this limit.
 #[inline(always)]
 pub(crate) fn cells_fault(
     rule: &Rule,
@@ -56,7 +56,7 @@ pub(crate) fn cells_fault(
     if inside { None } else { Some(Kind::OutOfPlane) }
 }
 
-/// The place behind an item.
+/// The place after an item.
 #[inline(always)]
 pub(crate) fn moved(cursor: Cursor, item: Item) -> Cursor
     requires near { IsNear MAX_LEVEL cursor }
@@ -77,7 +77,7 @@ pub(crate) fn moved(cursor: Cursor, item: Item) -> Cursor
     }
 }
 
-/// The place behind ends of rows, unless it is further down than the row below the plane's last one.
+/// The place after ends of rows, unless it is further down than the row below the plane's last one.
 #[inline(always)]
 pub(crate) fn end_rows(cursor: Cursor, count: u64) -> Result<Cursor, Kind>
     requires near { IsNear MAX_LEVEL cursor }

@@ -6,7 +6,7 @@ ghost use Rattle.life_rle.specs.Words.{option_map, Answers, after_word, after_nu
 use life_base::{Kind, Rule, begins_with, leading_number, trimmed_start};
 use std::alloc::Global;
 
-/// What stands behind a word and the whitespace after it.
+/// What follows a word and the whitespace after it.
 fn after_word<'a>(word: &[u8], bytes: &'a [u8]) -> Option<&'a [u8]>
     ensures { option_map (λ rest. rest.now) result ≡ after_word word.now bytes.now }
 {
@@ -16,7 +16,7 @@ fn after_word<'a>(word: &[u8], bytes: &'a [u8]) -> Option<&'a [u8]>
     Some(trimmed_start(&bytes[word.len()..]))
 }
 
-/// What stands behind a digit text and the whitespace after it.
+/// What follows a digit text and the whitespace after it.
 fn after_number(bytes: &[u8]) -> Option<&[u8]>
     ensures { option_map (λ rest. rest.now) result ≡ after_number bytes.now }
 {

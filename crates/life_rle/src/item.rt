@@ -13,7 +13,7 @@ pub enum Item {
     RowEnds { count: u64 },
 }
 
-/// What stands at a place of a line: whitespace, the mark `!`, an item and the place behind it, or none of these.
+/// What is at a place of a line: whitespace, the mark `!`, an item and the place after it, or none of these.
 pub(crate) enum Token {
     Space,
     Mark,
@@ -21,7 +21,7 @@ pub(crate) enum Token {
     Broken(Kind),
 }
 
-/// Stands for no state in the table below.
+/// Represents no state in the table below.
 const NONE: u8 = 255;
 
 /// The state that each byte names by itself.
@@ -83,7 +83,7 @@ fn check_count(count: u64) -> Result<(), Kind>
     Ok(())
 }
 
-/// The count that digits write from a place on, and the place behind them. It stays out of the loop over the items, few of which have more
+/// The count that digits write from a place on, and the place after them. It stays out of the loop over the items, few of which have more
 /// than one digit.
 #[cold]
 #[inline(never)]
@@ -111,7 +111,7 @@ fn any_count(line: &[u8], at: usize) -> Result<(u64, usize), Kind>
     Ok((count, place))
 }
 
-/// The count at a place, which is 1 without digits, and the place behind it, unless a digit stands there: then there may be more of them.
+/// The count at a place, which is 1 without digits, and the place after it, unless a digit is there: then there may be more of them.
 #[inline(always)]
 fn count_at(line: &[u8], at: usize) -> (u64, usize)
     requires { at < length line.now }
@@ -145,7 +145,7 @@ fn prefixed_item(line: &[u8], count: u64, place: usize) -> Token
     }
 }
 
-/// What stands at a place whose count ends at another.
+/// What is at a place whose count ends at another.
 #[inline(always)]
 fn behind_count(line: &[u8], at: usize, count: u64, place: usize) -> Token
     requires inside { place < length line.now }
@@ -164,7 +164,7 @@ fn behind_count(line: &[u8], at: usize, count: u64, place: usize) -> Token
     }
 }
 
-/// What stands at a place where a digit stands and another one may follow.
+/// What is at a place that has a digit, which another one may follow.
 #[inline(always)]
 fn behind_digits(line: &[u8], at: usize) -> Token
     requires inside { at < length line.now }
@@ -177,7 +177,7 @@ fn behind_digits(line: &[u8], at: usize) -> Token
     }
 }
 
-/// What stands at a place of a line.
+/// What is at a place of a line.
 #[inline(always)]
 pub(crate) fn token_at(line: &[u8], at: usize) -> Token
     requires { at < length line.now }

@@ -1,4 +1,4 @@
-//! What a line is, before the header and behind it.
+//! What a line is, before the header and after it.
 
 ghost use Rattle.std.specs.Prelude.{◌≡◌};
 ghost use Rattle.life_rle.specs.Words.{Answers, opening_of, later_of};
@@ -16,14 +16,14 @@ pub enum Opening {
     Header(Rule),
 }
 
-/// What a line is behind the header: passed over, or data.
+/// What a line is after the header: passed over, or data.
 #[derive(Clone, Copy, Debug, PartialEq, Eq)]
 pub enum Later {
     Passed,
     Data,
 }
 
-/// What a line is before the header, or why it can't stand there.
+/// What a line is before the header, or why it can't be there.
 pub(crate) fn opening_of(alloc: Global, line: &[u8]) -> Result<Opening, Kind>
     ensures { Answers result (opening_of MAX_LEVEL line.now) }
 {
@@ -45,7 +45,7 @@ pub(crate) fn opening_of(alloc: Global, line: &[u8]) -> Result<Opening, Kind>
     Err(Kind::NoHeader)
 }
 
-/// What a line is behind the header, or why it can't stand there.
+/// What a line is after the header, or why it can't be there.
 pub(crate) fn later_of(line: &[u8]) -> Result<Later, Kind>
     ensures { result ≡ later_of line.now }
 {

@@ -8,24 +8,24 @@ use crate::item::{Item, Token, token_at};
 use bstr::ByteSlice;
 use life_base::{Kind, MAX_LEVEL, Rule, Run, State};
 
-/// A line of more bytes is long: its runs are counted before there is room for them.
+/// A line of more bytes is long: its runs are counted before memory is reserved for them.
 const LONG_LINE: usize = 256;
 
-/// Where the items of a line end: the place behind them, and whether `!` stands there.
+/// Where the items of a line end: the place after them, and whether `!` is there.
 #[derive(Clone, Copy)]
 pub(crate) struct ItemsRead {
     pub(crate) cursor: Cursor,
     pub(crate) marked: bool,
 }
 
-/// Where the first `!` stands.
+/// The place of the first `!`.
 fn mark_place(line: &[u8]) -> Option<usize>
     ensures { result ≡ position (λ b. b == byte "!") line.now }
 {
     line.find_byte(b'!')
 }
 
-/// The bytes of a line in front of its first `!`.
+/// The bytes of a line before its first `!`.
 fn before_mark(line: &[u8]) -> &[u8]
     ensures { result.now ≡ take_while (λ b. not (b == byte "!")) line.now }
 {
@@ -64,7 +64,7 @@ fn most_runs(line: &[u8]) -> usize
     }
 }
 
-/// Makes room for the runs of a line, so that it takes memory once at most. Where there is room for a run at each byte they aren't counted.
+/// Reserves capacity for the runs of a line, so that it takes memory once at most. If there is capacity for a run at each byte, they aren't counted.
 fn reserve_runs(line: &[u8], runs: &mut Vec<Run>) -> Result<(), Kind>
     ensures runs { runs.new.items ≡ runs.old.items }
     ensures room { OnOk result (vec_len runs.old
@@ -78,7 +78,7 @@ fn reserve_runs(line: &[u8], runs: &mut Vec<Run>) -> Result<(), Kind>
     Ok(())
 }
 
-/// Puts a run behind the runs. It is here for the vector to grow, out of the loop over the items: there is room as a rule.
+/// Puts a run after the runs. The vector grows here, outside the loop over the items: there is capacity as a rule.
 #[cold]
 #[inline(never)]
 fn push_growing(run: Run, runs: &mut Vec<Run>) -> Result<(), Kind>
@@ -90,7 +90,7 @@ fn push_growing(run: Run, runs: &mut Vec<Run>) -> Result<(), Kind>
     Ok(())
 }
 
-/// Puts the run of an item of nonzero state behind the runs.
+/// Puts the run of an item of nonzero state after the runs.
 #[inline(always)]
 fn push_run(cursor: Cursor, item: Item, runs: &mut Vec<Run>) -> Result<(), Kind>
     ensures runs { OnOk result
@@ -125,7 +125,7 @@ fn push_run(cursor: Cursor, item: Item, runs: &mut Vec<Run>) -> Result<(), Kind>
     Ok(())
 }
 
-/// Takes cells of one state, and answers the place behind them.
+/// Takes cells of one state, and returns the place after them.
 #[inline(always)]
 fn take_cells(
     rule: &Rule,
@@ -149,7 +149,7 @@ fn take_cells(
     Ok(moved(cursor, item))
 }
 
-/// Takes an item that stands at the cursor, and answers the place behind it. Cells of state 0 are a kind of their own: they bring no run.
+/// Takes an item that begins at the cursor, and returns the place after it. Cells of state 0 are a kind of their own: they bring no run.
 #[inline(always)]
 fn take_item(
     rule: &Rule,
@@ -170,7 +170,7 @@ fn take_item(
     }
 }
 
-/// The limit of the row behind an item that brought the cursor here.
+/// The limit of the row after an item that brought the cursor here.
 #[inline(always)]
 fn limit_behind(limit: i64, item: Item, cursor: Cursor) -> i64
     ensures { (before : Cursor) → limit ≡ row_limit MAX_LEVEL before.y
@@ -182,7 +182,7 @@ fn limit_behind(limit: i64, item: Item, cursor: Cursor) -> i64
     }
 }
 
-/// Reads the items of a line from the cursor on, and puts their runs behind the runs.
+/// Reads the items of a line from the cursor on, and puts their runs after the runs.
 #[inline(never)]
 pub(crate) fn read_items(
     rule: &Rule,

@@ -17,9 +17,9 @@ use std::mem;
 pub enum Phase {
     /// No header yet.
     Before(Position),
-    /// Behind the header.
+    /// After the header.
     Items(Rule, Position),
-    /// Behind the mark.
+    /// After the mark.
     Over(Rule, Position),
     /// A line was refused.
     Refused,
@@ -45,7 +45,7 @@ fn before_header(
     }
 }
 
-/// A line behind the header: one that is passed over, or items and whether `!` ends them.
+/// A line after the header: one that is passed over, or items and whether `!` ends them.
 fn behind_header(
     rule: Rule,
     position: Position,
@@ -75,7 +75,7 @@ fn behind_header(
     }
 }
 
-/// A line behind any lines, which have brought the reader to this phase and place; its runs go behind the runs.
+/// A line after any lines, which have brought the reader to this phase and place; its runs go after the runs.
 fn after_line(
     alloc: Global,
     at: (Phase, Cursor),
@@ -151,7 +151,7 @@ impl RleLines {
         }
     }
 
-    /// Takes the next line, without its line feed, and answers its runs of nonzero state. Behind the line that holds `!` each line is
+    /// Takes the next line, without its line feed, and returns its runs of nonzero state. After the line that holds `!` each line is
     /// accepted, of any length.
     ///
     /// # Errors
@@ -161,7 +161,7 @@ impl RleLines {
         ensures lines { OnOk result
             (self.new ≡ record { lines = self.old.lines ++ line.now ∷ []; refused = false }) }
 
-        // The lines so far are the front of a file, and the answers are its runs.
+        // The lines so far are a prefix of a file, and the answers are its runs.
         ensures front { OnOk result (Prefix (IsSomeRle MAX_LEVEL) self.new.lines) }
         ensures runs { IfOk result (λ runs. (before : List Run)
             → HasRuns MAX_LEVEL self.old.lines before
@@ -174,7 +174,7 @@ impl RleLines {
         ensures refused { OnErr result
             (self.new ≡ record { lines = self.old.lines; refused = true }) }
 
-        // Behind the mark nothing is refused, not even for want of memory.
+        // After the mark nothing is refused, not even when memory runs out.
         ensures free { self.old.refused ≡ false
             → ((file : Rle) × IsMarked MAX_LEVEL self.old.lines file)
             → IsOkAnd result (λ runs. runs.items ≡ []) }
@@ -184,18 +184,18 @@ impl RleLines {
         Ok(runs)
     }
 
-    /// Takes the next line, without its line feed, and puts its runs of nonzero state behind the runs that are lent. Behind the line that
+    /// Takes the next line, without its line feed, and puts its runs of nonzero state after the runs that are lent. After the line that
     /// holds `!` each line is accepted, of any length. Lines whose runs are lent the same vector take memory only where it grows.
     ///
     /// # Errors
     ///
     /// The kind of the first rule that the line breaks, or `Memory`. After an error each later call answers `Spent`. The runs that were
-    /// lent stay in front then; behind them there may be runs of items that the line spells before its fault.
+    /// lent stay first then; after them there may be runs of items that the line writes before its fault.
     pub fn line_into(&mut self, line: &[u8], runs: &mut Vec<Run>) -> Result<(), Kind>
         ensures lines { OnOk result
             (self.new ≡ record { lines = self.old.lines ++ line.now ∷ []; refused = false }) }
 
-        // The lines so far are the front of a file, and what is put behind the runs is its runs.
+        // The lines so far are a prefix of a file, and what is put after the runs is its runs.
         ensures front { OnOk result (Prefix (IsSomeRle MAX_LEVEL) self.new.lines) }
         ensures runs { OnOk result
             (AddsRuns MAX_LEVEL self.old.lines self.new.lines runs.old.items runs.new.items) }
@@ -208,7 +208,7 @@ impl RleLines {
             (self.new ≡ record { lines = self.old.lines; refused = true }) }
         ensures kept { OnErr result (IsFrontOf runs.old.items runs.new.items) }
 
-        // Behind the mark nothing is refused, not even for want of memory.
+        // After the mark nothing is refused, not even when memory runs out.
         ensures free { self.old.refused ≡ false
             → ((file : Rle) × IsMarked MAX_LEVEL self.old.lines file)
             → IsOkAnd result (λ _. runs.new.items ≡ runs.old.items) }

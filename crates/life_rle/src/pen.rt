@@ -30,7 +30,7 @@ fn longer(run: Run) -> Run
     }
 }
 
-/// The column behind a run.
+/// The column after a run.
 fn column_behind(run: Run) -> i64
     requires { IsLiveRun run }
     ensures { result ≡ column_behind run }
@@ -56,7 +56,7 @@ fn item_of(run: Run) -> Item
     }
 }
 
-/// How far a coordinate lies ahead of another.
+/// How far a coordinate is ahead of another.
 fn distance(from: i64, to: i64) -> u64
     requires low { neg_ℤ (edge MAX_LEVEL) ≤ℤ from }
     requires rises { from ≤ℤ to }
@@ -66,7 +66,7 @@ fn distance(from: i64, to: i64) -> u64
     (to - from) as u64
 }
 
-/// Writes what stands between a run and a cell ahead of it, where rows begin at a column.
+/// Writes what is between a run and a cell ahead of it, where rows begin at a column.
 #[inline(always)]
 fn put_way(lines: &mut ItemLines, rule: &Rule, left: i64, run: Run, cell: &Cell) -> Result<(), Kind>
     requires pen { IsPen (record { lines = lines.old; left = left; run = run }) }
@@ -85,7 +85,7 @@ fn put_way(lines: &mut ItemLines, rule: &Rule, left: i64, run: Run, cell: &Cell)
     lines.put_gap(rule, distance(left, cell.x))
 }
 
-/// Takes the next cell: it joins the run, or the run is written with what stands before the cell. Answers the run that isn't written then.
+/// Takes the next cell: it joins the run, or the run is written with what is before the cell. Returns the run that isn't written then.
 #[inline(always)]
 fn take(lines: &mut ItemLines, rule: &Rule, left: i64, run: Run, cell: &Cell) -> Result<Run, Kind>
     requires pen { IsPen (record { lines = lines.old; left = left; run = run }) }
@@ -113,7 +113,7 @@ pub(crate) struct Pen {
 }
 
 impl Pen {
-    /// The pen behind the first cell, which isn't written yet.
+    /// The pen after the first cell, which isn't written yet.
     fn new(lines: ItemLines, bounds: Bounds, first: &Cell) -> Pen
         ensures { result ≡ record { lines = lines; left = bounds.left; run = run_of first.now } }
     {
@@ -124,7 +124,7 @@ impl Pen {
         }
     }
 
-    /// Writes the run and the cells behind it, with `!` at the end, and answers the text.
+    /// Writes the run and the cells after it, with `!` at the end, and returns the text.
     fn finish(self, rule: &Rule, cells: &[Cell]) -> Result<Vec<u8>, Kind>
         requires pen { IsPen self }
         requires cells { Follow rule.now self.left (column_behind self.run) self.run.y cells.now }
@@ -144,7 +144,7 @@ impl Pen {
     }
 }
 
-/// Writes a cell and more cells behind a text, from the corner of their box on, with `!` at the end, and answers the text.
+/// Writes a cell and more cells after a text, from the corner of their box on, with `!` at the end, and returns the text.
 pub(crate) fn write_cells(
     text: Vec<u8>,
     rule: &Rule,

@@ -7,7 +7,7 @@ use crate::plane::is_coordinate;
 use bstr::ByteSlice;
 use life_base::{Kind, MAX_LEVEL, begins_with, is_whitespace, read_i64, read_u64, split_word};
 
-/// Where the upper left cell of a pattern lies, and in which generation the pattern is.
+/// Where the upper left cell of a pattern is, and in which generation the pattern is.
 #[derive(Clone, Copy, Debug, PartialEq, Eq)]
 pub struct Position {
     pub x: i64,
@@ -22,14 +22,14 @@ pub(crate) fn is_position_line(line: &[u8]) -> bool
     begins_with(line, b"#CXRLE") && (line.len() == 6 || is_whitespace(line[6]))
 }
 
-/// Where the first comma stands.
+/// The place of the first comma.
 fn comma_place(text: &[u8]) -> Option<usize>
     ensures { result ≡ position (λ b. b == 44) text.now }
 {
     text.find_byte(b',')
 }
 
-/// The text before the first comma, and the text behind it.
+/// The text before the first comma, and the text after it.
 fn split_at_comma(text: &[u8]) -> (&[u8], &[u8])
     ensures before { result.0.now ≡ before_first (λ b. b == 44) text.now }
     ensures after { result.1.now ≡ after_first (λ b. b == 44) text.now }
@@ -40,7 +40,7 @@ fn split_at_comma(text: &[u8]) -> (&[u8], &[u8])
     }
 }
 
-/// The number that a text writes. One beyond the type, which lies far outside the plane, stands as the type's greatest.
+/// The number that a text writes. A number beyond the type, which is far outside the plane, gives the type's greatest.
 fn signed_number(text: &[u8]) -> Option<i64>
     ensures value { IsNumberRead MAX_LEVEL result (signed_number text.now) }
     ensures small { IfSome result (λ z. (neg_ℤ (pos (2 ^ 63)) ≤ℤ z) × (z ≤ℤ pos (2 ^ 63 - 1))) }

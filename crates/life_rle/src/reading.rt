@@ -9,7 +9,7 @@ use crate::position::Position;
 use life_base::{Fault, Items, MAX_LEVEL, Rule, Run, lines};
 use std::alloc::Global;
 
-/// Takes the line of this number, and puts its runs behind the runs.
+/// Takes the line of this number, and puts its runs after the runs.
 fn take_numbered(
     reader: &mut RleLines,
     runs: &mut Vec<Run>,
@@ -54,7 +54,7 @@ fn file_of(rule: Rule, position: Position, runs: Vec<Run>) -> RleFile
 ///
 /// # Errors
 ///
-/// The place is the first line behind which the bytes can't be continued to a file, or the number of lines plus 1 where they lack a
+/// The place is the first line after which the bytes can't be continued to a file, or the number of lines plus 1 where they lack a
 /// header, and the kind is that of the first rule which that line breaks. Where a growth of memory is refused the fault is `Memory`,
 /// which names no line.
 pub fn read_rle(alloc: Global, bytes: &[u8]) -> Result<RleFile, Fault>

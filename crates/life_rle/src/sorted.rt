@@ -16,7 +16,7 @@ fn is_live_cell(rule: &Rule, cell: &Cell) -> bool
         && is_state_of(rule, cell.state)
 }
 
-/// Whether the second cell stands in a later row, or behind the first in one row.
+/// Whether the second cell is in a later row, or after the first in one row.
 fn rises(first: &Cell, second: &Cell) -> bool
     ensures { result ≡ rises first.now second.now }
 {

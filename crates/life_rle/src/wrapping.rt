@@ -10,10 +10,10 @@ use life_base::{Kind, Rule, State, append};
 /// The most bytes on a line of items.
 const LINE_WIDTH: usize = 70;
 
-/// Room for a line feed, the 20 digits of a count, and the two bytes of a state.
+/// Space for a line feed, the 20 digits of a count, and the two bytes of a state.
 const ITEM_ROOM: usize = 23;
 
-/// Writes a byte at the end of the room, and answers where it stands.
+/// Writes a byte at the end of the space, and returns its place.
 fn write_byte(room: &mut [u8; ITEM_ROOM], byte: u8) -> usize
     ensures written { drop result room.new ≡ byte ∷ [] }
     ensures start { result ≡ 22 }
@@ -22,7 +22,7 @@ fn write_byte(room: &mut [u8; ITEM_ROOM], byte: u8) -> usize
     22
 }
 
-/// Writes two bytes at the end of the room, and answers where they start.
+/// Writes two bytes at the end of the space, and returns where they start.
 fn write_pair(room: &mut [u8; ITEM_ROOM], prefix: u8, letter: u8) -> usize
     ensures written { drop result room.new ≡ prefix ∷ letter ∷ [] }
     ensures start { result ≡ 21 }
@@ -58,7 +58,7 @@ fn single_state(rule: &Rule, state: State) -> Option<u8>
     }
 }
 
-/// Writes the text of a state at the end of the room, and answers where it starts.
+/// Writes the text of a state at the end of the space, and returns where it starts.
 fn write_state(room: &mut [u8; ITEM_ROOM], rule: &Rule, state: State) -> usize
     ensures written { drop result room.new ≡ state_text rule.now state }
     ensures start { result + length (state_text rule.now state) ≡ 23 }
@@ -69,7 +69,7 @@ fn write_state(room: &mut [u8; ITEM_ROOM], rule: &Rule, state: State) -> usize
     }
 }
 
-/// Writes the text of an item without its count at the end of the room, and answers where it starts.
+/// Writes the text of an item without its count at the end of the space, and returns where it starts.
 fn write_tag(room: &mut [u8; ITEM_ROOM], rule: &Rule, item: Item) -> usize
     ensures written { drop result room.new ≡ tag_text rule.now item }
     ensures start { result + length (tag_text rule.now item) ≡ 23 }
@@ -90,7 +90,7 @@ fn item_count(item: Item) -> u64
     }
 }
 
-/// Writes the text of an item at the end of the room, and answers where it starts; a count of 1 is not written.
+/// Writes the text of an item at the end of the space, and returns where it starts; a count of 1 is not written.
 fn write_item(room: &mut [u8; ITEM_ROOM], rule: &Rule, item: Item) -> usize
     ensures written { drop result room.new ≡ item_text rule.now item }
     ensures start { result + length (item_text rule.now item) ≡ 23 }
@@ -123,14 +123,14 @@ pub(crate) struct ItemLines {
 }
 
 impl ItemLines {
-    /// Lines that begin behind a text.
+    /// Lines that begin after a text.
     pub(crate) fn behind(text: Vec<u8>) -> ItemLines
         ensures { result ≡ record { text = text; used = 0 } }
     {
         ItemLines { text, used: 0 }
     }
 
-    /// Writes a count of one digit, which is left out where it is 1, and a letter on a line with room for both.
+    /// Writes a count of one digit, which is left out where it is 1, and a letter on a line with space for both.
     #[inline(always)]
     fn put_short(&mut self, count: u64, letter: u8) -> Result<(), Kind>
         requires digit { count < 10 }
@@ -235,7 +235,7 @@ impl ItemLines {
         self.put_item(rule, Item::Cells { count, state: 0 })
     }
 
-    /// Writes the `!` behind the last item, ends its line, and answers the text.
+    /// Writes the `!` after the last item, ends its line, and returns the text.
     pub(crate) fn finish(mut self) -> Result<Vec<u8>, Kind>
         requires { self.used ≤ 70 }
         ensures text { (rule : Rule) → IfOk result (λ text. text.items ≡ text_with rule self []) }

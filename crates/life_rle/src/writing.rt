@@ -124,7 +124,7 @@ fn cells_text(
 }
 
 /// The text of a rule, a generation and cells that `sorted_cells` accepts: in extended RLE, with the upper left corner of the cells'
-/// least box and the generation in a position line, and items on lines of at most 70 bytes.
+/// bounding box and the generation in a position line, and items on lines of at most 70 bytes.
 ///
 /// # Errors
 ///

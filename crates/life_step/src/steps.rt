@@ -24,7 +24,7 @@ fn is_rule_of(table: &Table, rule: &Rule) -> bool
     }
 }
 
-/// The generation behind this one, unless a file can't name it.
+/// The generation after this one, unless a file can't name it.
 fn generation_after(generation: u64) -> Result<u64, Fault>
     ensures after { IfOk result (λ after. after ≡ generation + 1) }
     ensures some { OnOk result (generation ≢ 2 ^ 64 - 1) }

@@ -1,4 +1,4 @@
-//! The rows of the plane beside which cells stand, from north to south.
+//! The rows of the plane that have cells in them or beside them, from north to south.
 ghost use Rattle.std.specs.Prelude.{◌≡◌, ℕ, ℤ, ◌+◌, ◌<◌, ◌≤◌, ◌<ℤ◌, true, false, All, IfSome, None, IsTrue, ◌↔◌, length, take, drop};
 ghost use Rattle.life_sweep.specs.Words.{IsBand, IsSoundBand, IsBandBelow, GoesSouth, IsFarRow, IsRestOf, IsBlankBefore, IsInside, IsSortedList, BeginsAt, IsOfSweep, IsNextRow, rows_left, start_of_sweep, first_coordinate};
 
@@ -58,7 +58,7 @@ impl<'a> Band<'a> {
         }
     }
 
-    // The next row beside which a cell stands.
+    // The next row that has a cell in it or beside it.
     fn next_row(&self) -> Option<i64>
         requires sound { IsSoundBand self.now }
         ensures within { IfSome result IsOfSweep }
@@ -75,7 +75,7 @@ impl<'a> Band<'a> {
         Some(first.y - 1)
     }
 
-    /// Goes on to the next row beside which a cell stands, and tells whether there is one.
+    /// Goes on to the next row that has a cell in it or beside it, and says whether there is one.
     pub(crate) fn advance(&mut self) -> bool
         requires sound { IsSoundBand self.old }
         ensures sound { IsSoundBand self.new }

@@ -27,7 +27,7 @@ pub(crate) const BLANK: Column<State> = Column {
 const FAR: i64 = HALF_PLANE;
 
 impl Column<State> {
-    /// Whether no cell stands in the column.
+    /// Whether the column has no cell.
     pub(crate) fn is_blank(self) -> bool
         ensures { result ≡ is_blank_column self }
     {

@@ -21,7 +21,7 @@ fn are_below(cells: &[Cell], bound: u16) -> bool
 ///
 /// The first of these that holds: `TooManyCells` if more have one; `StateBeyondTable` if a state is none of the law; `Ambiguous`, with the line
 /// of the first such cell by row and then column, if the line of a cell gives two states; `OutOfPlane` if a cell outside the plane would not
-/// stay 0. Or, before it is told, `Full` if the store holds its limit and a square of the generation is new, or `Memory`. After an error each
+/// stay 0. Or, before it is reported, `Full` if the store holds its limit and a square of the generation is new, or `Memory`. After an error each
 /// Id has its square.
 pub fn next_generation<S: Squares, L: Law>(
     alloc: Global,

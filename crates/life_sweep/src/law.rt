@@ -197,7 +197,7 @@ fn least_turn(around: &[State; 9]) -> [State; 9]
     least
 }
 
-// A neighbourhood for which the table has the same answer. Of four neighbours it leaves out the corners; of eight it stands, under `permute`, for
+// A neighbourhood for which the table has the same answer. Of four neighbours it leaves out the corners; of eight it is used, under `permute`, for
 // all orders of them, and under `rotate4` for the quarter turns.
 fn representative(table: &Table, around: &[State; 9]) -> [State; 9]
     requires { All (λ s. s < table.now.n_states) around.now }

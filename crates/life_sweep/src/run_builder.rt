@@ -58,7 +58,7 @@ impl RunBuilder {
         Ok(())
     }
 
-    /// Gives the cell (x, y) a state other than 0. It is behind the cells that were drawn.
+    /// Gives the cell (x, y) a state other than 0. It is after the cells that were drawn.
     pub(crate) fn draw<S: Squares>(
         &mut self,
         squares: &mut S,

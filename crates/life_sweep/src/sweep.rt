@@ -20,7 +20,7 @@ fn is_on_plane(x: i64, y: i64) -> bool
     -HALF_PLANE <= x && x < HALF_PLANE && -HALF_PLANE <= y && y < HALF_PLANE
 }
 
-// Gives the place of a window in the row `y` its next state. Tells whether a place outside the plane would not become 0, as it may be
+// Gives the place of a window in the row `y` its next state. Returns whether a place outside the plane would not become 0, as it may be
 // known before.
 fn draw_place<S: Squares, L: Law>(
     squares: &mut S,
@@ -63,7 +63,7 @@ fn draw_place<S: Squares, L: Law>(
     Ok(leaves)
 }
 
-// Gives the places of the row `y` their next states, by the rows around it. Tells whether a place outside the plane would not become 0, as
+// Gives the places of the row `y` their next states, by the rows around it. Returns whether a place outside the plane would not become 0, as
 // it may be known of earlier rows.
 fn draw_row<S: Squares, L: Law>(
     squares: &mut S,

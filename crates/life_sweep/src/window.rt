@@ -1,4 +1,4 @@
-//! The places of a row beside which cells stand, from west to east.
+//! The places of a row that have cells at them or beside them, from west to east.
 ghost use Rattle.std.specs.Prelude.{◌≡◌, ℕ, ℤ, ◌<◌, ◌<ℤ◌, ◌+ℤ◌, pos, true, false, IfSome, None};
 ghost use Rattle.life_sweep.specs.Words.{IsOfSweep, IsNextPlace, IsWindow, IsSoundWindow, IsWindowBelow, GoesOn, IsFar, AreRows, AreInside, AreSorted, AreBelow, column_at, no_column, is_blank_column, left_in, steps_left, states_of, start_of_sweep};
 
@@ -39,7 +39,7 @@ impl<'a> Window<'a> {
         }
     }
 
-    // The next place beside which a cell stands.
+    // The next place that has a cell at it or beside it.
     fn next_place(&self) -> Option<i64>
         requires sound { IsSoundWindow self.now }
         ensures within { IfSome result IsOfSweep }
@@ -56,7 +56,7 @@ impl<'a> Window<'a> {
         Some(first - 1)
     }
 
-    /// Goes on to the next place beside which a cell stands, and tells whether there is one.
+    /// Goes on to the next place that has a cell at it or beside it, and says whether there is one.
     pub(crate) fn advance(&mut self) -> bool
         requires sound { IsSoundWindow self.old }
         ensures sound { IsSoundWindow self.new }

@@ -59,7 +59,7 @@ fn put_entry(sets: &mut [u64], vars: &[Var], entry: Entry, p: usize, lines: u64)
     }
 }
 
-/// Tells whether two entries are the same.
+/// Whether two entries are the same.
 fn is_same(entry: Entry, other: Entry) -> bool
     ensures { IsTrue result ↔ (entry ≡ other) }
 {

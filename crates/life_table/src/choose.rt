@@ -9,7 +9,7 @@ use crate::site::Site;
 use crate::table::{Entry, Transition, Var};
 use life_base::State;
 
-/// Tells whether a variable may be a state.
+/// Whether a variable may be a state.
 pub(crate) fn has_state(var: &Var, s: State) -> bool
     ensures { result ≡ has_state var.now s }
 {
@@ -27,7 +27,7 @@ pub(crate) fn with_state(found: Found, s: State) -> Found
     }
 }
 
-/// Tells whether the next input may be a state, where the inputs before it are these states.
+/// Whether the next input may be a state, where the inputs before it are these states.
 pub(crate) fn allows(vars: &[Var], inputs: &[Entry], given: &[State], s: State) -> bool
     requires short { length given.now < length inputs.now }
     requires entries { All (IsEntry 256 vars.now) inputs.now }
@@ -86,7 +86,7 @@ pub(crate) fn with_image(vars: &[Var], line: &Transition, states: &[State], foun
     with_state(found, output_of(line, states))
 }
 
-/// Tells whether an entry alone may be a state.
+/// Whether an entry alone may be a state.
 pub(crate) fn can_be(vars: &[Var], entry: Entry, s: State) -> bool
     requires entry { IsEntry 256 vars.now entry }
     ensures exact { result ≡ can_be_state vars.now entry s }

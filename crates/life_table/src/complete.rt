@@ -28,7 +28,7 @@ fn with_place(vars: &[Var], group: Group, states: &[State], free: u8, place: usi
     }
 }
 
-/// Tells whether the groups from number `k` on can take exactly the free places. `failed` holds, for each set of free places, one more than
+/// Whether the groups from number `k` on can take exactly the free places. `failed` holds, for each set of free places, one more than
 /// the number of the group that failed with it last, or 0.
 fn completes(
     vars: &[Var],
@@ -62,7 +62,7 @@ fn completes(
     false
 }
 
-/// Tells whether the groups can take exactly the free places.
+/// Whether the groups can take exactly the free places.
 pub(crate) fn can_complete(vars: &[Var], groups: &[Group], states: &[State], free: u8) -> bool
     requires search { IsSearch vars.now groups.now states.now }
     requires free { free < 2 ^ length states.now }

@@ -77,7 +77,7 @@ fn parse_states(word: &[u8]) -> Result<Directive, Kind>
     }
 }
 
-/// The same of a neighbourhood behind this symmetry.
+/// The same for a neighbourhood after this symmetry.
 fn parse_neighborhood(symmetry: Option<Symmetry>, word: &[u8]) -> Result<Directive, Kind>
     ensures { result ≡ if_neighborhood symmetry (neighborhood_named word.now) }
 {
@@ -93,7 +93,7 @@ fn parse_neighborhood(symmetry: Option<Symmetry>, word: &[u8]) -> Result<Directi
     }
 }
 
-/// The same of a symmetry behind this neighbourhood.
+/// The same for a symmetry after this neighbourhood.
 fn parse_symmetry(neighborhood: Option<Neighborhood>, word: &[u8]) -> Result<Directive, Kind>
     ensures { result ≡ if_symmetry neighborhood (symmetry_named word.now) }
 {
@@ -109,7 +109,7 @@ fn parse_symmetry(neighborhood: Option<Neighborhood>, word: &[u8]) -> Result<Dir
     }
 }
 
-/// Whether a key stands before the neighbourhood.
+/// Whether a key is before the neighbourhood.
 fn is_neighborhood_key(key: &[u8]) -> bool
     ensures { result ≡ is_neighborhood_key key.now }
 {

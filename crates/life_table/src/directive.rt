@@ -4,7 +4,7 @@ use crate::by_name::Variables;
 use crate::table::{Neighborhood, Symmetry, Transition, Var};
 use life_base::{Items, Name};
 
-/// Where a line stands: before the table, in it, or behind it.
+/// Where a line is: before the table, in it, or after it.
 #[derive(Clone, Copy, PartialEq, Eq)]
 pub(crate) enum Section {
     Ahead,

@@ -50,7 +50,7 @@ fn with_turns(site: &Site, line: &Transition, reflect: bool, found: Found) -> Fo
     found
 }
 
-/// The states that a line gives over the images of the neighbours, each behind the centre.
+/// The states that a line gives over the images of the neighbours, each list after the centre.
 pub(crate) fn by_images(site: &Site, line: &Transition) -> Found
     requires site { IsSite site.now }
     requires line { IsLineAt site.now line.now }

@@ -54,7 +54,7 @@ pub(crate) fn free_after(
     Some(free)
 }
 
-/// Counts one more input that is this variable, and tells how many variables there are then.
+/// Counts one more input that is this variable, and says how many variables there are then.
 fn add_variable(groups: &mut [Group; 9], count: usize, number: u64) -> usize
     requires room { count < 9 }
     requires few { All (λ g. g.times < 9) (take count groups.old) }
@@ -106,7 +106,7 @@ fn others_than(inputs: &[Entry], entry: Entry) -> usize {
     inputs.iter().filter(|other| **other != entry).count()
 }
 
-/// The inputs, those first that stand most often.
+/// The inputs, the most frequent ones first.
 fn most_first(inputs: &[Entry]) -> [Entry; 8]
     requires { length inputs.now ≤ 8 }
     ensures { IsPermutation inputs.now (take (length inputs.now) result) }

@@ -5,7 +5,7 @@ ghost use Rattle.life_table.specs.Words.{family, IsImage};
 use crate::turn::{Turns, image_of};
 use life_base::State;
 
-/// The images of a cell's neighbours, each behind the centre: `count` of them.
+/// The images of a cell's neighbours, each after the centre: `count` of them.
 #[derive(Clone, Copy)]
 pub(crate) struct Images {
     pub cells: [[State; 9]; 16],

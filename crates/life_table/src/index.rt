@@ -198,7 +198,7 @@ impl<'a> Index<'a> {
         }
     }
 
-    /// Indexes up to 512 more lines, with 19 KB for each 64. Where memory is refused it does without.
+    /// Indexes up to 512 more lines, with 19 KB for each 64. If memory is refused, the lines are searched without an index.
     pub fn grow(&mut self)
         ensures { self.new ≡ self.old }
     {

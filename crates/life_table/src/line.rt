@@ -13,7 +13,7 @@ use crate::words::{content, has_byte, is_passed_over, is_section_line, is_table_
 use life_base::{Kind, Name, Rule, is_too_long, is_whitespace};
 use std::alloc::Global;
 
-/// What stands behind `@RULE`, where that is followed by whitespace.
+/// What follows `@RULE` and the whitespace after it.
 fn text_of_rule_line(line: &[u8]) -> Option<&[u8]>
     ensures { MatchOption result (begins_rule_line line.now ≡ false)
         (λ text. (begins_rule_line line.now ≡ true) × (text.now ≡ drop 5 line.now)) }
@@ -146,7 +146,7 @@ impl TableLines {
         self.parse_rest(alloc, number, text)
     }
 
-    /// What a line says behind those that were kept, or which rule it breaks.
+    /// What a line adds to those that were kept, or which rule it breaks.
     #[tactic(auto, unfolding(crate::specs::Reading::parse_line))]
     pub(crate) fn parse_line(
         &self,

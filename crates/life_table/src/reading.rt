@@ -52,7 +52,7 @@ fn table_of(alloc: Global, parsed: Parsed, end: u64) -> Result<Table, Fault>
 ///
 /// # Errors
 ///
-/// The place is the first line behind which the bytes can't be continued to a file with a table, or the number of lines plus 1 where they
+/// The place is the first line after which the bytes can't be continued to a file with a table, or the number of lines plus 1 where they
 /// end before they have one, and the kind is that of the first rule which that line breaks, or of what is missing. Where a growth of memory
 /// is refused the fault is `Memory`, which names no line.
 pub fn read_table_seeded(alloc: Global, seed: NameSeed, bytes: &[u8]) -> Result<Table, Fault>

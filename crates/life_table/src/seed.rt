@@ -2,15 +2,15 @@
 
 use std::hash::{BuildHasher, DefaultHasher, Hasher};
 
-/// The words by which the names of a table's variables are found: SipHash behind these words, as `RandomState` has it, but for words of the caller's.
-/// Which they are decides nothing but time: against random ones, drawn after the table was written, no way is known to choose names that crowd.
+/// The words that key the hash of the names of a table's variables: SipHash, as in `RandomState`, but with words from the caller.
+/// Which they are decides nothing but time: no way is known to choose names that collide under random words, drawn after the table was written.
 #[derive(Clone, Copy, Drop)]
 pub struct NameSeed {
     start: DefaultHasher,
 }
 
 impl NameSeed {
-    /// The seed of two words, which are random and secret where strangers choose the names.
+    /// The seed of two words, which must be random and secret if the names are untrusted input.
     pub fn new(words: [u64; 2]) -> NameSeed {
         let [first, second] = words;
         let mut start = DefaultHasher::new();

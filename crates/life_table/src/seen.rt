@@ -1,4 +1,4 @@
-//! Which neighbours of a cell an entry may be. It is told once for a cell, since most lines fail by it.
+//! Which neighbours of a cell an entry may be. It is computed once for a cell, since most lines fail by it.
 ghost use Rattle.std.specs.Prelude.{◌≡◌, ◌≢◌, ℕ, ◌%◌, ◌<◌, List, length, slice_index, slice_index_or, IsTrue};
 ghost use Rattle.life_table.specs.Words.{bit_at, has_state, places, IsSeen};
 
@@ -6,7 +6,7 @@ use crate::choose::has_state;
 use crate::table::{Entry, Var};
 use life_base::State;
 
-// Of so many variables it is told which neighbours they may be.
+// For so many variables it is computed which neighbours they may be.
 const LISTED: usize = 64;
 
 /// The neighbours that may be each state and each of the first variables: bit `k` is neighbour `k`, going round again up to bit 15.
@@ -29,7 +29,7 @@ fn round(others: &[State]) -> [State; 16]
     around
 }
 
-/// For each state, the places where it stands.
+/// For each state, the places that have it.
 fn places_of_states(around: &[State; 16]) -> [u16; 256]
     ensures { (k : ℕ) → k < 16 → bit_at (slice_index result (slice_index around.now k)) k ≡ 1 }
 {
@@ -40,7 +40,7 @@ fn places_of_states(around: &[State; 16]) -> [u16; 256]
     places
 }
 
-/// The places where a state of the variable stands.
+/// The places that have a state of the variable.
 fn places_of_variable(var: &Var, around: &[State; 16]) -> u16
     ensures { (k : ℕ) → k < 16 → IsTrue (has_state var.now (slice_index around.now k))
         → bit_at result k ≡ 1 }
@@ -54,7 +54,7 @@ fn places_of_variable(var: &Var, around: &[State; 16]) -> u16
     places
 }
 
-/// For each of the first variables, the places where its states stand.
+/// For each of the first variables, the places that have its states.
 fn places_of_variables(vars: &[Var], around: &[State; 16]) -> [u16; LISTED]
     ensures { (i k : ℕ) → i < length vars.now → i < LISTED → k < 16 → (var : Var)
         → var ≡ slice_index_or vars.now i var → IsTrue (has_state var (slice_index around.now k))
@@ -80,7 +80,7 @@ impl Seen {
         }
     }
 
-    /// Nothing is told: each entry may be each neighbour.
+    /// Nothing is known: each entry may be each neighbour.
     fn untold() -> Seen
         ensures { (vars : List Var) (others : List ℕ) → ((i : ℕ) → slice_index others i < 256)
             → IsSeen vars others result }
@@ -103,7 +103,7 @@ impl Seen {
         }
     }
 
-    /// The neighbours that an entry may be: all where nothing is told of the variable.
+    /// The neighbours that an entry may be: all if nothing is known of the variable.
     pub(crate) fn places(&self, entry: Entry) -> u16
         ensures { result ≡ places self.now entry }
     {
@@ -119,7 +119,7 @@ impl Seen {
         }
     }
 
-    /// Tells whether each entry may be some neighbour, and each neighbour some entry.
+    /// Whether each entry may be some neighbour, and each neighbour some entry.
     pub(crate) fn may_take_all(&self, inputs: &[Entry]) -> bool
         ensures { ((i : ℕ) → i < length inputs.now
             → places self.now (slice_index_or inputs.now i (Entry.Fixed 0)) ≢ 0)

@@ -98,7 +98,7 @@ impl Block {
         lines
     }
 
-    /// The lines of which so many inputs of the first `n` behind the centre's may be one of these states.
+    /// The lines of which so many inputs of the first `n` after the centre's may be one of these states.
     fn with_inputs_among(&self, n: usize, states: &[State], times: usize) -> u64
         requires room { n ≤ 8 }
         requires few { times ≤ n }
@@ -124,7 +124,7 @@ impl Block {
         self.with_inputs_among(others.len(), states, times)
     }
 
-    /// Of these lines those of which each input behind the centre's may be some neighbour.
+    /// Of these lines those of which each input after the centre's may be some neighbour.
     fn with_each_input(&self, others: &[State], counts: &Counts, lines: u64) -> u64
         requires room { length others.now ≤ 8 }
         requires counts { AreCounts others.now counts.now }
@@ -174,7 +174,7 @@ impl Block {
         lines
     }
 
-    /// Of these lines those whose input at place `p` behind the centre's is another entry than each before it, or may be a state that more than one
+    /// Of these lines those whose input at place `p` after the centre's is another entry than each before it, or may be a state that more than one
     /// neighbour has.
     fn with_pair_at(&self, others: &[State], counts: &Counts, p: usize, lines: u64) -> u64
         requires place { p < length others.now }

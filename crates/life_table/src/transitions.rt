@@ -110,7 +110,7 @@ fn is_quiet_output(output: Entry) -> bool
     }
 }
 
-/// Whether a transition keeps the table quiet, where this tells whether an earlier one fits the neighbourhood in which each cell is 0.
+/// Whether a transition keeps the table quiet, given whether an earlier one fits the neighbourhood in which each cell is 0.
 fn stays_quiet(vars: &Variables, fits: bool, line: &Transition) -> bool
     ensures { result ≡ (fits || not (fits_zero vars.now line.now) || is_quiet_output
         line.now.output) }
@@ -118,7 +118,7 @@ fn stays_quiet(vars: &Variables, fits: bool, line: &Transition) -> bool
     fits || !fits_zero(vars, line.inputs.as_slice()) || is_quiet_output(line.output)
 }
 
-/// What a transition says behind others, or which rule it breaks. `fits` tells whether one of those fits the neighbourhood in which
+/// What a transition adds to others, or which rule it breaks. `fits` says whether one of those fits the neighbourhood in which
 /// each cell is 0.
 pub(crate) fn parse_transition(
     vars: &Variables,

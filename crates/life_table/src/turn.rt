@@ -13,7 +13,7 @@ pub(crate) struct Turns {
     pub reflect: bool,
 }
 
-/// The place, going round, of the neighbour that stands at place `i` of `n` before a turn. Reflected neighbours stand the other way round.
+/// The place, going round, of the neighbour that is at place `i` of `n` before a turn. Reflected neighbours are the other way round.
 pub(crate) fn place_before(i: usize, n: usize, reflect: bool) -> usize
     requires { i ≤ n }
     ensures { result ≡ (if reflect then n - i else i) }

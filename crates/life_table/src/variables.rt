@@ -27,7 +27,7 @@ fn is_name_byte(byte: u8) -> bool
     matches!(byte, b'!'..=b'~') && !has_byte(b",={}:#@", byte)
 }
 
-/// Whether each byte may stand in a variable's name.
+/// Whether each byte may be part of a variable's name.
 fn are_name_bytes(word: &[u8]) -> bool
     ensures { result ≡ list_all is_name_byte word.now }
 {
@@ -44,7 +44,7 @@ fn is_variable_name(word: &[u8]) -> bool
     }
 }
 
-/// What stands between the braces of a list.
+/// What is between the braces of a list.
 fn within_braces(text: &[u8]) -> Option<&[u8]>
     ensures { MatchOption result (is_list text.now ≡ false)
         (λ within. (is_list text.now ≡ true) × (within.now ≡ within_braces text.now)) }
@@ -71,7 +71,7 @@ fn variable_states(n_states: u16, vars: &Variables, name: &[u8], list: &[u8]) ->
     Scope { n_states, vars }.states_listed(within)
 }
 
-/// The variable that a line writes behind these variables, if it writes one.
+/// The variable that a line writes after these variables, if it writes one.
 pub(crate) fn variable_of(
     alloc: Global,
     n_states: u16,

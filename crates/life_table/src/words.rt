@@ -5,14 +5,14 @@ ghost use Rattle.life_table.specs.Words.{list_any, before_first, after_first, sl
 
 use life_base::{begins_with, is_blank, is_whitespace, read_u64, trimmed};
 
-/// Where a byte stands first.
+/// The first place of a byte.
 fn first_place(text: &[u8], mark: u8) -> Option<usize>
     ensures { result ≡ position (λ b. b == mark) text.now }
 {
     text.iter().position(|byte| *byte == mark)
 }
 
-/// Whether a byte stands in the text.
+/// Whether the text has a byte.
 pub(crate) fn has_byte(text: &[u8], mark: u8) -> bool
     ensures { result ≡ list_any (λ b. b == mark) text.now }
 {
@@ -36,7 +36,7 @@ pub(crate) fn number_below(word: &[u8], limit: u64) -> Option<u64>
     }
 }
 
-/// What stands before the first of these bytes, and what stands behind it.
+/// What is before the first of these bytes, and what is after it.
 pub(crate) fn split_at_byte(text: &[u8], mark: u8) -> (&[u8], &[u8])
     ensures before { result.0.now ≡ before_first (λ b. b == mark) text.now }
     ensures behind { result.1.now ≡ after_first (λ b. b == mark) text.now }
@@ -47,7 +47,7 @@ pub(crate) fn split_at_byte(text: &[u8], mark: u8) -> (&[u8], &[u8])
     }
 }
 
-/// What stands before the first comma, and what stands behind it, if there is one.
+/// What is before the first comma, and what is after it, if there is one.
 pub(crate) fn first_part(text: &[u8]) -> (&[u8], Option<&[u8]>)
     ensures parts { slice_split (λ b. b == byte ",") text.now ≡ result.0.now ∷ parts_left result.1 }
     ensures shorter { IfSome result.1 (λ rest. length rest.now < length text.now) }

@@ -46,15 +46,15 @@ as_it_was (Err fault) writer = λ other. refl
 
 pub deliver_squares-requires-clause-known : goal.deliver_squares-requires-clause-known
 deliver_squares-requires-clause-known g c
-    = (read-fits c.in_ok-pattern.ensures.pattern.bytes c.read_source.new.store c.in_ok-pattern.pattern c.in_ok-pattern.ensures.pattern.is).known
+    = (read-fits c.in_ok-pattern.ensures.reads.pattern.bytes c.read_source.new.store c.in_ok-pattern.pattern c.in_ok-pattern.ensures.reads.pattern.is).known
 
 pub deliver_squares-requires-clause-states : goal.deliver_squares-requires-clause-states
 deliver_squares-requires-clause-states g c
-    = (read-fits c.in_ok-pattern.ensures.pattern.bytes c.read_source.new.store c.in_ok-pattern.pattern c.in_ok-pattern.ensures.pattern.is).states
+    = (read-fits c.in_ok-pattern.ensures.reads.pattern.bytes c.read_source.new.store c.in_ok-pattern.pattern c.in_ok-pattern.ensures.reads.pattern.is).states
 
 pub deliver_squares-requires-clause-level : goal.deliver_squares-requires-clause-level
 deliver_squares-requires-clause-level g c
-    = (read-fits c.in_ok-pattern.ensures.pattern.bytes c.read_source.new.store c.in_ok-pattern.pattern c.in_ok-pattern.ensures.pattern.is).level
+    = (read-fits c.in_ok-pattern.ensures.reads.pattern.bytes c.read_source.new.store c.in_ok-pattern.pattern c.in_ok-pattern.ensures.reads.pattern.is).level
 
 pub deliver_squares-requires-clause-bound : goal.deliver_squares-requires-clause-bound
 deliver_squares-requires-clause-bound g c = λ q k l s. c.in_ok-numbers.ensures.bound q k.0 l s
@@ -76,8 +76,8 @@ returns-in_err-pattern-clause-runs g c =
     let p = err_from_is_err_and c.from_residual.result c.from_residual.ensures.1 in
     rw (p.1, p.2) (record {
       ok = tt;
-      err = by_reading c.in_err-pattern.ensures.fault;
-      reads = source-err c.in_err-pattern.ensures.reads;
+      err = by_reading c.in_err-pattern.ensures.reads.fault;
+      reads = source-err c.in_err-pattern.ensures.reads.reads;
       write_told = no_failure _ _ c.requires.working.1 c.requires.working.2;
     })
 
@@ -88,7 +88,7 @@ returns-in_err-numbers-clause-runs g c =
     rw (p.1, p.2) (record {
       ok = tt;
       err = by_reading (by_want (inl memory));
-      reads = source-still c.in_ok-pattern.ensures.reads (no-room memory);
+      reads = source-still c.in_ok-pattern.ensures.reads.reads (no-room memory);
       write_told = no_failure _ _ c.requires.working.1 c.requires.working.2;
     })
 
@@ -99,10 +99,10 @@ returns-in_err-deliver_squares-clause-runs g c =
     rw (p.1, p.2) (record {
       ok = tt;
       err = by_writing (ap fault_of kind) (record {
-        wrote = wrote _ _ _ _ (WritesPrefix _ _) _ c.in_ok-pattern.ensures.pattern c.in_ok-numbers.ensures.front c.in_err-deliver_squares.ensures.text;
+        wrote = wrote _ _ _ _ (WritesPrefix _ _) _ c.in_ok-pattern.ensures.reads.pattern c.in_ok-numbers.ensures.front c.in_err-deliver_squares.ensures.text;
         cause = c.in_err-deliver_squares.ensures.sink.cause;
       });
-      reads = source-still c.in_ok-pattern.ensures.reads (write-no-room kind);
+      reads = source-still c.in_ok-pattern.ensures.reads.reads (write-no-room kind);
       write_told = λ e. kind;
     })
 
@@ -110,8 +110,8 @@ pub returns-clause-runs : goal.returns-clause-runs
 returns-clause-runs g c =
     let sink = c.in_ok-deliver_squares.ensures.sink in
     record {
-      ok = wrote _ _ _ _ (Appends _ _) _ c.in_ok-pattern.ensures.pattern c.in_ok-numbers.ensures.front c.in_ok-deliver_squares.ensures.text;
+      ok = wrote _ _ _ _ (Appends _ _) _ c.in_ok-pattern.ensures.reads.pattern c.in_ok-numbers.ensures.front c.in_ok-deliver_squares.ensures.text;
       err = tt;
-      reads = source-still c.in_ok-pattern.ensures.reads (λ e. absurd (cc));
+      reads = source-still c.in_ok-pattern.ensures.reads.reads (λ e. absurd (cc));
       write_told = no_failure _ _ sink.works (sink.stalled ∙ c.requires.working.2);
     }

@@ -2,9 +2,9 @@ use Rattle.std.proofs.Common.{rules, take}
 use Rattle.std.proofs.lemmas.Result.{err_from_is_err_and}
 use Rattle.life_quad.proofs.KeepingLemmas.{keeps-then}
 use Rattle.life_canon.specs.Running.{by_length, by_want}
-use Rattle.life_canon.proofs.RunFacts.{reading-on, reading-ends, piece-adds, piece-tight, beyond-most, ended-refused, ended-open, ended-lacks, ended-adds, ended-holds, ended-tight, lacks-front, refused-not-full}
+use Rattle.life_canon.proofs.RunFacts.{reading-on, reading-ends, piece-adds, piece-tight, beyond-most, ended-refused, ended-open, ended-lacks, ended-adds, ended-holds, ended-tight, ended-whole, lacks-front, refused-not-full}
 use Rattle.life_canon.proofs.Stored.{err_again}
-use Rattle.life_canon.proofs.runs.read_source.Goals as goal
+use Rattle.life_canon.proofs.runs.read_by_pieces.Goals as goal
 
 pub loop-reader-preserved : goal.loop-reader-preserved
 loop-reader-preserved g c = (
@@ -14,11 +14,12 @@ loop-reader-preserved g c = (
   search rules,
   search rules,
   rw c.make.ensures (keeps-then c.loop-reader.invariant.3 c.feed_piece.ensures.keeps),
+  search rules,
 )
 
 -- the source failed
-pub returns-in_err-count : goal.returns-in_err-count
-returns-in_err-count g c =
+pub returns-in_err-count-clause-reads : goal.returns-in_err-count-clause-reads
+returns-in_err-count-clause-reads g c =
     record {
       pattern = search rules;
       works = search rules;
@@ -27,8 +28,8 @@ returns-in_err-count g c =
     }
 
 -- too much came
-pub returns-then-total-most : goal.returns-then-total-most
-returns-then-total-most g c =
+pub returns-then-total-most-clause-reads : goal.returns-then-total-most-clause-reads
+returns-then-total-most-clause-reads g c =
     record {
       pattern = tt;
       works = tt;
@@ -43,8 +44,8 @@ returns-then-total-most g c =
     }
 
 -- a piece found no room or no memory
-pub returns-in_err-refused : goal.returns-in_err-refused
-returns-in_err-refused g c =
+pub returns-in_err-refused-clause-reads : goal.returns-in_err-refused-clause-reads
+returns-in_err-refused-clause-reads g c =
     let p = err_from_is_err_and c.from_residual-in_err-refused.result c.from_residual-in_err-refused.ensures.1 in
     let piece = take c.in_ok-count.count c.read.new.buf in
     let call = c.in_err-refused.ensures in
@@ -68,8 +69,8 @@ returns-in_err-refused g c =
     })
 
 -- a line was refused
-pub returns-in-Some : goal.returns-in-Some
-returns-in-Some g c =
+pub returns-in-Some-clause-reads : goal.returns-in-Some-clause-reads
+returns-in-Some-clause-reads g c =
     record {
       pattern = tt;
       works = tt;
@@ -81,8 +82,8 @@ returns-in-Some g c =
     }
 
 -- the end of the file
-pub returns-in-None : goal.returns-in-None
-returns-in-None g c =
+pub returns-in-None-clause-reads : goal.returns-in-None-clause-reads
+returns-in-None-clause-reads g c =
     let call = c.finish.ensures in
     record {
       pattern = search rules;
@@ -106,3 +107,8 @@ returns-in-None g c =
         keeps = keeps-then c.loop-reader.invariant.3 call.ends.keeps;
       };
     }
+
+pub returns-in-None-clause-only : goal.returns-in-None-clause-only
+returns-in-None-clause-only g c =
+    ended-whole _ _ _ _ _ _ _ _ _ _ _ _ _ c.loop-reader.invariant.0 (search rules) (search rules) c.in_ok-count.ensures.bytes c.loop-reader.invariant.2
+    c.in-None.is c.finish.result c.finish.ensures.pattern c.finish.ensures.ends.adds
