@@ -1,7 +1,8 @@
-//! Worked files, with the answers that the formats give.
+//! Worked files, with the answers that the formats give. More of them are given to the built program, by `tests/program/tasks.py`.
 
 mod canon;
 mod devices;
+mod duplicates;
 mod failures;
 mod forms;
 mod pieces;
@@ -15,10 +16,8 @@ use forms::{MOVED_GLIDER, TURNED_GLIDER};
 use life_cli::plans::{Form, Target, Task};
 use steps::{NEXT_LINE, SEED, SPREAD, SPREAD_TEXT};
 
-/// A glider, and its text: the rows about the middle of a leaf.
+/// A glider: the rows about the middle of a leaf.
 const GLIDER: &[u8] = b"[M2]\n#R B3/S23\n#C a glider\n$$..*$...*$.***$$$$\n";
-
-const GLIDER_TEXT: &[u8] = b"[M2] (canonical 1)\n#R B3/S23\n$$..*$...*$.***$$$$\n";
 
 /// A glider to the south and east of the origin, and the five lines on it.
 const EAST_GLIDER: &[u8] = b"x = 3, y = 3, rule = B3/S23\nbo$2bo$3o!\n";
@@ -39,11 +38,7 @@ const TWINS_RUNS: &[u8] = b"#CXRLE Pos=-4,0\nx = 9, y = 1, rule = B3/S23\no7bo!\
 /// Three cells in a row.
 const LINE: &[u8] = b"x = 3, y = 1, rule = B3/S23\n3o!\n";
 
-const BLANK: &[u8] = b"x = 0, y = 0, rule = 23/3\n!\n";
-
 const WIRES: &[u8] = b"#CXRLE Pos=-1,-1 Gen=7\nx = 2, y = 1, rule = WireWorld\nApA!\n";
-
-const WIRES_TEXT: &[u8] = b"[M2] (canonical 1)\n#R WireWorld\n#G 7\n1 1 25 0 0\n";
 
 /// What is written of two files that are compared.
 const SAME: &[u8] = b"same\n";

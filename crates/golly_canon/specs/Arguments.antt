@@ -1,5 +1,5 @@
 -- What is said of arguments that can't be read, and the status that they end the program with. The project's own.
-use Rattle.std.specs.Prelude.{◌≡◌, ◌≢◌, ◌⊎◌, ℕ, List, codes}
+use Rattle.std.specs.Prelude.{◌≡◌, ◌≢◌, ◌⊎◌, ◌++◌, ℕ, List, codes}
 use Rattle.std.specs.IoError.{error_kind}
 use Rattle.std.specs.declared.io.Error.{Error}
 use Rattle.std.specs.declared.io.ErrorKind.TheVariants.{OutOfMemory}
@@ -9,14 +9,14 @@ use Rattle.life_cli.specs.Faults.{fault_line, refusal_of, status_of}
 use Rattle.golly_canon.specs.declared.arguments.Unreadable.{Unreadable}
 use Rattle.golly_canon.specs.declared.arguments.Unreadable.TheVariants.{NoText, Memory}
 
--- what an error says that came where the arguments were read: that memory was refused, or that an argument is no text
+-- what an error says that came where the arguments were read: that memory was refused, or that an argument isn't text
 abbrev pub Says : Error → Unreadable → Type 0
 Says error unreadable = ((error_kind error ≡ OutOfMemory) × (unreadable ≡ Memory)) ⊎ ((error_kind error ≢ OutOfMemory) × (unreadable ≡ NoText))
 
--- the line on standard error
-abbrev pub unreadable_line : Unreadable → List ℕ
-unreadable_line NoText = codes "error: a word of the command line is no UTF-8 text\n"
-unreadable_line Memory = fault_line (refusal_of (fault_of kinds.Memory))
+-- the line on standard error, in which `argument` is the first one that isn't text, as it is shown
+abbrev pub unreadable_line : Unreadable → List ℕ → List ℕ
+unreadable_line NoText argument = codes "error: an argument isn't UTF-8 text: " ++ (argument ++ codes "\n")
+unreadable_line Memory _ = fault_line (refusal_of (fault_of kinds.Memory))
 
 -- the status that the program ends with
 abbrev pub unreadable_status : Unreadable → ℕ

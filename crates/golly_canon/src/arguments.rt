@@ -4,14 +4,16 @@ ghost use Rattle.std.specs.Prelude.{◌≡◌};
 ghost use Rattle.life_cli.specs.Words.{Tells, sink_run};
 ghost use Rattle.golly_canon.specs.Arguments.{unreadable_line, unreadable_status};
 
-use life_base::{Kind, Sink, write_text};
+use life_base::{Kind, Sink, write_texts};
 use life_cli::refuse;
+use std::alloc::AllocError;
+use std::env::{Env, FillError};
 use std::{env, io};
 
 /// Why the arguments can't be read.
 #[derive(Clone, Copy)]
 pub(crate) enum Unreadable {
-    /// An argument is no UTF-8 text.
+    /// An argument isn't UTF-8 text.
     NoText,
     /// Memory was refused.
     Memory,
@@ -22,7 +24,7 @@ impl From<io::Error> for Unreadable {
 
     ghost from_gives = { λ error unreadable. Says error unreadable };
 
-    /// An argument is no text, or memory was refused.
+    /// An argument isn't text, or memory was refused.
     fn from(error: io::Error) -> Unreadable {
         match error.kind() {
             io::ErrorKind::OutOfMemory => Unreadable::Memory,
@@ -36,26 +38,81 @@ pub(crate) fn arguments(rt: &HostRuntime) -> io::Result<Vec<String>> {
     Ok(env::args(rt)?.collect(rt.alloc())?)
 }
 
-/// Writes the line that says that an argument is no text, and returns the status.
-fn report_no_text<E: Sink>(err: &mut E) -> u8
+/// The arguments where one of them isn't UTF-8 text.
+#[derive(Drop)]
+pub(crate) struct LossyArguments {
+    /// All arguments, the program's own name first, with U+FFFD in place of what isn't UTF-8 text.
+    pub words: Vec<String>,
+    /// Those that aren't UTF-8 text, also so.
+    pub damaged: Vec<String>,
+}
+
+/// The bytes of an argument, if there is one in this place.
+fn argument(rt: &HostRuntime, place: usize) -> Result<Option<Vec<u8>>, AllocError> {
+    let mut bytes = Vec::new(rt.alloc());
+    let mut capacity: usize = 256;
+    for _ in 0..usize::BITS {
+        bytes.resize(capacity, 0)?;
+        match rt.arg(place, bytes.as_mut_slice()) {
+            Ok(count) => {
+                bytes.truncate(count);
+                return Ok(Some(bytes));
+            }
+            Err(FillError::NotPresent) => return Ok(None),
+            Err(FillError::TooLong) => capacity = capacity.saturating_add(capacity),
+        }
+    }
+    Err(AllocError)
+}
+
+/// Adds a word at the end.
+fn push(words: &mut Vec<String>, word: String) -> Result<(), AllocError> {
+    match words.push(word) {
+        Ok(()) => Ok(()),
+        Err(_) => Err(AllocError),
+    }
+}
+
+/// The arguments, whether or not they are UTF-8 text.
+pub(crate) fn lossy_arguments(rt: &HostRuntime) -> Result<LossyArguments, AllocError> {
+    let mut words = Vec::new(rt.alloc());
+    let mut damaged = Vec::new(rt.alloc());
+    for place in 0..usize::MAX {
+        let Some(bytes) = argument(rt, place)? else {
+            break;
+        };
+        let word = bytes.as_slice();
+        push(&mut words, String::from_utf8_lossy(rt.alloc(), word)?)?;
+        if str::from_utf8(word).is_err() {
+            push(&mut damaged, String::from_utf8_lossy(rt.alloc(), word)?)?;
+        }
+    }
+    Ok(LossyArguments { words, damaged })
+}
+
+/// Writes the line that says that this argument isn't UTF-8 text, and returns the status.
+fn report_no_text<E: Sink>(err: &mut E, argument: &[u8]) -> u8
     requires { E.failures err.old ≡ 0 }
     ensures told { Tells (sink_run E.contents E.failures E.stalled err.old err.new)
-        (unreadable_line Unreadable.NoText) }
+        (unreadable_line Unreadable.NoText argument.now) }
     ensures status { result ≡ unreadable_status Unreadable.NoText }
 {
-    let _ = write_text(err, b"error: a word of the command line is no UTF-8 text\n");
+    let _ = write_texts(
+        err,
+        &[b"error: an argument isn't UTF-8 text: ", argument, b"\n"],
+    );
     5
 }
 
-/// Writes the line that says why the arguments can't be read, and returns the status that the program ends with.
-pub(crate) fn report_unreadable<E: Sink>(err: &mut E, why: Unreadable) -> u8
+/// Writes the line that says why the arguments can't be read, and returns the status that the program ends with. `argument` is the one that isn't text.
+pub(crate) fn report_unreadable<E: Sink>(err: &mut E, why: Unreadable, argument: &[u8]) -> u8
     requires { E.failures err.old ≡ 0 }
     ensures told { Tells (sink_run E.contents E.failures E.stalled err.old err.new)
-        (unreadable_line why) }
+        (unreadable_line why argument.now) }
     ensures status { result ≡ unreadable_status why }
 {
     match why {
-        Unreadable::NoText => report_no_text(err),
+        Unreadable::NoText => report_no_text(err, argument),
         Unreadable::Memory => refuse(err, Kind::Memory),
     }
 }

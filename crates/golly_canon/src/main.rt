@@ -1,116 +1,206 @@
 //! The program `golly_canon`: its words, its files, and what it leaves to `life_cli`.
 #![tactic(auto)]
 
-ghost use Rattle.std.specs.Prelude.{◌↔◌, IsSome};
-ghost use Rattle.life_cli.specs.Plans.{HasSecond};
-
 mod arguments;
+mod counting;
+mod escaping;
+mod explaining;
+mod folders;
+mod foreign;
+mod listing;
 mod opening;
+mod outputs;
 mod progress;
+mod rereading;
+mod tasks;
+mod watching;
 
-use arguments::{Unreadable, arguments, report_unreadable};
+use arguments::{LossyArguments, Unreadable, arguments, lossy_arguments, report_unreadable};
+use clap::Error;
 use clap::error::ErrorKind;
+use escaping::push_visible;
+use folders::Found;
 use life_base::{Device, Kind};
-use life_cli::plans::{KeysPlan, Request, TaskPlan, Usage};
-use life_cli::{Seeds, open_files, refuse, report, request, work_seeded, write_keys};
-use opening::{HeldStreams, hold_closed_streams, open, open_no_folder};
-use progress::{Beside, ProgressLine};
+use life_cli::plans::{KeysPlan, Request, Usage};
+use life_cli::{refuse, report, request, status};
+use listing::{Listing, list_files};
+use opening::{HeldStreams, hold_closed_streams};
+use outputs::{Visible, is_broken_pipe};
+use std::alloc::AllocError;
+use std::io::{ErrorKind as IoErrorKind, IsTerminal, Result as IoResult, Write};
 use std::process::ExitCode;
+use tasks::do_task;
 
-/// Prints the text that `clap` has for the words, reports on them, and answers the status. Where `clap` is out of memory it has no text.
-fn report_usage(rt: &HostRuntime, usage: &Usage) -> u8 {
-    let is_printed = match usage {
-        Usage::Words(error) => match error.kind() {
-            ErrorKind::OutOfMemory => true,
-            _ => error.print(rt).is_ok(),
-        },
-        Usage::TwoInputs | Usage::Memory => true,
-    };
-    report(&mut Device::new(rt.stderr()), usage, is_printed)
+/// How the text of `clap` was printed.
+#[derive(Clone, Copy)]
+enum Printed {
+    Whole,
+    Not,
+    /// Its reader left before the end.
+    Left,
 }
 
-/// Draws the random words, opens the plan's files and does its task. Without random words nothing is read.
-fn carry_out(rt: &HostRuntime, plan: &TaskPlan) -> u8
-    requires { IsSome plan.now.second ↔ HasSecond plan.now.task }
-{
-    let mut err = Device::new(rt.stderr());
-    let Ok(seeds) = Seeds::drawn(rt) else {
-        return refuse(&mut err, Kind::ReadFault);
+/// Prints the text of an error of `clap`. Where a terminal shows what is wrong, control characters of arguments are escaped.
+fn print_error(rt: &HostRuntime, error: &Error) -> IoResult<()> {
+    let stream = rt.stderr();
+    if !error.use_stderr() || !stream.is_terminal() {
+        return error.print(rt);
+    }
+    let text = format!(in rt.alloc(); "{error}")?;
+    let mut terminal = Visible {
+        stream,
+        is_terminal: true,
     };
-    match open_files(plan, |origin| open(rt, origin)) {
-        Ok(files) => {
-            let (mut first, mut second) = files;
-            let mut out = Device::new(rt.stdout());
-            work_seeded(
-                rt.alloc(),
-                &seeds,
-                &plan.task,
-                &mut first,
-                &mut second,
-                &mut out,
-                &mut err,
-            )
-        }
-        Err(kind) => refuse(&mut err, kind),
+    terminal.write_all(text.as_bytes())
+}
+
+/// Prints the text that `clap` has for the words, if it has one: it has none where it is out of memory.
+fn print(rt: &HostRuntime, usage: &Usage) -> Printed {
+    let Usage::Words(error) = usage else {
+        return Printed::Whole;
+    };
+    if matches!(error.kind(), ErrorKind::OutOfMemory) {
+        return Printed::Whole;
+    }
+    let printed = print_error(rt, error);
+    if is_broken_pipe(&printed) && !error.use_stderr() {
+        Printed::Left
+    } else if printed.is_ok() {
+        Printed::Whole
+    } else {
+        Printed::Not
     }
 }
 
-/// Writes the keys of the plan's files, and between their lines how far that is.
-fn write_keys_beside(
-    rt: &HostRuntime,
-    held: &HeldStreams,
-    seeds: &Seeds,
-    plan: &KeysPlan<'_>,
-    progress: &ProgressLine,
-) -> u8 {
-    let mut out = Device::new(Beside {
-        stream: rt.stdout(),
-        progress,
-        clears: progress.is_shared,
-    });
-    let mut err = Device::new(Beside {
-        stream: rt.stderr(),
-        progress,
-        clears: true,
-    });
-    write_keys(
-        rt.alloc(),
-        seeds,
-        plan,
-        |origin| {
-            progress.advance(rt);
-            let opened = open_no_folder(rt, held, origin)?;
-            Ok(Device::new(opened.input).expecting(opened.bytes))
-        },
-        &mut out,
-        &mut err,
-    )
+/// Whether the command is one over any number of files.
+fn names_many_files(words: &[String]) -> bool {
+    words
+        .get(1)
+        .is_some_and(|word| matches!(word.as_str(), "keys" | "duplicates"))
 }
 
-/// Draws the random words, and writes the keys of the plan's files. Without random words nothing is read.
-fn carry_out_keys(rt: &HostRuntime, held: &HeldStreams, plan: &KeysPlan<'_>) -> u8 {
-    let Ok(seeds) = Seeds::drawn(rt) else {
-        return refuse(&mut Device::new(rt.stderr()), Kind::ReadFault);
+/// Says in a sentence that standard input is named twice, on a terminal or where the words ask for it.
+fn explain_two_inputs(rt: &HostRuntime, words: &[String]) {
+    let is_asked = words.iter().any(|word| word.as_str() == "--explain");
+    if !is_asked && !rt.stderr().is_terminal() {
+        return;
+    }
+    let sentence: &[u8] = if names_many_files(words) {
+        b"Only one of the files, or the list of them, may be -, standard input.\n"
+    } else {
+        b"Only one of the two files may be -, standard input.\n"
     };
-    let progress = ProgressLine::new(rt, plan);
-    let status = write_keys_beside(rt, held, &seeds, plan, &progress);
-    progress.clear();
+    let _ = rt.stderr().write_all(sentence);
+}
+
+/// Prints the text that `clap` has for the words, reports on them, and returns the status.
+fn report_usage(rt: &HostRuntime, usage: &Usage, words: &[String]) -> u8 {
+    let mut err = Device::new(rt.stderr());
+    let status = match print(rt, usage) {
+        Printed::Whole => report(&mut err, usage, true),
+        Printed::Not => report(&mut err, usage, false),
+        Printed::Left => status(Kind::WriteFault),
+    };
+    if matches!(usage, Usage::TwoInputs) {
+        explain_two_inputs(rt, words);
+    }
     status
 }
 
+/// Does what the words ask for.
 fn run(rt: &HostRuntime, held: &HeldStreams, words: &[String]) -> u8 {
     match request(rt.alloc(), words) {
-        Ok(Request::Work(plan)) => carry_out(rt, &plan),
-        Ok(Request::Keys(plan)) => carry_out_keys(rt, held, &plan),
-        Err(usage) => report_usage(rt, &usage),
+        Ok(Request::Work(plan)) => do_task(rt, held, &plan),
+        Ok(Request::Keys(plan)) => list_files(rt, held, Found::new(rt), &plan, Listing::Keys),
+        Ok(Request::Duplicates(plan)) => {
+            list_files(rt, held, Found::new(rt), &plan, Listing::Duplicates)
+        }
+        Err(usage) => report_usage(rt, &usage, words),
+    }
+}
+
+/// Whether so many files of the plan are known not to be opened.
+fn are_files(plan: &KeysPlan<'_>, found: &Found, count: usize) -> bool {
+    plan.files
+        .iter()
+        .filter(|file| found.why(file).is_some())
+        .count()
+        == count
+}
+
+/// Notes that no file has a name that isn't UTF-8 text.
+fn note_damaged(rt: &HostRuntime, damaged: &[String], found: &mut Found) -> Result<(), AllocError> {
+    for word in damaged {
+        let name = String::from_str(rt.alloc(), word.as_str())?;
+        found.note(name, IoErrorKind::InvalidFilename)?;
+    }
+    Ok(())
+}
+
+/// Writes the line that says that an argument isn't UTF-8 text, and returns the status.
+fn refuse_words(rt: &HostRuntime, damaged: &[String]) -> Result<u8, AllocError> {
+    let mut shown = String::new(rt.alloc());
+    if let Some(word) = damaged.first() {
+        push_visible(&mut shown, word.as_bytes())?;
+    }
+    let mut err = Device::new(rt.stderr());
+    Ok(report_unreadable(&mut err, Unreadable::NoText, shown.as_bytes()))
+}
+
+/// Writes what is wanted of the plan's files if all arguments that aren't UTF-8 text are names of its files.
+fn list_lossy(
+    rt: &HostRuntime,
+    held: &HeldStreams,
+    damaged: &[String],
+    plan: &KeysPlan<'_>,
+    listing: Listing,
+) -> Result<u8, AllocError> {
+    let mut found = Found::new(rt);
+    note_damaged(rt, damaged, &mut found)?;
+    if !are_files(plan, &found, damaged.len()) {
+        return refuse_words(rt, damaged);
+    }
+    Ok(list_files(rt, held, found, plan, listing))
+}
+
+/// Does what the arguments ask for if those that aren't UTF-8 text are only names of files of a command over any number of files. There is no such file.
+fn run_lossy(
+    rt: &HostRuntime,
+    held: &HeldStreams,
+    arguments: &LossyArguments,
+) -> Result<u8, AllocError> {
+    let damaged = arguments.damaged.as_slice();
+    match request(rt.alloc(), arguments.words.as_slice()) {
+        Ok(Request::Work(_plan)) => refuse_words(rt, damaged),
+        Ok(Request::Keys(plan)) => list_lossy(rt, held, damaged, &plan, Listing::Keys),
+        Ok(Request::Duplicates(plan)) => list_lossy(rt, held, damaged, &plan, Listing::Duplicates),
+        Err(usage) => Ok(report_usage(rt, &usage, arguments.words.as_slice())),
+    }
+}
+
+/// Reads the arguments again, and does what they ask for.
+fn reread(rt: &HostRuntime, held: &HeldStreams) -> Result<u8, AllocError> {
+    let arguments = lossy_arguments(rt)?;
+    run_lossy(rt, held, &arguments)
+}
+
+/// Does what arguments ask for of which one can't be read.
+fn run_unreadable(rt: &HostRuntime, held: &HeldStreams, why: Unreadable) -> u8 {
+    let done = match why {
+        Unreadable::NoText => reread(rt, held),
+        Unreadable::Memory => Err(AllocError),
+    };
+    match done {
+        Ok(status) => status,
+        Err(_) => report_unreadable(&mut Device::new(rt.stderr()), Unreadable::Memory, b""),
     }
 }
 
 fn main(rt: HostRuntime) -> ExitCode {
     let held = hold_closed_streams(&rt);
     let status = match arguments(&rt) {
-        Ok(words) => run(&rt, &held, &words),
-        Err(error) => report_unreadable(&mut Device::new(rt.stderr()), Unreadable::from(error)),
+        Ok(words) => run(&rt, &held, words.as_slice()),
+        Err(error) => run_unreadable(&rt, &held, Unreadable::from(error)),
     };
     ExitCode::from(status)
 }

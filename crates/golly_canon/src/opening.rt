@@ -58,7 +58,7 @@ pub(crate) fn open(rt: &HostRuntime, origin: Origin<'_>) -> Result<Opened<Input>
     Ok(Opened { input, bytes })
 }
 
-/// What the system tells of an input.
+/// What the system says of an input.
 fn metadata(rt: &HostRuntime, input: &Input) -> Result<Metadata> {
     match input {
         Input::File(file) => file.metadata(),
@@ -66,12 +66,12 @@ fn metadata(rt: &HostRuntime, input: &Input) -> Result<Metadata> {
     }
 }
 
-/// About how many bytes an input has, where the system tells it: of a file its length, of what is no file 0.
+/// About how many bytes an input has, if the system says so: the length of a file, and 0 for anything else.
 fn length(rt: &HostRuntime, input: &Input) -> u64 {
     metadata(rt, input).map_or(0, |metadata| metadata.len())
 }
 
-/// Whether an input is a folder, of which nothing can be read, where the system tells it.
+/// Whether an input is a folder, which can't be read, if the system says so.
 fn is_folder(rt: &HostRuntime, input: &Input) -> bool {
     metadata(rt, input).is_ok_and(|metadata| metadata.is_dir())
 }

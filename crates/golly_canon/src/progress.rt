@@ -21,14 +21,6 @@ fn is_due(now: u128, next: u128) -> bool
     now >= next
 }
 
-/// How many files are to come, which isn't known of a list.
-fn total(plan: &KeysPlan<'_>) -> Option<usize> {
-    match plan.from {
-        Some(_) => None,
-        None => Some(plan.files.len()),
-    }
-}
-
 /// The line on standard error. Where that is no terminal, nothing is written and no clock is read.
 #[derive(Drop)]
 pub(crate) struct ProgressLine {
@@ -37,12 +29,15 @@ pub(crate) struct ProgressLine {
     begin: Option<Instant>,
     /// Whether standard output is a terminal too.
     pub is_shared: bool,
-    total: Option<usize>,
+    // How many files the plan names, without those of a list.
+    named: usize,
+    // Whether the plan names a list.
+    has_list: bool,
     // How often a file was opened, or the list, which is the first.
     opened: Cell<u64>,
     // At which millisecond the line may be shown next.
     next_time: Cell<u128>,
-    // Whether the line stands there.
+    // Whether the line is shown.
     stands: Cell<bool>,
 }
 
@@ -59,15 +54,17 @@ impl ProgressLine {
                 None
             },
             is_shared: is_shown && rt.stdout().is_terminal(),
-            total: total(plan),
+            named: plan.files.len(),
+            has_list: plan.from.is_some(),
             opened: Cell::new(0),
             next_time: Cell::new(FIRST),
             stands: Cell::new(false),
         }
     }
 
-    /// Counts a file that is now opened, or the list, and shows how many files came before it, where that is due.
-    pub(crate) fn advance(&self, rt: &HostRuntime) {
+    /// Counts a file that is now opened, or the list, and shows how many files came before it, where that is due. `listed` is how many files the list
+    /// names.
+    pub(crate) fn advance(&self, rt: &HostRuntime, listed: usize) {
         let done = self.opened.get();
         self.opened.set(done.saturating_add(1));
         let Some(begin) = self.begin else {
@@ -80,20 +77,19 @@ impl ProgressLine {
         if is_due(now, self.next_time.get()) {
             self.next_time.set(now.saturating_add(PAUSE));
             self.stands.set(true);
-            let _ = self.write(rt, done);
+            let _ = self.write(rt, done, listed);
         }
     }
 
-    fn write(&self, rt: &HostRuntime, done: u64) -> Result<()> {
-        let text = match self.total {
-            Some(total) => format!(in rt.alloc(); "\r{done} of {total} files")?,
-            None => format!(in rt.alloc(); "\r{} files", done.saturating_sub(1))?,
-        };
+    fn write(&self, rt: &HostRuntime, opened: u64, listed: usize) -> Result<()> {
+        let done = opened.saturating_sub(u64::from(self.has_list));
+        let total = self.named.saturating_add(listed);
+        let text = format!(in rt.alloc(); "\r{done} of {total} files")?;
         let mut terminal = self.terminal;
         terminal.write_all(text.as_bytes())
     }
 
-    /// Clears the line, if it stands.
+    /// Clears the line, if it is shown.
     pub(crate) fn clear(&self) {
         if self.stands.get() {
             self.stands.set(false);

@@ -10,18 +10,18 @@ use Rattle.clap.specs.Kinds.{Kinds, or_else, range_kinds, check_kinds}
 use Rattle.clap.specs.Simple.{App, Shape, argument_words, built, built_leaf, entered, inherited, label_of, marked_built, names_of, on_top, rows_at, subcommand_of, with_leaf_noted}
 use Rattle.clap.specs.Takes.{is_given}
 use Rattle.clap.specs.Faults.{use_fault, action_fault, settle_fault, react_fault, option_fault, long_fault, short_fault, bundle_step_fault, flags_fault, bundle_fault, flag_word_fault, other_fault, word_fault, positional_fault, step_fault, stray_fault, turn_fault, walk_fault, level_fault, entered_fault, defaults_fault, check_fault, fault_of}
-use Rattle.clap.specs.Walk.{Held, Names, Outcome, Row, Rule, Step, Text, Waiting, Walk, action_of, arg_by_id, arg_by_index, arg_by_long, arg_by_short, at_row, attached_value, more_values, option_met, option_word, plain_word, after_flag, long_met, flag_met, short_met, bundle_step, bundle_met, bundle, long_or_other, short_or_plain, subcommand_met, subcommand_or_other, word_met, is_pending, takes_several, takes_values, positional_held, to_positional, after_step, walked_from, walked, walk, walk_from, with_default, has_row, default_rows, finished, nothing_held, rows_after, reacted, settled, settled_rows, used, used_as, used_by_id, reading_by, values_or_missing, most_values, first_of, answers_to, without}
+use Rattle.clap.specs.Walk.{Held, Names, Outcome, Row, Rule, Step, Text, Waiting, Walk, action_of, arg_by_id, arg_by_index, arg_by_long, arg_by_short, at_row, attached_value, more_values, option_met, option_word, plain_word, after_flag, long_met, flag_met, short_met, bundle_step, bundle_met, bundle, long_or_other, short_or_plain, subcommand_met, subcommand_or_other, word_met, is_pending, takes_several, takes_values, positional_held, to_positional, after_step, walked_from, walked, walk, walk_from, with_default, has_row, default_rows, finished, nothing_held, rows_after, reacted, settled, settled_rows, used, used_as, used_by_id, reading_by, values_or_missing, most_values, first_of, answers_to, with_values, without}
 use Rattle.clap.specs.Walk.{done, waits, plain, refused, idle, option, positional, next, trailing, subcommand, value}
 use Rattle.clap.specs.declared.builder.action.ArgAction.{ArgAction}
-use Rattle.clap.specs.declared.builder.action.ArgAction.TheVariants.{Set, Help}
+use Rattle.clap.specs.declared.builder.action.ArgAction.TheVariants.{Set, SetTrue, Help}
 use Rattle.clap.specs.declared.error.kind.ErrorKind.{ErrorKind}
 use Rattle.clap.specs.declared.error.kind.ErrorKind.TheVariants.{TooManyValues}
-use Rattle.clap.specs.declared.parser.matches.ValueSource.TheVariants.{CommandLine}
+use Rattle.clap.specs.declared.parser.matches.ValueSource.TheVariants.{CommandLine, DefaultValue}
 use Rattle.life_cli.specs.Plans.{AreWhole}
 use Rattle.life_cli.specs.declared.plans.Task.TheVariants.{Canon, Convert, Same, Show, Step as StepTask}
 use Rattle.life_cli.specs.declared.plans.Form.TheVariants.{Placed}
 use Rattle.life_cli.specs.declared.plans.Target.TheVariants.{Rle}
-use Rattle.life_cli.specs.CommandLine.{program, one_file_line, canon_line, convert_line, same_line, step_line, keys_line}
+use Rattle.life_cli.specs.CommandLine.{program, canon_line, convert_line, same_line, show_line, step_line, files_line}
 use Rattle.std.proofs.lemmas.Slice.Eq.{bytes_eq-Decides}
 
 -- no fault in two steps is none in either
@@ -73,9 +73,10 @@ given_first id (r ∷ rs) all given = go (bytes_eq r.id id) (given_first id rs a
 
 -- ---- one use of an argument
 
--- the argument takes a value or asks for help, and has no default
+-- the argument takes a value, is a flag, or asks for help
 abbrev IsPlain : Rule → Type 0
-IsPlain a = (a.defaults ≡ []) × (((action_of a ≡ Set) × (0 < (unwrap_or_range a.range).start_inclusive)) ⊎ (action_of a ≡ Help))
+IsPlain a = ((action_of a ≡ Set) × (0 < (unwrap_or_range a.range).start_inclusive)) ⊎ (((action_of a ≡ SetTrue) × (0 < length a.missing))
+    ⊎ (action_of a ≡ Help))
 
 abbrev ArePlain : List Rule → Type 0
 ArePlain [] = Unit {0}
@@ -102,19 +103,30 @@ values_there : (a : Rule) (values : List Text) → 0 < length values → 0 < len
 values_there a [] lt = absurd (omega arith)
 values_there a (v ∷ vs) lt = lt
 
+missing_there : (a : Rule) (values : List Text) → 0 < length a.missing → 0 < length (values_or_missing a values)
+missing_there a [] lt = lt
+missing_there a (v ∷ vs) lt = omega arith
+
+set_filled : (a : Rule) (values : List Text) (rows : List Row) → 0 < length values → Filled rows
+    → Filled (with_values a.id (reading_by a) CommandLine values (without a.id rows))
+set_filled a values rows lt all =
+    filled_at a.id (more_values CommandLine values) _ (without a.id rows) (λ r there. (longer r.values values there, tt)) (lt, tt)
+    (filled_at a.id (λ _. []) [] rows (λ r there. tt) tt all)
+
 used_filled : (again : Bool) (a : Rule) (values : List Text) (rows : List Row) → IsPlain a → use_fault again a values rows ≡ [] → Filled rows
     → Filled (used a values rows)
 used_filled again a values rows is_plain none all =
     let parts = both_none (range_kinds (unwrap_or_range a.range).start_inclusive (most_values a) (length values))
     (action_fault (action_of a) again a (values_or_missing a values) rows) none in
-    elim is_plain.1 [
+    elim is_plain [
       | inl set ↦
           let lt = values_there a values (some_values _ _ _ set.1 parts.0) in
           subst (λ (x : ArgAction). Filled (used_as x a.id (reading_by a) (values_or_missing a values) rows)) (sym set.0)
-          (filled_at a.id (more_values CommandLine (values_or_missing a values)) _ (without a.id rows)
-          (λ r there. (longer r.values (values_or_missing a values) there, tt)) (lt, tt)
-          (filled_at a.id (λ _. []) [] rows (λ r there. tt) tt all))
-      | inr help ↦
+          (set_filled a (values_or_missing a values) rows lt all)
+      | inr (inl flag) ↦
+          subst (λ (x : ArgAction). Filled (used_as x a.id (reading_by a) (values_or_missing a values) rows)) (sym flag.0)
+          (set_filled a (values_or_missing a values) rows (missing_there a values flag.1) all)
+      | inr (inr help) ↦
           let bad = subst (λ (x : ArgAction). action_fault x again a (values_or_missing a values) rows ≡ []) help parts.1 in
           absurd (some_kind _ _ bad)
     ]
@@ -379,16 +391,17 @@ module _ (s : Shape) (names : Names) (words : List Text) (has : Bool) (below : K
       let fourth = both_none (defaults_fault (settled s.rules end).rows s.rules) _ third.1 in
       record { walk_passes = first.0; entered_passes = second.0; settled_passes = third.0; passes = fourth.1 }
 
--- arguments without defaults leave the rows as they are
-defaults_filled : (c : List Rule) (rows : List Row) → ArePlain c → Filled rows → Filled (fold with_default rows c)
-defaults_filled [] rows all there = there
-defaults_filled (a ∷ rest) rows all there =
-    defaults_filled rest (with_default rows a) all.1 (go (has_row a.id rows) a.defaults all.0.0)
+-- defaults leave each row with a value
+defaults_filled : (c : List Rule) (rows : List Row) → Filled rows → Filled (fold with_default rows c)
+defaults_filled [] rows there = there
+defaults_filled (a ∷ rest) rows there =
+    defaults_filled rest (with_default rows a) (go (has_row a.id rows) a.defaults)
   where
-    go : (b : Bool) (values : List Text) → values ≡ [] → Filled (cond b rows (default_rows a.id (reading_by a) values rows))
-    go true values none = there
-    go false [] none = there
-    go false (v ∷ vs) none = absurd cc
+    go : (b : Bool) (values : List Text) → Filled (cond b rows (default_rows a.id (reading_by a) values rows))
+    go true values = there
+    go false [] = there
+    go false (v ∷ vs) =
+        filled_at a.id (more_values DefaultValue (v ∷ vs)) _ rows (λ r there. (longer r.values (v ∷ vs) there, tt)) (omega arith, tt) there
 
 leaf_filled : (s : Shape) (words : List Text) → ArePlain s.rules → level_fault s [] nothing_held words false [] ≡ []
     → Filled (rows_after s.rules [] words) × (check_fault s (rows_after s.rules [] words) false ≡ [])
@@ -396,7 +409,7 @@ leaf_filled s words all none =
     let level = level_passes s [] words false [] none in
     let end = (walk s.rules [] nothing_held words).held in
     let held = walk_filled s [] all words (walk_from nothing_held) level.walk_passes tt in
-    (defaults_filled s.rules (settled s.rules end).rows all (settled_filled s.rules s.args_override_self all end level.settled_passes held), level.passes)
+    (defaults_filled s.rules (settled s.rules end).rows (settled_filled s.rules s.args_override_self all end level.settled_passes held), level.passes)
 
 -- ---- the commands
 
@@ -436,32 +449,36 @@ IsWholeAt words s = level_fault s [] nothing_held words false [] ≡ [] → AreW
 
 canon_whole : (words : List Text) → IsWholeAt words (leaf canon_line)
 canon_whole words none =
-    let all : ArePlain (leaf canon_line).rules = ((refl, inl (refl, omega arith)), ((refl, inl (refl, omega arith)), ((refl, inr refl), tt))) in
+    let all : ArePlain (leaf canon_line).rules = (inl (refl, omega arith), (inl (refl, omega arith), (inr (inl (refl, omega arith)), (inr (inr refl), tt)))) in
     inl (Canon Placed, refl, one_there words (leaf canon_line) all none _ (codes "FILE") refl)
 
-show_whole : (words : List Text) → IsWholeAt words (leaf (one_file_line (codes "show")))
+show_whole : (words : List Text) → IsWholeAt words (leaf show_line)
 show_whole words none =
-    let all : ArePlain (leaf (one_file_line (codes "show"))).rules = ((refl, inl (refl, omega arith)), ((refl, inr refl), tt)) in
-    inl (Show, refl, one_there words (leaf (one_file_line (codes "show"))) all none _ (codes "FILE") refl)
+    let all : ArePlain (leaf show_line).rules = (inl (refl, omega arith), (inr (inl (refl, omega arith)), (inr (inr refl), tt))) in
+    inl (Show, refl, one_there words (leaf show_line) all none _ (codes "FILE") refl)
 
 step_whole : (words : List Text) → IsWholeAt words (leaf step_line)
 step_whole words none =
-    let all : ArePlain (leaf step_line).rules = ((refl, inl (refl, omega arith)), ((refl, inl (refl, omega arith)), ((refl, inr refl), tt))) in
+    let all : ArePlain (leaf step_line).rules = (inl (refl, omega arith), (inl (refl, omega arith), (inr (inl (refl, omega arith)), (inr (inr refl), tt)))) in
     inl (StepTask, refl, one_there words (leaf step_line) all none _ (codes "FILE") refl)
 
 convert_whole : (words : List Text) → IsWholeAt words (leaf convert_line)
 convert_whole words none =
-    let all : ArePlain (leaf convert_line).rules = ((refl, inl (refl, omega arith)), ((refl, inl (refl, omega arith)), ((refl, inr refl), tt))) in
+    let all : ArePlain (leaf convert_line).rules =
+    (inl (refl, omega arith), (inl (refl, omega arith), (inr (inl (refl, omega arith)), (inr (inr refl), tt)))) in
     inl (Convert Rle, refl, two_there words (leaf convert_line) all none _ (codes "FILE") (codes "to") refl)
 
 same_whole : (words : List Text) → IsWholeAt words (leaf same_line)
 same_whole words none =
     let all : ArePlain (leaf same_line).rules =
-    ((refl, inl (refl, omega arith)), ((refl, inl (refl, omega arith)), ((refl, inl (refl, omega arith)), ((refl, inr refl), tt)))) in
+    (inl (refl, omega arith), (inl (refl, omega arith), (inl (refl, omega arith), (inr (inl (refl, omega arith)), (inr (inr refl), tt))))) in
     inl (Same Placed, refl, two_there words (leaf same_line) all none _ (codes "A") (codes "B") refl)
 
-keys_whole : (words : List Text) → IsWholeAt words (leaf keys_line)
-keys_whole words none = inr refl
+keys_whole : (words : List Text) → IsWholeAt words (leaf (files_line (codes "keys")))
+keys_whole words none = inr (inl refl)
+
+duplicates_whole : (words : List Text) → IsWholeAt words (leaf (files_line (codes "duplicates")))
+duplicates_whole words none = inr (inr refl)
 
 -- ---- the program
 
@@ -506,7 +523,7 @@ subs_whole name words other = (
         (λ is. show_whole words),
         (
           (λ is. step_whole words),
-          ((λ is. keys_whole words), ((λ is. absurd (is_help name other is)), tt)),
+          ((λ is. keys_whole words), ((λ is. duplicates_whole words), ((λ is. absurd (is_help name other is)), tt))),
         ),
       ),
     ),

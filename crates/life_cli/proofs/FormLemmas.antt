@@ -1,27 +1,30 @@
 -- From patterns in a store that are taken in a form to their files.
-use Rattle.std.proofs.Common.{◌≡◌, ◌↔◌, ◌∙◌, ℕ, ◌^◌, ◌<◌, ◌≤◌, ◌⊎◌, inl, inr, ap, sym, subst, arith, List, Bool, Result, Ok, Err, IfOk, IfErr, OnOk, IsTrue}
+use Rattle.std.proofs.Common.{◌≡◌, ◌≢◌, ◌↔◌, ◌∙◌, ℕ, ◌^◌, ◌<◌, ◌≤◌, ◌⊎◌, inl, inr, ap, sym, subst, arith, AllPairs, Bool, Contains, false, List, Result, Ok, Err, IfOk, IfErr, OnOk, IsTrue}
 use Rattle.life_base.specs.Refusal.{fault_of}
 use Rattle.life_base.specs.Rules.{IsRule}
 use Rattle.life_base.specs.Text.{lines_of}
-use Rattle.life_base.specs.Tree.{depth, tree_cell, IsFull}
+use Rattle.life_base.specs.Tree.{Tree, depth, is_blank_tree, tree_cell, IsFull}
 use Rattle.life_base.specs.declared.cell.TheConstants.{MAX_LEVEL}
 use Rattle.life_base.specs.declared.fault.Fault.{Fault}
 use Rattle.life_base.specs.declared.kind.Kind.TheVariants.{Full, Memory, TooManyCells}
 use Rattle.life_base.specs.declared.rule.Rule.{Rule}
 use Rattle.life_base.specs.declared.rule.Rule.TheVariants.{Life, Named}
 use Rattle.life_quad.specs.Cells.{IsCellList, population}
-use Rattle.life_quad.specs.Store.{Nodes}
+use Rattle.life_quad.specs.Store.{Nodes, held}
 use Rattle.life_quad.proofs.LawLemmas.{cells_are_listed, list_is_population, known_squares_are_full}
 use Rattle.life_canon.specs.Laws.{FilesAreUnique, FilesAreOnPlane, PatternsFit}
 use Rattle.life_canon.specs.Listing.{canon_text}
+use Rattle.life_canon.specs.Needs.{IsNew}
+use Rattle.life_canon.specs.Room.{IsOfFile}
 use Rattle.life_canon.specs.Store.{IsRead, IsWant, content, universe_in}
 use Rattle.life_canon.specs.Texts.{AreCellsOf, HasMoreCells, IsCanonical}
 use Rattle.life_canon.specs.Universe.{Universe, IsSame, least_level}
 use Rattle.life_canon.specs.declared.pattern.Pattern.{Pattern}
-use Rattle.life_forms.specs.Needed.{LacksForMoved}
+use Rattle.life_forms.specs.Needed.{AddsEitherMoved, AddsMoved, LacksForMoved, SomeOfMovedForm}
 use Rattle.life_cli.specs.Forms.{AreOfOneGeneration, HasTooMany, SaysText, SayRelated}
-use Rattle.life_cli.specs.Jobs.{RefusesInForm, RefusesSame, LacksToMove}
+use Rattle.life_cli.specs.Jobs.{HoldsOneFile, HoldsTwoFiles, IsOfEither, RefusesInForm, RefusesSame, SomeToMove}
 use Rattle.life_cli.specs.declared.plans.Form.TheVariants.{Moved, Turned}
+use Rattle.life_cli.proofs.WorkLemmas.{holds_more}
 
 -- patterns with one rule, one generation and the same cells are one
 one_universe : (u v : Universe) → IsSame u v → u ≡ v
@@ -90,26 +93,41 @@ module _ (fit : PatternsFit MAX_LEVEL) (store : Nodes) (pattern : Pattern) where
       }
   said_text unique is_text items (Err fault) h few = tt
 
-  lacks : (bytes : List ℕ) (new : Nodes) → IsRead MAX_LEVEL bytes store pattern → LacksForMoved (universe_in store pattern) new → LacksToMove bytes new
-  lacks bytes new read h =
-      (read.universe, read.reads, subst (λ (u : Universe). LacksForMoved u new) (sym (said bytes read)) h)
+  -- what is needed to move the pattern is needed to move that of its file
+  to_move : (bytes : List ℕ) → IsRead MAX_LEVEL bytes store pattern → (P : Tree → Type 0) → SomeOfMovedForm P (universe_in store pattern)
+      → SomeToMove bytes P
+  to_move bytes read P some = (read.universe, read.reads, subst (λ (u : Universe). SomeOfMovedForm P u) (sym (said bytes read)) some)
 
   -- why there is none
-  pub unmoved : {X : Type 0} (new : Nodes) (r : Result X Fault) → new.limit ≡ 2 ^ 31
+  pub unmoved : {X : Type 0} (new : Nodes) (r : Result X Fault) → new.limit ≡ 2 ^ 31 → AllPairs ◌≢◌ (held new)
+      → ((t : Tree) → Contains (held new) t → is_blank_tree t ≡ false) → AddsMoved (universe_in store pattern) store new
       → IfErr r (λ fault. ((fault ≡ fault_of TooManyCells) × (2 ^ 20 < population (content store pattern.root))) ⊎ IsWant new fault)
       → (r ≡ Err (fault_of Full) → LacksForMoved (universe_in store pattern) new)
-      → IfErr r (λ fault. (fault ≡ fault_of Memory) ⊎ ((bytes : List ℕ) → IsRead MAX_LEVEL bytes store pattern → RefusesInForm Moved bytes fault))
-  unmoved new (Ok x) limit h needed = tt
-  unmoved new (Err fault) limit (inl many) needed = inr (λ bytes read. inl (inr (many.0, more_cells bytes read many.1)))
-  unmoved new (Err fault) limit (inr want) needed =
-      inr (λ bytes read. inr (new, limit, want, λ full. lacks bytes new read (needed (ap (λ (f : Fault). Err f) full))))
+      → IfErr r (λ fault. (fault ≡ fault_of Memory)
+      ⊎ ((bytes : List ℕ) → IsRead MAX_LEVEL bytes store pattern → HoldsOneFile bytes store → RefusesInForm Moved bytes fault))
+  unmoved new (Ok x) limit distinct not_blank adds h needed = tt
+  unmoved new (Err fault) limit distinct not_blank adds (inl many) needed =
+      inr (λ bytes read only. inl (inr (many.0, more_cells bytes read many.1)))
+  unmoved new (Err fault) limit distinct not_blank adds (inr want) needed =
+      inr (λ bytes read only. inr (
+        new,
+        limit,
+        want,
+        λ full. record {
+          distinct = distinct;
+          not_blank = not_blank;
+          needed = holds_more (IsOfFile bytes) (λ P. SomeOfMovedForm P (universe_in store pattern)) (SomeToMove bytes) store new only (to_move bytes read) adds;
+          lacks = to_move bytes read (IsNew new) (needed (ap (λ (f : Fault). Err f) full));
+        },
+      ))
 
   pub unturned : {X : Type 0} (r : Result X Fault)
       → IfErr r (λ fault. (fault ≡ fault_of Memory) ⊎ ((fault ≡ fault_of TooManyCells) × (2 ^ 20 < population (content store pattern.root))))
-      → IfErr r (λ fault. (fault ≡ fault_of Memory) ⊎ ((bytes : List ℕ) → IsRead MAX_LEVEL bytes store pattern → RefusesInForm Turned bytes fault))
+      → IfErr r (λ fault. (fault ≡ fault_of Memory)
+      ⊎ ((bytes : List ℕ) → IsRead MAX_LEVEL bytes store pattern → HoldsOneFile bytes store → RefusesInForm Turned bytes fault))
   unturned (Ok x) h = tt
   unturned (Err fault) (inl memory) = inl memory
-  unturned (Err fault) (inr many) = inr (λ bytes read. inr (many.0, more_cells bytes read many.1))
+  unturned (Err fault) (inr many) = inr (λ bytes read only. inr (many.0, more_cells bytes read many.1))
 
 -- what two patterns are to each other, their files are
 module _ (fit : PatternsFit MAX_LEVEL) (unique : FilesAreUnique MAX_LEVEL) (store : Nodes) (p q : Pattern) where
@@ -176,31 +194,44 @@ module _ (fit : PatternsFit MAX_LEVEL) (unique : FilesAreUnique MAX_LEVEL) (stor
   few_turned (Ok answer) few = λ first second a b more. none_more first second a b (few (one_generation first second a b more.0)) more.1
   few_turned (Err fault) few = tt
 
-  pub unshifted : (new : Nodes) (r : Result Bool Fault) → new.limit ≡ 2 ^ 31
+  pub unshifted : (new : Nodes) (r : Result Bool Fault) → new.limit ≡ 2 ^ 31 → AllPairs ◌≢◌ (held new)
+      → ((t : Tree) → Contains (held new) t → is_blank_tree t ≡ false) → AddsEitherMoved (universe_in store p) (universe_in store q) store new
       → IfErr r (λ fault. ((fault ≡ fault_of TooManyCells)
       × ((2 ^ 20 < population (content store p.root)) ⊎ (2 ^ 20 < population (content store q.root)))) ⊎ IsWant new fault)
       → (r ≡ Err (fault_of Full) → LacksForMoved (universe_in store p) new ⊎ LacksForMoved (universe_in store q) new)
       → IfErr r (λ fault. (fault ≡ fault_of Memory) ⊎ ((first second : List ℕ) → IsRead MAX_LEVEL first store p → IsRead MAX_LEVEL second store q
-      → RefusesSame Moved first second fault))
-  unshifted new (Ok answer) limit h needed = tt
-  unshifted new (Err fault) limit (inl more) needed = inr (λ first second a b. inl (more.0, many first second a b more.1))
-  unshifted new (Err fault) limit (inr want) needed =
-      inr (λ first second a b. inr (new, limit, want, λ full. either first second a b (needed (ap (λ (f : Fault). Err f) full))))
+      → HoldsTwoFiles first second store → RefusesSame Moved first second fault))
+  unshifted new (Ok answer) limit distinct not_blank adds h needed = tt
+  unshifted new (Err fault) limit distinct not_blank adds (inl more) needed =
+      inr (λ first second a b only. inl (more.0, many first second a b more.1))
+  unshifted new (Err fault) limit distinct not_blank adds (inr want) needed =
+      inr (λ first second a b only. inr (
+        new,
+        limit,
+        want,
+        λ full. record {
+          distinct = distinct;
+          not_blank = not_blank;
+          needed = holds_more (IsOfEither first second) (λ P. SomeOfMovedForm P (universe_in store p) ⊎ SomeOfMovedForm P (universe_in store q))
+              (λ P. SomeToMove first P ⊎ SomeToMove second P) store new only (either first second a b) adds;
+          lacks = either first second a b (IsNew new) (needed (ap (λ (f : Fault). Err f) full));
+        },
+      ))
     where
-      either : (first second : List ℕ) → IsRead MAX_LEVEL first store p → IsRead MAX_LEVEL second store q
-          → LacksForMoved (universe_in store p) new ⊎ LacksForMoved (universe_in store q) new → LacksToMove first new ⊎ LacksToMove second new
-      either first second a b (inl l) = inl (lacks fit store p first new a l)
-      either first second a b (inr l) = inr (lacks fit store q second new b l)
+      either : (first second : List ℕ) → IsRead MAX_LEVEL first store p → IsRead MAX_LEVEL second store q → (P : Tree → Type 0)
+          → SomeOfMovedForm P (universe_in store p) ⊎ SomeOfMovedForm P (universe_in store q) → SomeToMove first P ⊎ SomeToMove second P
+      either first second a b P (inl some) = inl (to_move fit store p first a P some)
+      either first second a b P (inr some) = inr (to_move fit store q second b P some)
 
   pub unturned_two : (r : Result Bool Fault)
       → IfErr r (λ fault. (fault ≡ fault_of Memory) ⊎ ((fault ≡ fault_of TooManyCells) × (p.generation ≡ q.generation)
       × ((2 ^ 20 < population (content store p.root)) ⊎ (2 ^ 20 < population (content store q.root)))))
       → IfErr r (λ fault. (fault ≡ fault_of Memory) ⊎ ((first second : List ℕ) → IsRead MAX_LEVEL first store p → IsRead MAX_LEVEL second store q
-      → RefusesSame Turned first second fault))
+      → HoldsTwoFiles first second store → RefusesSame Turned first second fault))
   unturned_two (Ok answer) h = tt
   unturned_two (Err fault) (inl memory) = inl memory
   unturned_two (Err fault) (inr more) =
-      inr (λ first second a b. (more.0, (of_one_generation first second a b more.1, many first second a b more.2)))
+      inr (λ first second a b only. (more.0, (of_one_generation first second a b more.1, many first second a b more.2)))
 
 -- the rule of a file's pattern is one
 pub rule_of_file : FilesAreOnPlane MAX_LEVEL → (bytes : List ℕ) (store : Nodes) (pattern : Pattern) → IsRead MAX_LEVEL bytes store pattern

@@ -37,10 +37,10 @@ greatest_then [] ys = omega arith
 greatest_then (t ∷ xs) ys = let rest = greatest_then xs ys in omega (arith, rest)
 
 -- a greatest status that is kept, and then a further one
-three : (a b c s t : ℕ) → c ≡ max b t → b ≡ max a s → c ≡ max a (max s t)
+pub three : (a b c s t : ℕ) → c ≡ max b t → b ≡ max a s → c ≡ max a (max s t)
 three a b c s t p q = omega (arith, p, q)
 
-appends_kept : (a b c : Option (List ℕ)) (xs : List ℕ) → Appends a b xs → Keeps b c → Appends a c xs
+pub appends_kept : (a b c : Option (List ℕ)) (xs : List ℕ) → Appends a b xs → Keeps b c → Appends a c xs
 appends_kept None b c xs p q = tt
 appends_kept (Some x) None c xs p q = absurd p
 appends_kept (Some x) (Some y) None xs p q = absurd q
@@ -112,7 +112,7 @@ takes_then R a [] b ys c p q = subst (λ v. FoldsTo R v ys c) (sym p) q
 takes_then R a (x ∷ xs) b ys c p q = (p.0, p.1, takes_then R p.0 xs b ys c p.2 q)
 
 -- what is written of one file
-one_line : (xs : List ℕ) → xs ≡ xs ++ []
+pub one_line : (xs : List ℕ) → xs ≡ xs ++ []
 one_line xs = sym (append-nil xs)
 
 module _ {F R W E : Type 0} (step : F → Origin → Result R IoError → F → Type 0) (remaining : R → Option (List ℕ)) (reads_failed : R → ℕ)
@@ -380,7 +380,7 @@ names_same z z' words words' list list' p q r = ap (λ e. names_among e (map (λ
     ∙ ap (λ w. names_among z' (map (λ (word : Bor (List ℕ)). word.now) w) list) q
     ∙ ap (λ l. names_among z' (map (λ (word : Bor (List ℕ)). word.now) words') l) r
 
-from_none : (m n g : ℕ) → n ≡ max m g → m ≡ 0 → n ≡ g
+pub from_none : (m n g : ℕ) → n ≡ max m g → m ≡ 0 → n ≡ g
 from_none m n g is none = omega (arith, is, none)
 
 module _ {F R W E : Type 0} (step : F → Origin → Result R IoError → F → Type 0) (remaining : R → Option (List ℕ)) (reads_failed : R → ℕ)

@@ -50,7 +50,7 @@ taken = record { name = Word (codes "a"); outcome = Key (1 ∷ 171 ∷ []) } ∷
 lines_out : output_of false taken ≡ (encode_lower (1 ∷ 171 ∷ []) ++ codes "  a\n") ++ ((encode_lower (16 ∷ []) ++ codes "  e\n") ++ [])
 lines_out = refl
 
-lines_err : errors_of taken ≡ codes "b: Full: The command comes to more than 2^31 different squares.\nc\\nd: no such file\n"
+lines_err : errors_of taken ≡ codes "b: Full: The command needs more than 2^31 different squares.\nc\\nd: no such file\n"
 lines_err = refl
 
 greatest : greatest_status taken ≡ 4

@@ -13,10 +13,13 @@ use Rattle.life_base.specs.declared.kind.Kind.{Kind}
 use Rattle.life_base.specs.declared.kind.Kind.TheVariants as kinds
 use Rattle.life_base.specs.declared.kind.Kind.TheVariants.{Full, Memory, TooManyCells, ReadFault, InputTooLong, WriteFault}
 use Rattle.life_base.specs.declared.rule.Rule.{Rule}
+use Rattle.life_quad.specs.Keeping.{AddsOnly}
 use Rattle.life_quad.specs.Store.{Nodes, held}
 use Rattle.life_canon.specs.Files.{Accepted, Reads, Refuses, is_file_kind}
 use Rattle.life_canon.specs.Laws.{RefusalsHaveKinds}
-use Rattle.life_canon.specs.Room.{room_for}
+use Rattle.life_canon.specs.Needs.{IsNew}
+use Rattle.life_canon.specs.ReadWhole.{ReadsWhole}
+use Rattle.life_canon.specs.Room.{AddsFile, IsOfFile, room_for}
 use Rattle.life_canon.specs.Running.{AddsForRead, HasRead, ReadRefuses, ReadsPattern, ReadsSource}
 use Rattle.life_canon.specs.Running as reading
 use Rattle.life_canon.specs.Store.{IsRead, IsWant, content}
@@ -40,7 +43,7 @@ use Rattle.life_cli.specs.Plans.{HasSecond, WritesPlacedText}
 use Rattle.life_step.specs.Stepped.{IsStepped, IsSteppedBy}
 use Rattle.life_cli.specs.Jobs.{InputRefuses, by_length, by_source, HasNoText, by_input, by_file, by_want, AreUncompared}
 use Rattle.life_cli.specs.Jobs.{by_first, by_second, by_form, by_first_shortage, by_second_shortage, RefusesInForm, RefusesSame}
-use Rattle.life_cli.specs.Jobs.{AreOfInput, IsTooSmallFor, IsWantFor, WantsFor, RefusesMany, Compares, made_text, made_status, HasAnswer, TaskMakes, Writes, Worked, BreaksOff, HasText, FileRefuses, ComesOf}
+use Rattle.life_cli.specs.Jobs.{AreOfInput, HoldsNoneBut, HoldsOneFile, HoldsTwoFiles, IsTooSmallFor, IsTooSmallToMake, IsWantFor, WantsFor, RefusesMany, Compares, made_text, made_status, HasAnswer, TaskMakes, Writes, Worked, BreaksOff, HasText, FileRefuses, ComesOf}
 use Rattle.life_cli.specs.Jobs.{by_comparing, by_reading, by_writing, by_telling, HasTextByTable, HasNoTextByTable, MadeOf}
 use Rattle.life_cli.specs.Jobs.{RefusesStep, HasTable, HasNoTable, table_by_input, table_by_lines}
 use Rattle.life_cli.specs.Jobs.{table_by_memory, CanonRefuses, OfFile, TaskRan, TaskRefuses}
@@ -99,19 +102,45 @@ refused_rle source store pattern (Ok x) has h = tt
 refused_rle source store pattern (Err fault) has (inl memory) = by_want (inl memory)
 refused_rle source store pattern (Err fault) has (inr many) = by_file has.bytes has.read (inr (many.0, many.1 has.bytes has.is))
 
+-- a store that held no square holds those that calls have added
+none_held : (old : Nodes) → held old ≡ [] → (t : Tree) → Contains (held old) t → ⊥
+none_held old none t there =
+    let it : Contains [] t = subst (λ (squares : List Tree). Contains squares t) none there in
+    omega (arith, it.1)
+
+pub holds_one : (bytes : List ℕ) (old new : Nodes) → held old ≡ [] → AddsFile bytes old new → HoldsOneFile bytes new
+holds_one bytes old new none adds t there = elim (adds.each t there) [ inl before ↦ absurd (none_held old none t before) | inr own ↦ own ]
+
+pub holds_two : (first second : List ℕ) (old mid new : Nodes) → held old ≡ [] → AddsFile first old mid → AddsFile second mid new
+    → HoldsTwoFiles first second new
+holds_two first second old mid new none one other t there = elim (other.each t there) [
+  | inl before ↦ inl (holds_one first old mid none one t before)
+  | inr own ↦ inr own
+]
+
+-- what a store holds to which a call added squares that its answer needs
+pub holds_more : (IsToRead : Tree → Type 0) (Added ToMake : (Tree → Type 0) → Type 0) (old new : Nodes) → HoldsNoneBut IsToRead old
+    → ((P : Tree → Type 0) → Added P → ToMake P) → AddsOnly held Added old new → HoldsNoneBut (λ t. IsToRead t ⊎ ToMake (λ u. u ≡ t)) new
+holds_more IsToRead Added ToMake old new only f adds t there = elim (adds.each t there) [
+  | inl before ↦ inl (only t before)
+  | inr made ↦ inr (f (λ u. u ≡ t) made)
+]
+
 -- no text in a form
 pub refused_in : (form : Form) (bytes : List ℕ) (fault : Fault) → Refuses MAX_LEVEL bytes fault → RefusesInForm form bytes fault
 refused_in Placed bytes fault h = h
 refused_in Moved bytes fault h = inl (inl h)
 refused_in Turned bytes fault h = inl h
 
-pub refused_text : {X : Type 0} (form : Form) (source : SourceRun) (store : Nodes) (pattern : Pattern) (r : Result X Fault)
-    → HasRead MAX_LEVEL (2 ^ 30) store source pattern
-    → IfErr r (λ fault. (fault ≡ fault_of Memory) ⊎ ((b : List ℕ) → IsRead MAX_LEVEL b store pattern → RefusesInForm form b fault))
+pub refused_text : {X : Type 0} (form : Form) (source : SourceRun) (empty store : Nodes) (pattern : Pattern) (r : Result X Fault) → held empty ≡ []
+    → ReadsWhole (2 ^ 30) empty store source pattern
+    → IfErr r (λ fault. (fault ≡ fault_of Memory)
+    ⊎ ((b : List ℕ) → IsRead MAX_LEVEL b store pattern → HoldsOneFile b store → RefusesInForm form b fault))
     → IfErr r (HasNoText (RefusesInForm form) source)
-refused_text form source store pattern (Ok x) has h = tt
-refused_text form source store pattern (Err fault) has (inl memory) = by_want (inl memory)
-refused_text form source store pattern (Err fault) has (inr refuses) = by_file has.bytes has.read (refuses has.bytes has.is)
+refused_text form source empty store pattern (Ok x) none has h = tt
+refused_text form source empty store pattern (Err fault) none has (inl memory) = by_want (inl memory)
+refused_text form source empty store pattern (Err fault) none has (inr refuses) =
+    by_file has.bytes has.read (refuses has.bytes has.is (holds_one has.bytes empty store none has.adds))
 
 -- a fault of a kind that isn't a file's is none of a file
 pub no_file : (base : List Tree) (source : SourceRun) (store : Nodes) (fault : Fault) → RefusalsHaveKinds MAX_LEVEL → ReadRefuses MAX_LEVEL
@@ -191,18 +220,18 @@ module _ (form : Form) (first second : SourceRun) (store : Nodes) (a b : List �
           (h a b reads others)
       go (Err fault) h few = tt
 
-  pub uncompared_in : IfErr r (λ fault. (fault ≡ fault_of Memory)
-      ⊎ ((f s : List ℕ) → IsRead MAX_LEVEL f store p → IsRead MAX_LEVEL s store q → RefusesSame form f s fault))
+  pub uncompared_in : HoldsTwoFiles a b store → IfErr r (λ fault. (fault ≡ fault_of Memory)
+      ⊎ ((f s : List ℕ) → IsRead MAX_LEVEL f store p → IsRead MAX_LEVEL s store q → HoldsTwoFiles f s store → RefusesSame form f s fault))
       → IfErr r (AreUncompared form first second)
-  uncompared_in h = go r h
+  uncompared_in only h = go r h
     where
       go : (r : Result Bool Fault) → IfErr r (λ fault. (fault ≡ fault_of Memory)
-          ⊎ ((f s : List ℕ) → IsRead MAX_LEVEL f store p → IsRead MAX_LEVEL s store q → RefusesSame form f s fault))
+          ⊎ ((f s : List ℕ) → IsRead MAX_LEVEL f store p → IsRead MAX_LEVEL s store q → HoldsTwoFiles f s store → RefusesSame form f s fault))
           → IfErr r (AreUncompared form first second)
       go (Ok answer) h = tt
       go (Err fault) (inl memory) = by_second_shortage a [] one (no_squares first a one) (inl memory)
       go (Err fault) (inr refuses) =
-          by_form a b one two (reads.universe, reads.reads) (others.universe, others.reads) (refuses a b reads others)
+          by_form a b one two (reads.universe, reads.reads) (others.universe, others.reads) (refuses a b reads others only)
 
 -- all of a file was read, and a call on its pattern gave its text
 text_of_pattern : {X : Type 0} (gives : List ℕ → List ℕ → Type 0) (items : X → List ℕ) (source : SourceRun) (store : Nodes) (pattern : Pattern)
@@ -242,19 +271,31 @@ of_file needs bytes store pattern read of_pattern =
     let of_rule = subst (λ (rule : Rule). needs rule (content store pattern.root)) read.is.rule of_pattern in
     (u, read.reads, subst (λ (root : Tree). needs u.rule root) read.is.root of_rule)
 
--- nothing comes of a pattern that isn't stepped
-pub refused_step : {X : Type 0} (lacks : Rule → Tree → Nodes → Type 0) (refuses : List ℕ → Fault → Type 0) (source : SourceRun) (old new : Nodes)
-    (pattern : Pattern) (r : Result X Fault) → HasRead MAX_LEVEL (2 ^ 30) old source pattern → new.limit ≡ 2 ^ 31
-    → IfErr r (λ fault. IsWant new fault ⊎ ((bytes : List ℕ) → IsRead MAX_LEVEL bytes old pattern → refuses bytes fault))
-    → (r ≡ Err (fault_of Full) → lacks pattern.rule (content old pattern.root) new)
-    → IfErr r (HasNoText (λ bytes fault. Refuses MAX_LEVEL bytes fault
-    ⊎ (WantsFor (λ store. (u : Universe) × Reads MAX_LEVEL bytes u × lacks u.rule (whole MAX_LEVEL u) store) fault ⊎ refuses bytes fault)) source)
-refused_step lacks refuses source old new pattern (Ok x) has limit h needed = tt
-refused_step lacks refuses source old new pattern (Err fault) has limit (inl want) needed =
-    let lacking : fault ≡ fault_of Full → (u : Universe) × Reads MAX_LEVEL has.bytes u × lacks u.rule (whole MAX_LEVEL u) new =
-    λ full. of_file (λ rule root. lacks rule root new) has.bytes old pattern has.is (needed (ap (λ (f : Fault). Err f) full)) in
-    by_file has.bytes has.read (inr (inl (new, limit, want, lacking)))
-refused_step lacks refuses source old new pattern (Err fault) has limit (inr step) needed = by_file has.bytes has.read (inr (inr (step has.bytes has.is)))
+-- Nothing comes of a pattern that isn't stepped. `Of` says of a property that a square has it which the step needs of a root under a rule.
+module _ {X : Type 0} (Of : (Tree → Type 0) → Rule → Tree → Type 0) (refuses : List ℕ → Fault → Type 0) (source : SourceRun) (empty old new : Nodes)
+    (pattern : Pattern) (none : held empty ≡ []) (has : ReadsWhole (2 ^ 30) empty old source pattern) (limit : new.limit ≡ 2 ^ 31)
+    (distinct : AllPairs ◌≢◌ (held new)) (not_blank : (t : Tree) → Contains (held new) t → is_blank_tree t ≡ false)
+    (adds : AddsOnly held (λ P. Of P pattern.rule (content old pattern.root)) old new) where
+  pub refused_step : (r : Result X Fault)
+      → IfErr r (λ fault. IsWant new fault ⊎ ((bytes : List ℕ) → IsRead MAX_LEVEL bytes old pattern → refuses bytes fault))
+      → (r ≡ Err (fault_of Full) → Of (IsNew new) pattern.rule (content old pattern.root))
+      → IfErr r (HasNoText (λ bytes fault. Refuses MAX_LEVEL bytes fault
+      ⊎ (WantsFor (IsOfFile bytes) (λ P. (u : Universe) × Reads MAX_LEVEL bytes u × Of P u.rule (whole MAX_LEVEL u)) fault ⊎ refuses bytes fault)) source)
+  refused_step (Ok x) h needed = tt
+  refused_step (Err fault) (inl want) needed =
+      let to_file : (P : Tree → Type 0) → Of P pattern.rule (content old pattern.root)
+      → (u : Universe) × Reads MAX_LEVEL has.bytes u × Of P u.rule (whole MAX_LEVEL u) = λ P s. of_file (Of P) has.bytes old pattern has.is s in
+      let too_small : fault ≡ fault_of Full
+      → IsTooSmallToMake (IsOfFile has.bytes) (λ P. (u : Universe) × Reads MAX_LEVEL has.bytes u × Of P u.rule (whole MAX_LEVEL u)) new = λ full. record {
+        distinct = distinct;
+        not_blank = not_blank;
+        needed = holds_more (IsOfFile has.bytes) (λ P. Of P pattern.rule (content old pattern.root))
+            (λ P. (u : Universe) × Reads MAX_LEVEL has.bytes u × Of P u.rule (whole MAX_LEVEL u)) old new
+            (holds_one has.bytes empty old none has.adds) to_file adds;
+        lacks = to_file (IsNew new) (needed (ap (λ (f : Fault). Err f) full));
+      } in
+      by_file has.bytes has.read (inr (inl (new, limit, want, too_small)))
+  refused_step (Err fault) (inr step) needed = by_file has.bytes has.read (inr (inr (step has.bytes has.is)))
 
 -- a file gives a table, or none
 pub no_table_input : (source : SourceRun) (fault : Fault) → InputRefuses source fault ⊎ (fault ≡ fault_of Memory) → HasNoTable source fault

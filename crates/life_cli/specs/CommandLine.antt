@@ -1,5 +1,5 @@
 -- The program's command line, as `clap` reads it.
-use Rattle.std.specs.Prelude.{◌≡◌, true, false, codes, Some}
+use Rattle.std.specs.Prelude.{◌≡◌, ℕ, true, false, codes, Some}
 use Rattle.clap.specs.Words.{App, Rule, Text, app_of, new_app, new_rule, rule_of, with_rule, with_subcommand}
 use Rattle.clap.specs.declared.builder.ArgAction.TheVariants.{Append, Set, SetTrue}
 use Rattle.clap.specs.declared.builder.arg.Arg.{Arg}
@@ -18,45 +18,56 @@ option id = record (new_rule id) { long = Some id; action = Some Set; value_name
 abbrev pub required_option : Text → Rule
 required_option id = record (new_rule id) { long = Some id; required = true; action = Some Set; value_names = 1 }
 
--- show FILE
+-- a flag --NAME
+abbrev pub flag : Text → Rule
+flag id = record (new_rule id) { long = Some id; action = Some SetTrue }
+
+-- the same, with a second name -L, where L is the letter of this number
+abbrev pub short_flag : Text → ℕ → Rule
+short_flag id letter = record (flag id) { short = Some letter }
+
+-- the same command, with an optional --explain
+abbrev pub with_explain : App → App
+with_explain line = with_rule line (flag (codes "explain"))
+
+-- a command over one file
 abbrev pub one_file_line : Text → App
 one_file_line name = with_rule (new_app name) (required_file (codes "FILE"))
 
--- canon FILE, with an optional --form FORM
+-- canon FILE, with an optional --form FORM and --explain
 abbrev pub canon_line : App
-canon_line = with_rule (one_file_line (codes "canon")) (option (codes "form"))
+canon_line = with_explain (with_rule (one_file_line (codes "canon")) (option (codes "form")))
 
--- convert FILE --to FORMAT
+-- convert FILE --to FORMAT, with an optional --explain
 abbrev pub convert_line : App
-convert_line = with_rule (one_file_line (codes "convert")) (required_option (codes "to"))
+convert_line = with_explain (with_rule (one_file_line (codes "convert")) (required_option (codes "to")))
 
 -- a command over two files
 abbrev pub two_files_line : Text → App
 two_files_line name = with_rule (with_rule (new_app name) (required_file (codes "A"))) (required_file (codes "B"))
 
--- same A B, with an optional --form FORM
+-- same A B, with an optional --form FORM and --explain
 abbrev pub same_line : App
-same_line = with_rule (two_files_line (codes "same")) (option (codes "form"))
+same_line = with_explain (with_rule (two_files_line (codes "same")) (option (codes "form")))
 
--- step FILE, with an optional --table RULE
+-- show FILE, with an optional --explain
+abbrev pub show_line : App
+show_line = with_explain (one_file_line (codes "show"))
+
+-- step FILE, with an optional --table RULE and --explain
 abbrev pub step_line : App
-step_line = with_rule (one_file_line (codes "step")) (option (codes "table"))
+step_line = with_explain (with_rule (one_file_line (codes "step")) (option (codes "table")))
 
 -- files by their places, any number of them
 abbrev pub files_rule : Rule
 files_rule = record (new_rule (codes "FILE")) { action = Some Append }
 
--- a flag --NAME
-abbrev pub flag : Text → Rule
-flag id = record (new_rule id) { long = Some id; action = Some SetTrue }
-
--- a command over any number of files, with an optional --form FORM
+-- a command over any number of files, with an optional --form FORM, --zero, --from LIST and --recursive, which is -r too: `r` is the character 114
 abbrev pub files_line : Text → App
-files_line name = with_rule (with_rule (new_app name) files_rule) (option (codes "form"))
-
--- keys [FILE].., with an optional --form FORM, --zero and --from LIST
-abbrev pub keys_line : App
-keys_line = with_rule (with_rule (files_line (codes "keys")) (flag (codes "zero"))) (option (codes "from"))
+files_line name =
+    let in_a_form = with_rule (with_rule (new_app name) files_rule) (option (codes "form")) in
+    let with_list = with_rule (with_rule in_a_form (flag (codes "zero"))) (option (codes "from")) in
+    with_rule with_list (short_flag (codes "recursive") 114)
 
 -- the program without its commands, of which it wants one; it has a version
 abbrev pub named : App
@@ -66,13 +77,15 @@ named =
 
 -- the program
 abbrev pub program : App
-program = with_subcommand (with_subcommand (with_subcommand (with_subcommand (with_subcommand (with_subcommand named
+program =
+    with_subcommand (with_subcommand (with_subcommand (with_subcommand (with_subcommand (with_subcommand (with_subcommand named
     canon_line.top)
     convert_line.top)
     same_line.top)
-    (one_file_line (codes "show")).top)
+    show_line.top)
     step_line.top)
-    keys_line.top
+    (files_line (codes "keys")).top)
+    (files_line (codes "duplicates")).top
 
 -- the argument has this rule, and isn't global
 pub record HasRule (rule : Rule) (argument : Arg) : Type 0 where

@@ -1,5 +1,5 @@
 -- What a task writes, by the bytes of its files, and why it is refused.
-use Rattle.std.specs.Prelude.{◌≡◌, ◌≢◌, ◌⊎◌, ◌<◌, ◌+◌, ◌^◌, ℕ, true, false, List, [], length, Contains, AllPairs, Option, Some, Result, IfOk, IfErr, IsErrAnd, codes, if◌then◌else◌}
+use Rattle.std.specs.Prelude.{◌≡◌, ◌≢◌, ◌⊎◌, ◌<◌, ◌+◌, ◌^◌, ℕ, true, false, List, [], length, Contains, AllPairs, Option, Some, Result, IfOk, IfErr, OnOk, IsErrAnd, codes, if◌then◌else◌}
 use Rattle.std.specs.Io.KnownBytes.{Appends, Consumes}
 use Rattle.life_base.specs.DeviceRuns.{SourceRun, SinkRun}
 use Rattle.life_base.specs.Inputs.{ReadAll, CameBeyond}
@@ -12,7 +12,8 @@ use Rattle.life_base.specs.declared.cell.TheConstants.{MAX_LEVEL}
 use Rattle.life_base.specs.declared.kind.Kind.TheVariants.{Full, InputTooLong, Memory, ReadFault, WriteFault, TooManyCells}
 use Rattle.life_quad.specs.Store.{Nodes, held}
 use Rattle.life_canon.specs.Files.{Accepted, Reads, Refuses}
-use Rattle.life_canon.specs.Room.{IsOfFile, room_for}
+use Rattle.life_canon.specs.Needs.{IsNew}
+use Rattle.life_canon.specs.Room.{AddsFile, IsOfFile, room_for}
 use Rattle.life_canon.specs.Running.{RunRefuses, LacksForRead}
 use Rattle.life_canon.specs.Store.{IsRead, IsWant}
 use Rattle.life_canon.specs.Texts.{IsCanonical, IsRleOf, IsShown, HasMoreCells}
@@ -21,9 +22,9 @@ use Rattle.life_canon.specs.declared.pattern.Pattern.{Pattern}
 use Rattle.life_table.specs.Grammar.{IsFile}
 use Rattle.life_table.specs.Reading.{Refuses as RefusesTable}
 use Rattle.life_table.specs.declared.table.Table.{Table}
-use Rattle.life_step.specs.Refusals.{LacksForNext, LacksForNextBy, LifeRefusal, TableRefusal}
+use Rattle.life_step.specs.Refusals.{LifeRefusal, SomeOfNextFile, SomeOfNextFileBy, TableRefusal}
 use Rattle.life_step.specs.Stepped.{IsStepped, IsSteppedBy}
-use Rattle.life_forms.specs.Needed.{LacksForMoved}
+use Rattle.life_forms.specs.Needed.{SomeOfMovedForm}
 use Rattle.life_cli.specs.Forms.{AreSameIn, HasTooMany, IsTextIn}
 use Rattle.life_cli.specs.Plans.{HasSecond}
 use Rattle.life_cli.specs.declared.plans.Form.{Form}
@@ -93,8 +94,8 @@ pub record AreOfInput (base : List Tree) (input : Option (List ℕ)) (squares : 
   pub not_blank : (t : Tree) → Contains squares t → is_blank_tree t ≡ false
   pub needed : (t : Tree) → Contains squares t → Contains base t ⊎ IsOfFile bytes t
 
--- The store holds only squares that the input needs, beside those of `base`, and lacks one which the bytes need that were read. Its limit is below the
--- number of squares that so many bytes may need, beside those of `base`.
+-- The store holds only squares that the input needs, besides those of `base`, and lacks one which the bytes need that were read. Its limit is below the
+-- number of squares that so many bytes may need, besides those of `base`.
 pub record IsTooSmallFor (base : List Tree) (source : SourceRun) (store : Nodes) : Type 0 where
   pub squares : AreOfInput base source.before (held store)
   pub lacks : LacksForRead MAX_LEVEL (2 ^ 30) store source
@@ -102,7 +103,7 @@ pub record IsTooSmallFor (base : List Tree) (source : SourceRun) (store : Nodes)
   pub came : Consumes source.before source.after read
   pub tight : store.limit < length base + room_for (length read)
 
--- the store holds its limit, and is too small for what was read of the input, beside the squares of `base`; or a growth of memory was refused
+-- the store holds its limit, and is too small for what was read of the input, besides the squares of `base`; or a growth of memory was refused
 abbrev pub IsWantFor : List Tree → SourceRun → Nodes → Fault → Type 0
 IsWantFor base source store fault = IsWant store fault × (fault ≡ fault_of Full → IsTooSmallFor base source store)
 
@@ -128,7 +129,7 @@ pub data HasNoText (refuses : List ℕ → Fault → Type 0) (source : SourceRun
   by_file : (bytes : List ℕ) → ReadAll (2 ^ 30) source.before source.after bytes → refuses bytes fault → HasNoText refuses source fault
   by_want : Wants [] source fault → HasNoText refuses source fault
 
--- what comes of a file: what `gives` relates to its bytes, or why there is nothing; and where its source failed, that is told
+-- what comes of a file: what `gives` relates to its bytes, or why there is nothing; and where its source failed, that is reported
 pub record ComesOf {A : Type 0} (items : A → List ℕ) (gives : List ℕ → List ℕ → Type 0) (refuses : List ℕ → Fault → Type 0) (source : SourceRun)
     (result : Result A Fault) : Type 0 where
   pub ok : IfOk result (λ a. HasText gives source (items a))
@@ -141,26 +142,53 @@ pub data FileRefuses (gives : List ℕ → List ℕ → Type 0) (refuses : List 
   by_reading : HasNoText refuses source fault → FileRefuses gives refuses source output fault
   by_writing : (text : List ℕ) → HasText gives source text → BreaksOff output text fault → FileRefuses gives refuses source output fault
 
--- all of a file was read, and the store has its pattern; or this is the fault of the file
-pub record IsPatternIn (store : Nodes) (source : SourceRun) (found : Result Pattern Fault) : Type 0 where
+-- All of a file was read, the store has its pattern, and no square was stored since it was `old` but such as the file needs; or this is the fault of
+-- the file.
+pub record IsPatternIn (old store : Nodes) (source : SourceRun) (found : Result Pattern Fault) : Type 0 where
   pub bytes : List ℕ
   pub read : ReadAll (2 ^ 30) source.before source.after bytes
   pub pattern : IfOk found (IsRead MAX_LEVEL bytes store)
+  pub adds : OnOk found (AddsFile bytes old store)
   pub fault : IfErr found (Refuses MAX_LEVEL bytes)
 
--- a call found that a store of 2^31 squares holds its limit and lacks what the call needs, or a growth of memory was refused to it
-abbrev pub WantsFor : (Nodes → Type 0) → Fault → Type 0
-WantsFor Lacks fault = (store : Nodes) × (store.limit ≡ 2 ^ 31) × IsWant store fault × (fault ≡ fault_of Full → Lacks store)
+-- the store holds no squares but such
+abbrev pub HoldsNoneBut : (Tree → Type 0) → Nodes → Type 0
+HoldsNoneBut IsSuch store = (t : Tree) → Contains (held store) t → IsSuch t
 
--- the store lacks a square of the moved pattern of a file
-abbrev pub LacksToMove : List ℕ → Nodes → Type 0
-LacksToMove bytes store = (u : Universe) × Reads MAX_LEVEL bytes u × LacksForMoved u store
+-- The squares of the store are all different and none is blank, and each is needed, to read the files or to make the answer. The store lacks one that
+-- the answer needs. So where it holds its limit, more different squares are needed than that. `ToMake` says of a property that a square has it which the
+-- answer needs.
+pub record IsTooSmallToMake (IsToRead : Tree → Type 0) (ToMake : (Tree → Type 0) → Type 0) (store : Nodes) : Type 0 where
+  pub distinct : AllPairs ◌≢◌ (held store)
+  pub not_blank : (t : Tree) → Contains (held store) t → is_blank_tree t ≡ false
+  pub needed : HoldsNoneBut (λ t. IsToRead t ⊎ ToMake (λ u. u ≡ t)) store
+  pub lacks : ToMake (IsNew store)
+
+-- a call found that a store of 2^31 squares holds its limit and is too small for the call, or a growth of memory was refused to it
+abbrev pub WantsFor : (Tree → Type 0) → ((Tree → Type 0) → Type 0) → Fault → Type 0
+WantsFor IsToRead ToMake fault =
+    (store : Nodes) × (store.limit ≡ 2 ^ 31) × IsWant store fault × (fault ≡ fault_of Full → IsTooSmallToMake IsToRead ToMake store)
+
+-- a square that is needed to move the pattern of a file has a property
+abbrev pub SomeToMove : List ℕ → (Tree → Type 0) → Type 0
+SomeToMove bytes P = (u : Universe) × Reads MAX_LEVEL bytes u × SomeOfMovedForm P u
+
+-- the square is needed to read one of two files
+abbrev pub IsOfEither : (first second : List ℕ) → Tree → Type 0
+IsOfEither first second t = IsOfFile first t ⊎ IsOfFile second t
+
+-- the store holds no squares but those of a file, or of two files
+abbrev pub HoldsOneFile : List ℕ → Nodes → Type 0
+HoldsOneFile bytes = HoldsNoneBut (IsOfFile bytes)
+
+abbrev pub HoldsTwoFiles : (first second : List ℕ) → Nodes → Type 0
+HoldsTwoFiles first second = HoldsNoneBut (IsOfEither first second)
 
 -- why two files aren't compared in a form: one of them has too many cells, or room or memory is wanted to move them
 abbrev pub RefusesSame : Form → List ℕ → List ℕ → Fault → Type 0
 RefusesSame Placed a b fault = ⊥
 RefusesSame Moved a b fault =
-    ((fault ≡ fault_of TooManyCells) × HasTooMany Moved MAX_LEVEL a b) ⊎ WantsFor (λ store. LacksToMove a store ⊎ LacksToMove b store) fault
+    ((fault ≡ fault_of TooManyCells) × HasTooMany Moved MAX_LEVEL a b) ⊎ WantsFor (IsOfEither a b) (λ P. SomeToMove a P ⊎ SomeToMove b P) fault
 RefusesSame Turned a b fault = (fault ≡ fault_of TooManyCells) × HasTooMany Turned MAX_LEVEL a b
 
 -- Why two files aren't compared: the first isn't read; all of it was read, and the second isn't; all of both was read, and the first is no
@@ -190,7 +218,7 @@ RefusesMany bytes fault = Refuses MAX_LEVEL bytes fault ⊎ ((fault ≡ fault_of
 -- why bytes have no text in a form
 abbrev pub RefusesInForm : Form → List ℕ → Fault → Type 0
 RefusesInForm Placed bytes fault = Refuses MAX_LEVEL bytes fault
-RefusesInForm Moved bytes fault = RefusesMany bytes fault ⊎ WantsFor (LacksToMove bytes) fault
+RefusesInForm Moved bytes fault = RefusesMany bytes fault ⊎ WantsFor (IsOfFile bytes) (SomeToMove bytes) fault
 RefusesInForm Turned bytes fault = RefusesMany bytes fault
 
 -- why a run of `run_canon` in a store of 2^31 squares is refused
@@ -203,13 +231,14 @@ CanonRefuses first output fault = (store : Nodes) × (store.limit ≡ 2 ^ 31) ×
 abbrev pub RefusesStep : List ℕ → Fault → Type 0
 RefusesStep bytes fault =
     Refuses MAX_LEVEL bytes fault
-    ⊎ (WantsFor (LacksForNext bytes) fault ⊎ ((u : Universe) × Reads MAX_LEVEL bytes u × LifeRefusal MAX_LEVEL u (Some fault)))
+    ⊎ (WantsFor (IsOfFile bytes) (λ P. SomeOfNextFile P bytes) fault ⊎ ((u : Universe) × Reads MAX_LEVEL bytes u × LifeRefusal MAX_LEVEL u (Some fault)))
 
 -- the same by a table
 abbrev pub RefusesStepBy : Table → List ℕ → Fault → Type 0
 RefusesStepBy table bytes fault =
     Refuses MAX_LEVEL bytes fault
-    ⊎ (WantsFor (LacksForNextBy table bytes) fault ⊎ ((u : Universe) × Reads MAX_LEVEL bytes u × TableRefusal MAX_LEVEL table u (Some fault)))
+    ⊎ (WantsFor (IsOfFile bytes) (λ P. SomeOfNextFileBy P table bytes) fault
+    ⊎ ((u : Universe) × Reads MAX_LEVEL bytes u × TableRefusal MAX_LEVEL table u (Some fault)))
 
 -- all of a file was read, and it is this rule table
 pub record HasTable (source : SourceRun) (table : Table) : Type 0 where
@@ -257,13 +286,13 @@ TaskRefuses StepTable first second output refusal = HasNoTextByTable first secon
     ⊎ OfFile (λ fault. (text : List ℕ) × HasTextByTable first second text × BreaksOff output text fault) refusal
 
 -- what comes of a task before anything is written: what it makes of its files, or why it is refused, whatever the output; and where a source
--- failed, that is told
+-- failed, that is reported
 pub record MadeOf (task : Task) (first second : SourceRun) (result : Result Made Refusal) : Type 0 where
   pub ok : IfOk result (TaskMakes task first second)
   pub err : IfErr result (λ refusal. (output : SinkRun) → TaskRefuses task first second output refusal)
   pub told : (first.failures ≡ 1) ⊎ (second.failures ≡ 1) → IsErrAnd result (λ refusal. refusal.fault.kind ≡ ReadFault)
 
--- what became of a task: it was done, with its status; or why it was refused; and a device that failed, or took no bytes, is told
+-- what became of a task: it was done, with its status; or why it was refused; and a device that failed, or took no bytes, is reported
 pub record TaskRan (task : Task) (first second : SourceRun) (output : SinkRun) (result : Result ℕ Refusal) : Type 0 where
   pub done : IfOk result (λ status. (status < 2) × Worked task status first second output)
   pub refused : IfErr result (TaskRefuses task first second output)

@@ -78,7 +78,7 @@ greatest_status (t ∷ taken) = max (outcome_status t.outcome) (greatest_status 
 abbrev pub names_of : List Taken → List Name
 names_of taken = map (λ (t : Taken). t.name) taken
 
--- What is told on a sink that goes from `old` to `new`. It takes texts before (`tells`) and after (`goes_on`), or not any more: where it fails or
+-- What is reported on a sink that goes from `old` to `new`. It takes texts before (`tells`) and after (`goes_on`), or not any more: where it fails or
 -- takes no bytes a prefix of the text is written, and from then on nothing.
 abbrev pub TellsOn : {E : Type 0} → (E → Option (List ℕ)) → (E → ℕ) → (E → Bool) → (tells goes_on : Bool) → (old new : E) → List ℕ → Type 0
 TellsOn contents failures stalled true true old new text = Appends (contents old) (contents new) text × (failures new ≡ 0)
@@ -95,7 +95,7 @@ pub record Writes {W E : Type 0} (held : W → Option (List ℕ)) (contents : E 
   pub told : TellsOn contents failures stalled old.tells new.tells err_old err_new faults
   pub status : new.status ≡ max old.status greatest
 
--- what is told of a file: what it came to, or that memory was refused for the line of its key
+-- what is reported of a file: what it came to, or that memory was refused for the line of its key
 abbrev pub IsToldAs : Outcome → Outcome → Type 0
 IsToldAs outcome told = (told ≡ outcome) ⊎ ((key : List ℕ) × (outcome ≡ Key key) × (told ≡ Refused (fault_of kinds.Memory)))
 
@@ -144,7 +144,7 @@ module _ {F R : Type 0} (step : F → Origin → Result R IoError → F → Type
   abbrev pub TakesAll : F → List Taken → F → Type 0
   TakesAll before taken after = FoldsTo Takes before taken after
 
--- a run can take files: its opener can be called, standard output hasn't failed, nor has standard error as long as it is told
+-- a run can take files: its opener can be called, standard output hasn't failed, nor has standard error as long as it takes reports
 pub record CanTake {F : Type 0} (is_callable : F → Type 0) (run : Run F) (out_failures err_failures : ℕ) : Type 0 where
   pub callable : is_callable run.files.opener
   pub works : out_failures ≡ 0
@@ -190,7 +190,7 @@ module _ {F R : Type 0} (step : F → Origin → Result R IoError → F → Type
 
   -- What a run did with its files and outputs, and the status that it answered.
   pub data Ran (plan : KeysPlan) (opener : F) (output error : SinkRun) (flushed : Bool) (status : ℕ) : Type 0 where
-    -- All files were taken: their lines were written, and told, and the greatest status is answered.
+    -- All files were taken: their lines were written, or reported, and the greatest status is answered.
     through : (taken : List Taken) → Took plan opener taken [] → Appends output.before output.after (output_of plan.zero taken) → flushed ≡ true
         → Tells error (errors_of taken) → status ≡ greatest_status taken → Ran plan opener output error flushed status
     -- Standard output failed, or took no bytes: the first files were taken, and a prefix of their lines was written.

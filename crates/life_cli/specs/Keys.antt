@@ -4,6 +4,7 @@ use Rattle.std.specs.List.{list_any}
 use Rattle.std.specs.Str.{byte}
 use Rattle.std.specs.declared.io.ErrorKind.{ErrorKind}
 use Rattle.std.specs.declared.io.ErrorKind.TheVariants as io
+use Rattle.fault_sentences.specs.Sentences.{sentence_of}
 use Rattle.hex.specs.Hex.{encode_lower}
 use Rattle.sha2.specs.Sha256.{sha256}
 use Rattle.life_base.specs.Kinds.{kind_name}
@@ -11,7 +12,6 @@ use Rattle.life_base.specs.Text.{onto_first}
 use Rattle.life_base.specs.declared.fault.Fault.{Fault}
 use Rattle.life_cli.specs.Faults.{place_text}
 use Rattle.life_cli.specs.Forms.{IsTextIn}
-use Rattle.life_cli.specs.Sentences.{sentence_of}
 use Rattle.life_cli.specs.declared.plans.Form.{Form}
 
 -- the bytes are a file, and this is the SHA-256 of the text of its pattern in the form
@@ -43,7 +43,7 @@ abbrev pub key_line : Bool → List ℕ → List ℕ → List ℕ
 key_line false key name = name_mark name ++ (encode_lower key ++ (codes "  " ++ (escaped name ++ codes "\n")))
 key_line true key name = encode_lower key ++ (codes "  " ++ (name ++ 0 ∷ []))
 
--- what is told of a fault: its line, where it names one, its kind, and what that means
+-- the report of a fault: its line, where it names one, its kind, and what that means
 abbrev pub fault_text : Fault → List ℕ
 fault_text fault =
     place_text false fault.place.line ++ (kind_name fault.kind ++ (codes ": " ++ (sentence_of fault.kind ++ codes "\n")))

@@ -5,7 +5,8 @@ pub mod CommandLine
 pub mod Plans
 pub mod Origins
 pub mod Usages
-pub mod Sentences
 pub mod Keys
 pub mod KeyRuns
+pub mod Groups
+pub mod Duplicates
 pub mod Words

@@ -1,7 +1,7 @@
 //! The work of the jobs that take a pattern in a form.
 
 ghost use Rattle.std.specs.Prelude.{◌≡◌, ◌⊎◌, ◌↔◌, ◌^◌, ◌<◌, ◌≤◌, Err, IfOk, IfErr, OnOk, IsTrue, List, ℕ};
-ghost use Rattle.life_cli.specs.Words.{source_run, fault_of, population, IsOfFile, IsRead, IsTrimmed, IsWant, Keeps, content, universe_in, LacksForMoved, AreSameIn, HasTooMany, IsMovedText, IsTextIn, ComesOf, RefusesInForm, RefusesSame};
+ghost use Rattle.life_cli.specs.Words.{source_run, fault_of, population, IsOfFile, IsRead, IsTrimmed, IsWant, Keeps, content, universe_in, AddsMoved, HoldsOneFile, HoldsTwoFiles, LacksForMoved, AreSameIn, HasTooMany, IsMovedText, IsTextIn, ComesOf, RefusesInForm, RefusesSame};
 
 use crate::jobs::{MOST_SQUARES, pattern_of};
 use crate::plans::Form;
@@ -23,6 +23,7 @@ fn moved_text(alloc: Global, store: &mut Shared, pattern: &Pattern) -> Result<Ve
         × (2 ^ 20 < population (content store.old pattern.now.root))) ⊎ IsWant store.new fault) }
     ensures needed { result ≡ Err (fault_of Kind.Full)
         → LacksForMoved (universe_in store.old pattern.now) store.new }
+    ensures adds { AddsMoved (universe_in store.old pattern.now) store.old store.new }
     ensures keeps { Keeps store.old store.new }
 {
     let moved = moved_of(alloc, store, pattern)?;
@@ -42,13 +43,18 @@ fn text_in(
         → IsRead MAX_LEVEL bytes store.old pattern.now → IsTextIn form MAX_LEVEL bytes text.items) }
     ensures fault { IfErr result (λ fault. (fault ≡ fault_of Kind.Memory)
         ⊎ ((bytes : List ℕ) → IsRead MAX_LEVEL bytes store.old pattern.now
-        → RefusesInForm form bytes fault)) }
+        → HoldsOneFile bytes store.old → RefusesInForm form bytes fault)) }
 {
     patterns_fit();
     files_are_unique();
     match form {
         Form::Placed => text_of(alloc, store, pattern),
-        Form::Moved => moved_text(alloc, store, pattern),
+        Form::Moved => {
+            let text = moved_text(alloc, store, pattern);
+            // As in `pattern_of`.
+            let _ = store.len();
+            text
+        }
         Form::Turned => turned_text(alloc, store, pattern),
     }
 }
@@ -87,7 +93,8 @@ pub(crate) fn are_same_in(
         → IsRead MAX_LEVEL second store.old b.now → ¬ HasTooMany form MAX_LEVEL first second) }
     ensures fault { IfErr result (λ fault. (fault ≡ fault_of Kind.Memory)
         ⊎ ((first second : List ℕ) → IsRead MAX_LEVEL first store.old a.now
-        → IsRead MAX_LEVEL second store.old b.now → RefusesSame form first second fault)) }
+        → IsRead MAX_LEVEL second store.old b.now → HoldsTwoFiles first second store.old
+        → RefusesSame form first second fault)) }
 {
     patterns_fit();
     patterns_tell_files();
@@ -95,7 +102,12 @@ pub(crate) fn are_same_in(
     files_are_on_plane();
     match form {
         Form::Placed => Ok(are_same(a, b)),
-        Form::Moved => are_shifts(alloc, store, a, b),
+        Form::Moved => {
+            let answer = are_shifts(alloc, store, a, b);
+            // As in `pattern_of`.
+            let _ = store.len();
+            answer
+        }
         Form::Turned => are_turns(alloc, store, a, b),
     }
 }

@@ -1,7 +1,7 @@
 //! The work of a task.
 
 ghost use Rattle.std.specs.Prelude.{◌≡◌, ◌≢◌, ◌⊎◌, ◌<◌, ◌↔◌, ◌^◌, IsSome, IfSome, IfOk, IfErr, OnOk, IsErrAnd, IsTrue, Ok, Err, true, false};
-ghost use Rattle.life_cli.specs.Words.{Appends, SourceRun, source_run, optional_source_run, sink_run, Refusal, Refuses, Keeps, held, AreWorking, ReadsPattern, RunsCanon, AreOfInput, IsRleOf, IsShown, fault_line, refusal_of, status_of, Tells, made_status, made_text, MadeOf, TaskMakes, Worked, OfFile, InputRefuses, BreaksOff, ComesOf, AreUncompared, CanonRefuses, IsPatternIn, IsWantFor, TaskRan, TaskRefuses, RefusesMany, HasSecond, WritesPlacedText, task_of};
+ghost use Rattle.life_cli.specs.Words.{Appends, SourceRun, source_run, optional_source_run, sink_run, Refusal, Refuses, Keeps, held, AreWorking, ReadsPattern, ReadsWhole, RunsCanon, AreOfInput, IsRleOf, IsShown, fault_line, refusal_of, status_of, Tells, made_status, made_text, MadeOf, TaskMakes, Worked, OfFile, InputRefuses, BreaksOff, ComesOf, AreUncompared, CanonRefuses, IsPatternIn, IsWantFor, TaskRan, TaskRefuses, RefusesMany, HasSecond, WritesPlacedText, task_of};
 
 use crate::forms::{are_same_in, text_of_source};
 use crate::plans::{Form, Job, Target, Task};
@@ -75,6 +75,8 @@ pub(crate) fn pattern_of<A: Source>(
     requires { A.failures source.old ≡ 0 }
     ensures reads { ReadsPattern (2 ^ 30) store.old store.new
         (source_run A.remaining A.failures source.old source.new) result }
+    ensures only { IfOk result (ReadsWhole (2 ^ 30) store.old store.new
+        (source_run A.remaining A.failures source.old source.new)) }
     ensures squares { AreOfInput (held store.old) (A.remaining source.old) (held store.new) }
 {
     let pattern = read_from(alloc, store, source);
@@ -131,7 +133,7 @@ fn five_lines_of_source<A: Source>(
     five_lines_of(alloc, &store, &pattern)
 }
 
-/// Whether a fault of this kind is none of a file: the device failed, too much came, or room or memory is wanted.
+/// Whether a fault of this kind isn't in a file: the device failed, the input is too long, the store is full, or memory ran out.
 fn is_of_no_file(kind: Kind) -> bool
     ensures { IsTrue result ↔ ((kind ≡ Kind.ReadFault)
         ⊎ ((kind ≡ Kind.InputTooLong) ⊎ ((kind ≡ Kind.Full) ⊎ (kind ≡ Kind.Memory)))) }
@@ -149,8 +151,8 @@ fn pattern_in<A: Source>(
     source: &mut A,
 ) -> Result<Result<Pattern, Fault>, Fault>
     requires { A.failures source.old ≡ 0 }
-    ensures pattern { IfOk result
-        (IsPatternIn store.new (source_run A.remaining A.failures source.old source.new)) }
+    ensures pattern { IfOk result (IsPatternIn store.old store.new
+        (source_run A.remaining A.failures source.old source.new)) }
     ensures err { IfErr result (λ fault. InputRefuses
         (source_run A.remaining A.failures source.old source.new) fault
         ⊎ IsWantFor (held store.old) (source_run A.remaining A.failures source.old source.new)
@@ -168,7 +170,7 @@ fn pattern_in<A: Source>(
     }
 }
 
-/// Whether two sources have the same pattern in a form. What keeps `other` from being read is told before the fault of the file of `one`.
+/// Whether two sources have the same pattern in a form. What keeps `other` from being read is reported before the fault of the file of `one`.
 fn compared<A: Source, B: Source>(
     alloc: Global,
     seeds: &Seeds,
@@ -227,7 +229,7 @@ fn made_from_step(text: Result<Vec<u8>, Refusal>) -> Result<Made, Refusal>
     }
 }
 
-/// What is written for a task, of those that don't write the canonical text of a file's pattern as that lies.
+/// What is written for a task, of those that don't write the canonical text of a file's pattern in its place.
 fn make<A: Source, B: Source>(
     alloc: Global,
     seeds: &Seeds,
@@ -258,7 +260,7 @@ fn make<A: Source, B: Source>(
     }
 }
 
-/// Whether the task writes the canonical text of its file's pattern as that lies.
+/// Whether the task writes the canonical text of its file's pattern in its place.
 fn writes_placed_text(task: &Task) -> bool
     ensures { IsTrue result ↔ WritesPlacedText task.now }
 {
@@ -296,8 +298,13 @@ fn run_canonical<A: Source, O: Sink>(
     Ok(0)
 }
 
-/// Does the task, and answers the status of one that is done.
-fn run<A: Source, B: Source, O: Sink>(
+/// Does the task, and returns the status of one that is done: 1 where two files differ, and otherwise 0. `second` is the second file of a task that has
+/// one. The seeds decide time alone.
+///
+/// # Errors
+///
+/// Why the task is refused. Nothing is written then, unless the output itself failed, which is `WriteFault`.
+pub fn carry_out<A: Source, B: Source, O: Sink>(
     alloc: Global,
     seeds: &Seeds,
     task: &Task,
@@ -325,7 +332,7 @@ fn run<A: Source, B: Source, O: Sink>(
     Ok(made.status())
 }
 
-/// Does the task, and answers the status that the program ends with. `second` is the second file of a task that has one. The seeds decide time alone.
+/// Does the task, and returns the status that the program ends with. `second` is the second file of a task that has one. The seeds decide time alone.
 pub fn work_seeded<A: Source, B: Source, O: Sink, E: Sink>(
     alloc: Global,
     seeds: &Seeds,
@@ -364,7 +371,7 @@ pub fn work_seeded<A: Source, B: Source, O: Sink, E: Sink>(
     ensures write_told { (O.failures out.new ≡ 1) ⊎ (O.stalled out.new ≡ true)
         → result ≡ status_of Kind.WriteFault }
 {
-    match run(alloc, seeds, task, first, second, out) {
+    match carry_out(alloc, seeds, task, first, second, out) {
         Ok(status) => status,
         Err(refusal) => {
             tell(err, &refusal);

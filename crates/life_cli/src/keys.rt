@@ -13,16 +13,16 @@ use life_quad::Shared;
 use sha2::{Digest, Sha256};
 use std::alloc::Global;
 
-mod files;
-mod lines;
-mod names;
-mod outcome;
-mod outputs;
+pub(crate) mod files;
+pub(crate) mod lines;
+pub(crate) mod names;
+pub(crate) mod outcome;
+pub(crate) mod outputs;
 mod runs;
 
 pub use runs::write_keys;
 
-/// The key of a source's pattern as it lies. Its text is hashed as it is made, and not held.
+/// The key of a source's pattern in its place. Its text is hashed as it is made, and isn't stored.
 fn placed_key<A: Source>(alloc: Global, seeds: &Seeds, source: &mut A) -> Result<[u8; 32], Fault>
     requires { A.failures source.old ≡ 0 }
     ensures { ComesOf (λ key. key) (IsKeyIn Form.Placed MAX_LEVEL) (RefusesInForm Form.Placed)

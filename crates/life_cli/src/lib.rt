@@ -1,18 +1,20 @@
 //! What the program `golly_canon` does, over any words, sources and sinks.
 #![tactic(auto)]
 
+mod duplicates;
 mod forms;
 mod jobs;
 mod keys;
+pub mod laws;
 mod origins;
 pub mod plans;
 mod refusals;
 mod reports;
 mod seeds;
-mod sentences;
 mod steps;
 
-pub use jobs::{work, work_seeded};
+pub use duplicates::write_duplicates;
+pub use jobs::{carry_out, work, work_seeded};
 pub use keys::write_keys;
 pub use origins::{Opened, Origin, open_files};
 pub use plans::requests::{plan, request};

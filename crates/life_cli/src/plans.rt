@@ -1,4 +1,4 @@
-//! What the words of the command line ask for.
+//! What the arguments of the command line ask for.
 
 use clap::Error;
 use std::alloc::AllocError;
@@ -59,7 +59,7 @@ impl From<Job> for Task {
 /// The form that a pattern is taken in.
 #[derive(Clone, Copy, PartialEq, Eq, Debug)]
 pub enum Form {
-    /// The pattern as it lies.
+    /// The pattern in its place.
     Placed,
     /// Moved, so that its place doesn't count.
     Moved,
@@ -90,14 +90,18 @@ pub struct TaskPlan {
     pub task: Task,
     pub first: String,
     pub second: Option<String>,
+    /// Whether an error is also explained in a sentence.
+    pub explain: bool,
 }
 
-/// The command `keys`: what it takes, and how it writes.
+/// A command over any number of files, `keys` or `duplicates`: what it takes, and how it writes.
 #[derive(Drop)]
 pub struct KeysPlan<'a> {
     pub form: Form,
     /// Whether names end in NUL in place of LF.
     pub zero: bool,
+    /// Whether a folder represents the files in it and below it.
+    pub recursive: bool,
     /// The list of further files, if one is named.
     pub from: Option<&'a str>,
     pub files: Vec<&'a str>,
@@ -110,6 +114,8 @@ pub enum Request<'a> {
     Work(TaskPlan),
     /// The keys of any number of files.
     Keys(KeysPlan<'a>),
+    /// The groups of files, among any number of them, that are the same pattern.
+    Duplicates(KeysPlan<'a>),
 }
 
 /// Why the words ask for nothing that can be done.
@@ -119,7 +125,7 @@ pub enum Usage {
     Words(Error),
     /// The words name `-` for two files.
     TwoInputs,
-    /// The words are right, but there was no memory for the copy of a file's name.
+    /// The arguments are right, but there was no memory for the copy of a file's name.
     Memory,
 }
 

@@ -29,7 +29,7 @@ impl From<Fault> for Refusal {
     }
 }
 
-/// Whether a line of this kind of fault is one of a rule table, where `in_table` tells whether the table was being read.
+/// Whether a line of this kind of fault is one of a rule table, where `in_table` says whether the table was being read.
 fn is_of_table(in_table: bool, kind: Kind) -> bool
     ensures { result ≡ is_of_table in_table kind }
 {

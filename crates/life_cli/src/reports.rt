@@ -8,7 +8,7 @@ use crate::refusals::{Refusal, status, tell};
 use clap::error::ErrorKind;
 use life_base::{Fault, Kind, Sink, write_text};
 
-/// Writes the line of a fault that is none of a file's text, and answers its status.
+/// Writes the line of a fault that is none of a file's text, and returns its status.
 pub fn refuse<E: Sink>(err: &mut E, kind: Kind) -> u8
     requires { E.failures err.old ≡ 0 }
     ensures told { Tells (sink_run E.contents E.failures E.stalled err.old err.new)
@@ -19,7 +19,7 @@ pub fn refuse<E: Sink>(err: &mut E, kind: Kind) -> u8
     status(kind)
 }
 
-/// Writes the line of words that are at fault, and answers the status.
+/// Writes the line of words that are at fault, and returns the status.
 fn misuse<E: Sink>(err: &mut E, line: &[u8]) -> u8
     requires { E.failures err.old ≡ 0 }
     ensures told { Tells (sink_run E.contents E.failures E.stalled err.old err.new) line.now }

@@ -27,7 +27,10 @@ pub(crate) fn next_of<A: Source>(
 {
     let mut store = Shared::seeded(alloc, seeds.squares, MOST_SQUARES);
     let pattern = pattern_of(alloc, &mut store, first)?;
-    next_by_rule(alloc, &mut store, pattern)
+    let text = next_by_rule(alloc, &mut store, pattern);
+    // As in `pattern_of`.
+    let _ = store.len();
+    text
 }
 
 /// The text of the next generation of a source's pattern, by a table.
@@ -43,7 +46,10 @@ fn next_by<A: Source>(
 {
     let mut store = Shared::seeded(alloc, seeds.squares, MOST_SQUARES);
     let pattern = pattern_of(alloc, &mut store, first)?;
-    next_by_table(alloc, &mut store, pattern, table)
+    let text = next_by_table(alloc, &mut store, pattern, table);
+    // As in `pattern_of`.
+    let _ = store.len();
+    text
 }
 
 /// The bytes of a source, read to its end.

@@ -14,7 +14,7 @@ use std::alloc::Global;
 use std::io::{self, Read, Write};
 use std::process::Abort;
 
-/// A reader of std that gives `piece` bytes at a time, and is interrupted behind some calls.
+/// A reader of std that gives `piece` bytes at a time, and is interrupted after some calls.
 #[derive(Drop)]
 pub struct Dripping<'a> {
     left: &'a [u8],
@@ -35,21 +35,21 @@ impl<'a> Read for Dripping<'a> {
     }
 }
 
-/// A source of these bytes, `piece` at a time, that fails behind so many reads.
+/// A source of these bytes, `piece` at a time, that fails after so many reads.
 fn source_in_pieces(left: &[u8], piece: usize, good: usize) -> Device<Dripping<'_>>
     ensures { has_failed result ≡ false }
 {
     Device::new(Dripping { left, piece, good })
 }
 
-/// A source of these bytes, one at a time, that fails behind so many reads.
+/// A source of these bytes, one at a time, that fails after so many reads.
 pub(super) fn source_of(left: &[u8], good: usize) -> Device<Dripping<'_>>
     ensures { has_failed result ≡ false }
 {
     source_in_pieces(left, 1, good)
 }
 
-/// What becomes of a writer behind its room: it takes no more, fails with such an error, or can't flush and fails with such an error.
+/// What a writer does once it is full: it takes no more, fails with such an error, or can't flush and fails with such an error.
 #[derive(Clone, Copy)]
 pub(super) enum End {
     Stops,
@@ -132,13 +132,13 @@ impl Sink for Limited {
     }
 }
 
-/// Room for every text that a test writes, in pieces of seven bytes.
+/// Space for every text that a test writes, in pieces of seven bytes.
 pub(super) const WIDE: (usize, usize) = (9999, 7);
 
-/// What a task leaves whose source fails: it is told so, and writes nothing.
+/// What a task leaves whose source fails: that is reported, and nothing is written.
 pub(super) const READ_FAULT: (u8, &[u8], &[u8]) = (3, b"", b"ReadFault\n");
 
-/// A sink with room for `room` bytes that takes `piece` bytes at a time.
+/// A sink for `room` bytes that takes `piece` bytes at a time.
 pub(super) fn sink_with(alloc: Global, room: usize, piece: usize) -> Limited
     ensures failed { result.failed ≡ false }
     ensures stalled { result.stalled ≡ false }
@@ -153,7 +153,7 @@ pub(super) fn sink_with(alloc: Global, room: usize, piece: usize) -> Limited
     }
 }
 
-/// A task left this. Its status tells a failed output.
+/// A task left this. Its status says that the output failed.
 pub(super) fn assert_left(
     rt: &impl Abort,
     (status, out, err): (u8, Limited, Limited),
@@ -165,7 +165,7 @@ pub(super) fn assert_left(
     assert!(rt; !out.failed || status == 3);
 }
 
-/// The status of a task, and what standard error took, which has room for `heard.0` bytes and takes `heard.1` at a time.
+/// The status of a task, and what standard error took, which has space for `heard.0` bytes and takes `heard.1` at a time.
 pub(super) fn told<A: Source, B: Source, O: Sink>(
     alloc: Global,
     task: &Task,
@@ -186,7 +186,7 @@ pub(super) fn told<A: Source, B: Source, O: Sink>(
     (status, err)
 }
 
-/// A task, where standard output has room for `sink.0` bytes and takes `sink.1` at a time, leaves this: its status, what standard output took, and
+/// A task, where standard output has space for `sink.0` bytes and takes `sink.1` at a time, leaves this: its status, what standard output took, and
 /// what standard error took.
 pub(super) fn assert_task<A: Source, B: Source + Drop>(
     rt: &impl Abort,
@@ -214,6 +214,7 @@ pub(super) fn assert_tasks(rt: &impl Abort, alloc: Global, piece: usize, sink: (
         let second = second.map(|bytes| source_in_pieces(bytes, piece, 999));
         let wanted = (status, text, b"".as_slice());
         assert_task(rt, alloc, &task, &mut first, second, sink, wanted);
+        assert!(rt; !first.failed());
     }
 }
 
@@ -264,40 +265,4 @@ pub(super) fn assert_compared<A: Source, B: Source + Drop>(
 {
     let task = Task::Same(Form::Placed);
     assert_two(rt, alloc, &task, first, second, sink, wanted);
-}
-
-/// A task of two files that are given whole leaves this.
-pub(super) fn assert_files(
-    rt: &impl Abort,
-    alloc: Global,
-    task: &Task,
-    files: (&[u8], &[u8]),
-    wanted: (u8, &[u8], &[u8]),
-)
-    requires { HasSecond task.now }
-{
-    let (a, b) = files;
-    let mut first = Device::new(a);
-    assert_two(rt, alloc, task, &mut first, Device::new(b), WIDE, wanted);
-}
-
-/// A task of one file writes these texts, each for its input.
-pub(super) fn assert_texts(rt: &impl Abort, alloc: Global, task: &Task, rows: &[(&[u8], &[u8])])
-    requires { ¬ HasSecond task.now }
-{
-    for (input, text) in rows {
-        let mut first = Device::new(*input);
-        assert_one(rt, alloc, task, &mut first, WIDE, (0, text, b""));
-        assert!(rt; !first.failed());
-    }
-}
-
-/// A task of one file tells these faults, each of its input.
-pub(super) fn assert_refused(rt: &impl Abort, alloc: Global, task: &Task, rows: &[(&[u8], &[u8])])
-    requires { ¬ HasSecond task.now }
-{
-    for (input, line) in rows {
-        let mut first = Device::new(*input);
-        assert_one(rt, alloc, task, &mut first, WIDE, (2, b"", line));
-    }
 }

@@ -1,4 +1,4 @@
-//! Each call of a device in turn fails: each read, also the one behind the last byte, a write behind a front of the text, and the flush.
+//! Each call of a device in turn fails: each read, also the one after the last byte, a write after a prefix of the text, and the flush.
 
 ghost use Rattle.std.specs.Prelude.{◌≡◌, ◌↔◌, IsSome, IfSome};
 ghost use Rattle.life_cli.specs.Plans.{HasSecond};
@@ -13,7 +13,7 @@ use std::alloc::Global;
 use std::io;
 use std::process::Abort;
 
-/// A task whose first file fails at any of its reads is told so.
+/// A task whose first file fails at any of its reads reports that.
 fn assert_reads_fail(
     rt: &impl Abort,
     alloc: Global,
@@ -49,12 +49,12 @@ fn each_read_of_the_second_file_fails(rt: HostRuntime) {
     }
 }
 
-/// Whether the line of a failed write was told.
+/// Whether the line of a failed write was reported.
 fn is_write_fault(err: &Limited) -> bool {
     err.taken.as_slice() == b"WriteFault\n".as_slice()
 }
 
-/// A task whose output takes the text only up to some byte is told so, and has written what was taken.
+/// A task whose output takes the text only up to some byte reports that, and has written what was taken.
 fn assert_front<B: Source>(
     rt: &impl Abort,
     alloc: Global,
@@ -108,7 +108,7 @@ fn each_write_fails(rt: HostRuntime) {
     }
 }
 
-/// A text that is written whole and can't be flushed is told so.
+/// A text that is written whole and can't be flushed is reported.
 #[test]
 fn each_flush_fails(rt: HostRuntime) {
     for (task, first, second, _, text) in TASKS {
@@ -118,7 +118,7 @@ fn each_flush_fails(rt: HostRuntime) {
     }
 }
 
-/// Where standard error takes only a front of the fault's line, the status stays.
+/// Where standard error takes only a prefix of the fault's line, the status stays.
 fn assert_error_front(rt: &impl Abort, alloc: Global, room: usize, piece: usize, wanted: &[u8]) {
     let mut first = Device::new(b"o!\n".as_slice());
     let mut second = None::<Device<&[u8]>>;

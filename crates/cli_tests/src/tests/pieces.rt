@@ -18,7 +18,7 @@ fn taken_byte_after_byte(rt: HostRuntime) {
     assert_tasks(&rt, rt.alloc(), 9999, (9999, 1));
 }
 
-/// A failure behind the last byte is told, also in place of a fault of the file.
+/// A failure after the last byte is reported, also in place of a fault of the file.
 #[test]
 fn failing_behind_the_last_byte(rt: HostRuntime) {
     let alloc = rt.alloc();

@@ -1,7 +1,7 @@
 //! What the words of a command line ask for.
 
 use clap::error::ErrorKind;
-use life_cli::plans::{Form, Request, Task};
+use life_cli::plans::{Form, KeysPlan, Request, Task};
 use life_cli::{Job, Target, Usage, plan, request};
 use std::alloc::Global;
 use std::process::Abort;
@@ -127,14 +127,142 @@ fn requests_in_forms(rt: HostRuntime) {
     }
 }
 
-/// So have words that ask for keys.
+/// Whether the words ask for a task whose errors are explained, or don't, or ask for no task.
+fn is_explained(alloc: Global, words: &[&str]) -> Option<bool> {
+    match request(alloc, words) {
+        Ok(Request::Work(plan)) => Some(plan.explain),
+        _ => None,
+    }
+}
+
+/// The plan of words that ask for a sentence about an error is the same; their request says that they do.
 #[test]
-fn keys_have_no_plan(rt: HostRuntime) -> Result<(), Fail> {
-    let words = [NAME, "keys", "a"];
-    assert!(rt; refusal_of(rt.alloc(), &words) == Some(ErrorKind::InvalidSubcommand));
-    match request(rt.alloc(), &words) {
-        Ok(Request::Keys(_)) => Ok(()),
-        _ => Err("no keys")?,
+fn explanations(rt: HostRuntime) {
+    let rows: [(&[&str], Job, Option<&str>); 5] = [
+        (&[NAME, "canon", "-", "--explain"], Job::Canon, None),
+        (
+            &[NAME, "convert", "--explain", "--to", "mc", "-"],
+            Job::Convert(Target::Mc),
+            None,
+        ),
+        (&[NAME, "same", "-", "--explain", "b"], Job::Same, Some("b")),
+        (&[NAME, "show", "--explain", "--", "-"], Job::Show, None),
+        (
+            &[NAME, "step", "-", "--table=a", "--explain"],
+            Job::StepTable,
+            Some("a"),
+        ),
+    ];
+    for (words, job, second) in rows {
+        assert_plan(&rt, rt.alloc(), words, job, "-", second);
+        assert_request(&rt, rt.alloc(), words, Task::from(job), "-", second);
+        assert!(rt; is_explained(rt.alloc(), words) == Some(true));
+    }
+    let silent: [&[&str]; 3] = [
+        &[NAME, "canon", "-"],
+        &[NAME, "show", "--", "--explain"],
+        &[NAME, "same", "-", "b", "--form", "moved"],
+    ];
+    for words in silent {
+        assert!(rt; is_explained(rt.alloc(), words) == Some(false));
+    }
+}
+
+/// The plan of `keys` or of `duplicates`, and whether it is that of `duplicates`.
+fn plan_of_files<'a>(alloc: Global, words: &'a [&'a str]) -> Option<(KeysPlan<'a>, bool)> {
+    match request(alloc, words) {
+        Ok(Request::Keys(plan)) => Some((plan, false)),
+        Ok(Request::Duplicates(plan)) => Some((plan, true)),
+        _ => None,
+    }
+}
+
+/// The words ask for the keys or the duplicates of these files, and have no plan for a job.
+fn assert_files(
+    rt: &impl Abort,
+    alloc: Global,
+    words: &[&str],
+    form: Form,
+    is_duplicates: bool,
+    files: &[&str],
+) {
+    assert!(rt; refusal_of(alloc, words) == Some(ErrorKind::InvalidSubcommand));
+    let Some((found, of_duplicates)) = plan_of_files(alloc, words) else {
+        panic!(rt; "refused");
+    };
+    assert!(rt; found.form == form && of_duplicates == is_duplicates);
+    assert!(rt; found.files.len() == files.len());
+    for (name, wanted) in found.files.iter().zip(files) {
+        assert!(rt; *name == *wanted);
+    }
+}
+
+/// `keys` takes patterns as they lie, and `duplicates` in the moved form, where none is given.
+#[test]
+fn requests_over_any_files(rt: HostRuntime) {
+    let rows: [(&[&str], Form, bool, &[&str]); 8] = [
+        (&[NAME, "keys", "a"], Form::Placed, false, &["a"]),
+        (
+            &[NAME, "keys", "-r", "b", "a"],
+            Form::Placed,
+            false,
+            &["b", "a"],
+        ),
+        (
+            &[NAME, "keys", "a", "--form", "turned", "-"],
+            Form::Turned,
+            false,
+            &["a", "-"],
+        ),
+        (&[NAME, "keys", "--from", "l"], Form::Placed, false, &[]),
+        (&[NAME, "duplicates", "a"], Form::Moved, true, &["a"]),
+        (
+            &[NAME, "duplicates", "--zero", "a", "--", "-r"],
+            Form::Moved,
+            true,
+            &["a", "-r"],
+        ),
+        (
+            &[NAME, "duplicates", "--form=placed", "a", "b", "a"],
+            Form::Placed,
+            true,
+            &["a", "b", "a"],
+        ),
+        (&[NAME, "duplicates", "--from", "-"], Form::Moved, true, &[]),
+    ];
+    for (words, form, is_duplicates, files) in rows {
+        assert_files(&rt, rt.alloc(), words, form, is_duplicates, files);
+    }
+}
+
+/// The options of a command over any number of files: --zero, --recursive and --from.
+#[test]
+fn options_over_any_files(rt: HostRuntime) {
+    let rows: [(&[&str], bool, bool, Option<&str>); 8] = [
+        (&[NAME, "keys", "a"], false, false, None),
+        (&[NAME, "keys", "a", "--zero"], true, false, None),
+        (&[NAME, "keys", "-r", "a"], false, true, None),
+        (
+            &[NAME, "keys", "--recursive", "--from", "l"],
+            false,
+            true,
+            Some("l"),
+        ),
+        (&[NAME, "duplicates", "a"], false, false, None),
+        (&[NAME, "duplicates", "--", "a", "-r"], false, false, None),
+        (&[NAME, "duplicates", "a", "-r"], false, true, None),
+        (
+            &[NAME, "duplicates", "--from=-", "--zero", "--recursive"],
+            true,
+            true,
+            Some("-"),
+        ),
+    ];
+    for (words, zero, recursive, from) in rows {
+        let Some((found, _)) = plan_of_files(rt.alloc(), words) else {
+            panic!(rt; "refused");
+        };
+        assert!(rt; found.zero == zero && found.recursive == recursive && found.from == from);
     }
 }
 
@@ -151,7 +279,7 @@ fn refusal_of<'a>(alloc: Global, words: &'a [&'a str]) -> Option<ErrorKind> {
 
 #[test]
 fn usages(rt: HostRuntime) {
-    let rows: [(&[&str], ErrorKind); 24] = [
+    let rows: [(&[&str], ErrorKind); 34] = [
         (&[NAME], ErrorKind::MissingSubcommand),
         (&[NAME, "canon"], ErrorKind::MissingRequiredArgument),
         (&[NAME, "canon", "a", "b"], ErrorKind::UnknownArgument),
@@ -201,6 +329,31 @@ fn usages(rt: HostRuntime) {
             &[NAME, "show", "a", "--table", "b"],
             ErrorKind::UnknownArgument,
         ),
+        (&[NAME, "canon", "-r", "a"], ErrorKind::UnknownArgument),
+        (&[NAME, "keys"], ErrorKind::MissingRequiredArgument),
+        (&[NAME, "keys", "-R", "a"], ErrorKind::UnknownArgument),
+        (
+            &[NAME, "keys", "--explain", "a"],
+            ErrorKind::UnknownArgument,
+        ),
+        (&[NAME, "duplicates"], ErrorKind::MissingRequiredArgument),
+        (
+            &[NAME, "duplicates", "-r", "--zero"],
+            ErrorKind::MissingRequiredArgument,
+        ),
+        (
+            &[NAME, "duplicates", "a", "--explain"],
+            ErrorKind::UnknownArgument,
+        ),
+        (
+            &[NAME, "duplicates", "a", "--form", "none"],
+            ErrorKind::InvalidValue,
+        ),
+        (&[NAME, "duplicates", "--help"], ErrorKind::DisplayHelp),
+        (
+            &[NAME, "canon", "a", "--explain", "--explain"],
+            ErrorKind::ArgumentConflict,
+        ),
         (&[NAME, "--help"], ErrorKind::DisplayHelp),
         (&[NAME, "--version"], ErrorKind::DisplayVersion),
     ];
@@ -211,7 +364,9 @@ fn usages(rt: HostRuntime) {
 
 #[test]
 fn standard_input_once(rt: HostRuntime) -> Result<(), Fail> {
-    let rows: [&[&str]; 4] = [
+    let rows: [&[&str]; 6] = [
+        &[NAME, "duplicates", "-", "a", "-"],
+        &[NAME, "duplicates", "--from", "-", "-r", "-"],
         &[NAME, "same", "-", "-"],
         &[NAME, "same", "-", "-", "--form", "none"],
         &[NAME, "same", "--", "-", "-"],

@@ -1,51 +1,11 @@
-//! What the jobs other than `canon` are refused for, in which order.
+//! The jobs other than `canon` over devices that fail.
 
 use super::TWINS;
-use super::devices::{READ_FAULT, WIDE, assert_compared, assert_files, assert_one, source_of};
+use super::devices::{READ_FAULT, WIDE, assert_compared, assert_one, source_of};
 use life_base::Device;
-use life_cli::plans::{Form, Target, Task};
+use life_cli::plans::{Target, Task};
 
-#[test]
-fn first_refusal_of_two(rt: HostRuntime) {
-    let rows: [(&[u8], &[u8], &[u8]); 4] = [
-        (b"x = 1, y = 1\nB!\n", b"", b"line 2: StateRange\n"),
-        (b"", b"x = 1, y = 1\nB!\n", b"line 1: NoHeader\n"),
-        (TWINS, b"x = 1, y = 1\nB!\n", b"line 2: StateRange\n"),
-        (b"x = 1, y = 1\n0o!\n", TWINS, b"line 2: ZeroCount\n"),
-    ];
-    for (a, b, line) in rows {
-        assert_files(
-            &rt,
-            rt.alloc(),
-            &Task::Same(Form::Placed),
-            (a, b),
-            (2, b"", line),
-        );
-    }
-}
-
-#[test]
-fn refused_texts(rt: HostRuntime) {
-    let rows: [(Task, &[u8], &[u8]); 3] = [
-        (Task::Show, b"o!\n", b"line 1: NoHeader\n"),
-        (
-            Task::Convert(Target::Mc),
-            b"[M2]\n#FRAMES 10 0 1\n",
-            b"line 2: Timeline\n",
-        ),
-        (
-            Task::Convert(Target::Rle),
-            b"x = 1, y = 1\n1048577o!\n",
-            b"TooManyCells\n",
-        ),
-    ];
-    for (task, input, line) in rows {
-        let mut first = Device::new(input);
-        assert_one(&rt, rt.alloc(), &task, &mut first, WIDE, (2, b"", line));
-    }
-}
-
-/// The second file is read to its end before what is wrong with the first one is told.
+/// The second file is read to its end before what is wrong with the first one is reported.
 #[test]
 fn failing_sources(rt: HostRuntime) {
     let alloc = rt.alloc();

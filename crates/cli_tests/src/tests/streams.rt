@@ -154,7 +154,7 @@ fn texts_are_written_one_after_another(rt: HostRuntime) {
     assert!(rt; taken.as_slice() == b"abcdefgh".as_slice());
 }
 
-/// Of `abcdefgh`, in two texts, a writer has the bytes that it had room for: it takes no more, or fails.
+/// Of `abcdefgh`, in two texts, a writer has the bytes that fitted: it takes no more, or fails.
 fn assert_front(rt: &impl Abort, alloc: Global, room: usize, end: End, wanted: Result<(), Kind>) {
     let mut taken = Vec::new(alloc);
     let mut writer = Device::new(Narrow {

@@ -18,7 +18,7 @@ const LONGEST_LIST: u64 = 1 << 30;
 
 /// How the files of a run are opened, and in which form their patterns are taken.
 #[derive(Drop)]
-pub(super) struct Files<F> {
+pub(crate) struct Files<F> {
     pub alloc: Global,
     pub seeds: Seeds,
     pub form: Form,
@@ -55,7 +55,7 @@ fn list_bytes<R: Source>(alloc: Global, source: &mut R) -> Result<Vec<u8>, Kind>
 
 impl<R: Source + Drop, F: FnMut(Origin<'_>) -> IoResult<R> + Drop> Files<F> {
     /// Opens what a name names, and reads it to its end.
-    pub(super) fn outcome(&mut self, origin: Origin<'_>) -> Outcome
+    pub(crate) fn outcome(&mut self, origin: Origin<'_>) -> Outcome
         requires callable { F.IsAlwaysCallable self.old.opener }
         ensures callable { F.IsAlwaysCallable self.new.opener }
         ensures comes { (given : _) × F.step self.old.opener origin.entry given self.new.opener
@@ -69,7 +69,7 @@ impl<R: Source + Drop, F: FnMut(Origin<'_>) -> IoResult<R> + Drop> Files<F> {
     }
 
     /// The same of a name in a list, which is a file, and can't be opened where it is no UTF-8 text.
-    pub(super) fn listed_outcome(&mut self, name: &[u8]) -> Outcome
+    pub(crate) fn listed_outcome(&mut self, name: &[u8]) -> Outcome
         requires callable { F.IsAlwaysCallable self.old.opener }
         ensures callable { F.IsAlwaysCallable self.new.opener }
         ensures takes { Takes F.step R.remaining R.failures self.old.form self.old.opener
@@ -83,7 +83,7 @@ impl<R: Source + Drop, F: FnMut(Origin<'_>) -> IoResult<R> + Drop> Files<F> {
     }
 
     /// The bytes of the list that a word names, or none.
-    pub(super) fn list(&mut self, from: Option<&str>) -> Result<Vec<u8>, Kind>
+    pub(crate) fn list(&mut self, from: Option<&str>) -> Result<Vec<u8>, Kind>
         requires callable { F.IsAlwaysCallable self.old.opener }
         ensures callable { F.IsAlwaysCallable self.new.opener }
         ensures ok { IfOk result (λ bytes. ReadsList F.step R.remaining R.failures

@@ -4,13 +4,13 @@ ghost use Rattle.std.specs.Prelude.{◌≡◌, ◌<◌, ◌≤◌, ◌⊎◌, []
 ghost use Rattle.life_cli.specs.Words.{list_any, LeavesSink, WritesText, error_line, escaped, escaped_byte, fault_text, is_special, key_line, name_mark, reason_of, refused_line, unopened_line, IsMemory};
 
 use super::outcome::Outcome;
-use crate::sentences::sentence;
+use fault_sentences::sentence;
 use itoa::Buffer;
 use life_base::{Fault, Kind, Sink, append, write_text, write_texts};
 use memchr::memchr3;
 use std::io::ErrorKind;
 
-/// How many bytes at the front of a name are written as they are: those before the first backslash, LF or CR.
+/// How many bytes at the beginning of a name are written as they are: those before the first backslash, LF or CR.
 fn plain_front(name: &[u8]) -> usize
     ensures plain { escaped (take result name.now) ≡ take result name.now }
     ensures within { result ≤ length name.now }
@@ -62,7 +62,7 @@ fn append_escaped(line: &mut Vec<u8>, name: &[u8]) -> Result<(), Kind>
 }
 
 /// Writes a name, with backslash, LF and CR escaped.
-fn write_escaped<E: Sink>(err: &mut E, name: &[u8]) -> Result<(), Kind>
+pub(crate) fn write_escaped<E: Sink>(err: &mut E, name: &[u8]) -> Result<(), Kind>
     requires { E.failures err.old ≡ 0 }
     ensures text { WritesText (E.contents err.old) (E.contents err.new) (escaped name.now) result }
     ensures sink { LeavesSink E.failures E.stalled err.old err.new result }
@@ -76,7 +76,7 @@ fn write_escaped<E: Sink>(err: &mut E, name: &[u8]) -> Result<(), Kind>
     Ok(())
 }
 
-/// The mark in front of a line whose name is escaped.
+/// The mark before a line whose name is escaped.
 fn mark(name: &[u8]) -> &'static [u8]
     ensures { result.now ≡ name_mark name.now }
 {
@@ -131,7 +131,7 @@ pub(super) fn append_key_line(
     }
 }
 
-/// Writes a name and the mark behind it.
+/// Writes a name and the mark after it.
 fn write_name<E: Sink>(err: &mut E, name: &[u8]) -> Result<(), Kind>
     requires { E.failures err.old ≡ 0 }
     ensures text { WritesText (E.contents err.old) (E.contents err.new)
@@ -142,7 +142,7 @@ fn write_name<E: Sink>(err: &mut E, name: &[u8]) -> Result<(), Kind>
     write_text(err, b": ")
 }
 
-/// Writes what is told of a fault.
+/// Writes the report of a fault.
 fn write_fault<E: Sink>(err: &mut E, fault: &Fault) -> Result<(), Kind>
     requires { E.failures err.old ≡ 0 }
     ensures text { WritesText (E.contents err.old) (E.contents err.new) (fault_text fault.now)

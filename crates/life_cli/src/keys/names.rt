@@ -5,8 +5,8 @@ ghost use Rattle.life_cli.specs.Words.{pieces_of};
 
 use memchr::memchr;
 
-/// The first name of a list whose names end in this byte, and what stands behind its end. The last name may lack its end.
-pub(super) fn first_name(list: &[u8], end: u8) -> (&[u8], &[u8])
+/// The first name of a list whose names end in this byte, and what follows its end. The last name may lack its end.
+pub(crate) fn first_name(list: &[u8], end: u8) -> (&[u8], &[u8])
     requires { 0 < length list.now }
     ensures first { pieces_of end list.now ≡ result.0.now ∷ pieces_of end result.1.now }
     ensures shorter { length result.1.now < length list.now }

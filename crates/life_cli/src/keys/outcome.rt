@@ -12,7 +12,7 @@ use std::io::ErrorKind;
 pub enum Outcome {
     /// It has this key.
     Key([u8; 32]),
-    /// It has none for this fault, want of room or memory among them.
+    /// It has none because of this fault; a full store and memory that ran out are faults too.
     Refused(Fault),
     /// It can't be opened.
     Unopened(ErrorKind),
@@ -20,7 +20,7 @@ pub enum Outcome {
 
 impl Outcome {
     /// The status of the file.
-    pub(super) fn status(&self) -> u8
+    pub(crate) fn status(&self) -> u8
         ensures { result ≡ outcome_status self.now }
     {
         match self {

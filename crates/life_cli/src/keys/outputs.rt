@@ -10,16 +10,16 @@ use crate::reports::refuse;
 use life_base::{Fault, Kind, Sink, write_text};
 use std::alloc::Global;
 
-/// What a run keeps beside its outputs.
+/// What a run keeps besides its outputs.
 #[derive(Drop)]
 pub struct Outputs {
     /// Whether names end in NUL in place of LF.
     pub zero: bool,
-    /// Whether standard error takes what is told: it hasn't failed, nor taken no bytes.
+    /// Whether standard error still takes reports: no write to it has failed or taken no bytes.
     pub tells: bool,
     /// The greatest status of a file so far.
     pub status: u8,
-    // Room for the line of a key.
+    // The buffer for the line of a key.
     room: Vec<u8>,
 }
 
@@ -39,8 +39,13 @@ fn make_line(room: &mut Vec<u8>, name: &[u8], outcome: Outcome, zero: bool) -> O
     Outcome::Refused(Fault::of(Kind::Memory))
 }
 
-/// Tells why a file has no key, if `tells`, and answers whether `err` takes more.
-fn tell_outcome<E: Sink>(tells: bool, err: &mut E, name: &[u8], outcome: &Outcome) -> bool
+/// Reports why a file has no key, if `tells`, and returns whether `err` takes more.
+pub(crate) fn tell_outcome<E: Sink>(
+    tells: bool,
+    err: &mut E,
+    name: &[u8],
+    outcome: &Outcome,
+) -> bool
     requires { tells ≡ true → E.failures err.old ≡ 0 }
     ensures { TellsOn E.contents E.failures E.stalled tells result err.old err.new
         (error_line name.now outcome.now) }
@@ -49,6 +54,21 @@ fn tell_outcome<E: Sink>(tells: bool, err: &mut E, name: &[u8], outcome: &Outcom
         write_error_line(err, name, outcome).is_ok()
     } else {
         false
+    }
+}
+
+/// Reports why the run ends early, if `tells`, and returns the status of that.
+pub(crate) fn break_off<E: Sink>(tells: bool, err: &mut E, kind: Kind) -> u8
+    requires { tells ≡ true → E.failures err.old ≡ 0 }
+    ensures told { tells ≡ true → Tells (sink_run E.contents E.failures E.stalled err.old err.new)
+        (fault_line (refusal_of (fault_of kind))) }
+    ensures silent { tells ≡ false → err.new ≡ err.old }
+    ensures status { result ≡ status_of kind }
+{
+    if tells {
+        refuse(err, kind)
+    } else {
+        status(kind)
     }
 }
 
@@ -67,7 +87,7 @@ impl Outputs {
         }
     }
 
-    /// Writes the line of a file's key, as one text, or tells why it has none.
+    /// Writes the line of a file's key, as one text, or reports why it has none.
     pub(super) fn put<W: Sink, E: Sink>(
         &mut self,
         name: &[u8],
@@ -93,7 +113,7 @@ impl Outputs {
         write_text(out, self.room.as_slice())
     }
 
-    /// Tells why the run is broken off, if standard error takes it, and answers the status of that.
+    /// Reports why the run ends early, if standard error takes it, and returns the status of that.
     pub(super) fn break_off<E: Sink>(&self, err: &mut E, kind: Kind) -> u8
         requires hears { self.now.tells ≡ true → E.failures err.old ≡ 0 }
         ensures told { self.now.tells ≡ true
@@ -102,10 +122,6 @@ impl Outputs {
         ensures silent { self.now.tells ≡ false → err.new ≡ err.old }
         ensures status { result ≡ status_of kind }
     {
-        if self.tells {
-            refuse(err, kind)
-        } else {
-            status(kind)
-        }
+        break_off(self.tells, err, kind)
     }
 }

@@ -100,8 +100,8 @@ impl<R: Source + Drop, F: FnMut(Origin<'_>) -> IoResult<R> + Drop> Run<F> {
     }
 }
 
-/// Writes a line for each file that the plan names, in their order: its key and its name. Files that are refused or can't be opened are told on
-/// `err` and passed over. A file that `opener` opens is reported as `ReadFault` exactly where a read of it fails. Answers the status that the program
+/// Writes a line for each file that the plan names, in their order: its key and its name. Files that are refused or can't be opened are reported on
+/// `err` and passed over. A file that `opener` opens is reported as `ReadFault` exactly where a read of it fails. Returns the status that the program
 /// ends with.
 pub fn write_keys<R, F, W, E>(
     alloc: Global,

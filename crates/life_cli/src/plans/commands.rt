@@ -2,9 +2,9 @@
 
 ghost use Rattle.std.specs.Prelude.{IfOk, codes, map};
 ghost use Rattle.clap.specs.Words.{fault_of};
-ghost use Rattle.life_cli.specs.Words.{App, Rule, HasMatchesOf, FailsBy, new_app, with_rule, with_subcommand, required_file, option, required_option, one_file_line, two_files_line, canon_line, convert_line, same_line, step_line, files_rule, files_line, flag, keys_line, named, program, HasRule, ReadsAs};
+ghost use Rattle.life_cli.specs.Words.{App, Rule, HasMatchesOf, FailsBy, new_app, with_rule, with_subcommand, required_file, option, required_option, with_explain, one_file_line, two_files_line, canon_line, convert_line, same_line, show_line, step_line, files_rule, files_line, flag, short_flag, named, program, HasRule, ReadsAs};
 
-use super::help::{CANON, CONVERT, Help, KEYS, PROGRAM, SAME, SHOW, STEP};
+use super::help::{CANON, CONVERT, DUPLICATES, Help, KEYS, PROGRAM, SAME, SHOW, STEP};
 use clap::{Arg, ArgAction, ArgMatches, Command, Error};
 use std::alloc::{AllocError, Global};
 use std::convert::AsStr;
@@ -32,11 +32,16 @@ fn needed_option<'a>(alloc: Global, id: &'a str, value: &'a str, help: &'a str) 
     option(alloc, id, value, help).required(true)
 }
 
+/// The help of the option of a command that takes a pattern in a form: as it lies, where none is given.
+const PLACED_UNLESS_GIVEN: &str = "The form to take: placed (the default), moved or turned";
+
+/// The same of a command that takes the moved form, where none is given.
+const MOVED_UNLESS_GIVEN: &str = "The form to take: placed, moved (the default) or turned";
+
 /// The option of a command that takes a pattern in a form.
-fn form<'a>(alloc: Global) -> Arg<'a>
+fn form<'a>(alloc: Global, help: &'a str) -> Arg<'a>
     ensures { HasRule (option (codes "form")) result }
 {
-    let help = "The form to take: placed, moved or turned";
     option(alloc, "form", "FORM", help)
 }
 
@@ -54,6 +59,13 @@ fn flag<'a>(alloc: Global, id: &'a str, help: &'a str) -> Arg<'a>
 {
     let flag = Arg::new(alloc, id).long(id).action(ArgAction::SetTrue);
     flag.help(help)
+}
+
+/// A flag that also has a name of one letter.
+fn short_flag<'a>(alloc: Global, id: &'a str, letter: char, help: &'a str) -> Arg<'a>
+    ensures { HasRule (short_flag id.entry.now letter) result }
+{
+    flag(alloc, id, help).short(letter)
 }
 
 /// A command with its texts, and no argument yet.
@@ -74,6 +86,25 @@ fn with_argument<'a>(command: Command<'a>, argument: Arg<'a>) -> Result<Command<
     command.arg(argument)
 }
 
+/// The flag that asks for a sentence about an error.
+fn explain<'a>(alloc: Global) -> Arg<'a>
+    ensures { HasRule (flag (codes "explain")) result }
+{
+    let long_help =
+        "After the line on standard error, say in a sentence what is wrong and what to do.
+On a terminal this is the default.";
+    let flag = flag(alloc, "explain", "Say in a sentence, too, what is wrong");
+    flag.long_help(long_help)
+}
+
+/// A command with that flag too.
+fn with_explain<'a>(alloc: Global, command: Command<'a>) -> Result<Command<'a>, AllocError>
+    ensures { (line : App) → ReadsAs line command.entry
+        → IfOk result (ReadsAs (with_explain line)) }
+{
+    with_argument(command, explain(alloc))
+}
+
 /// A command over one file.
 fn one_file<'a>(alloc: Global, name: &'a str, help: Help) -> Result<Command<'a>, AllocError>
     ensures { IfOk result (ReadsAs (one_file_line name.entry.now)) }
@@ -86,7 +117,8 @@ fn canon<'a>(alloc: Global) -> Result<Command<'a>, AllocError>
     ensures { IfOk result (ReadsAs canon_line) }
 {
     let command = one_file(alloc, "canon", CANON)?;
-    with_argument(command, form(alloc))
+    let command = with_argument(command, form(alloc, PLACED_UNLESS_GIVEN))?;
+    with_explain(alloc, command)
 }
 
 fn convert<'a>(alloc: Global) -> Result<Command<'a>, AllocError>
@@ -94,7 +126,8 @@ fn convert<'a>(alloc: Global) -> Result<Command<'a>, AllocError>
 {
     let command = one_file(alloc, "convert", CONVERT)?;
     let help = "The format to write: rle or mc";
-    with_argument(command, needed_option(alloc, "to", "FORMAT", help))
+    let command = with_argument(command, needed_option(alloc, "to", "FORMAT", help))?;
+    with_explain(alloc, command)
 }
 
 /// A command over two files.
@@ -111,26 +144,35 @@ fn same<'a>(alloc: Global) -> Result<Command<'a>, AllocError>
     ensures { IfOk result (ReadsAs same_line) }
 {
     let command = two_files(alloc, "same", SAME)?;
-    with_argument(command, form(alloc))
+    let command = with_argument(command, form(alloc, PLACED_UNLESS_GIVEN))?;
+    with_explain(alloc, command)
 }
 
-/// A command over any number of files, in a form.
-fn any_files<'a>(alloc: Global, name: &'a str, help: Help) -> Result<Command<'a>, AllocError>
+fn show<'a>(alloc: Global) -> Result<Command<'a>, AllocError>
+    ensures { IfOk result (ReadsAs show_line) }
+{
+    let command = one_file(alloc, "show", SHOW)?;
+    with_explain(alloc, command)
+}
+
+/// A command over any number of files, in a form. `form_help` is the help of its option.
+fn any_files<'a>(
+    alloc: Global,
+    name: &'a str,
+    help: Help,
+    form_help: &'a str,
+) -> Result<Command<'a>, AllocError>
     ensures { IfOk result (ReadsAs (files_line name.entry.now)) }
 {
     let files = files(alloc, "Pattern files; one of them may be -, standard input");
     let command = with_argument(described(alloc, name, help), files)?;
-    with_argument(command, form(alloc))
-}
-
-fn keys<'a>(alloc: Global) -> Result<Command<'a>, AllocError>
-    ensures { IfOk result (ReadsAs keys_line) }
-{
-    let command = any_files(alloc, "keys", KEYS)?;
+    let command = with_argument(command, form(alloc, form_help))?;
     let help = "End names in NUL, and write them as they are";
     let command = with_argument(command, flag(alloc, "zero", help))?;
     let help = "Take the files that LIST names too, a file or -: a name a line";
-    with_argument(command, option(alloc, "from", "LIST", help))
+    let command = with_argument(command, option(alloc, "from", "LIST", help))?;
+    let help = "Take the files in a folder and below it, where a FILE is a folder";
+    with_argument(command, short_flag(alloc, "recursive", 'r', help))
 }
 
 fn step<'a>(alloc: Global) -> Result<Command<'a>, AllocError>
@@ -138,7 +180,8 @@ fn step<'a>(alloc: Global) -> Result<Command<'a>, AllocError>
 {
     let command = one_file(alloc, "step", STEP)?;
     let help = "A rule table, a .rule file; only one of the two may be -";
-    with_argument(command, option(alloc, "table", "RULE", help))
+    let command = with_argument(command, option(alloc, "table", "RULE", help))?;
+    with_explain(alloc, command)
 }
 
 /// The program without its commands.
@@ -169,17 +212,20 @@ fn golly_canon<'a>(alloc: Global) -> Result<Command<'a>, AllocError>
     let command = with_command(command, canon(alloc))?;
     let command = with_command(command, convert(alloc))?;
     let command = with_command(command, same(alloc))?;
-    let command = with_command(command, one_file(alloc, "show", SHOW))?;
+    let command = with_command(command, show(alloc))?;
     let command = with_command(command, step(alloc))?;
-    with_command(command, keys(alloc))
+    let keys = any_files(alloc, "keys", KEYS, PLACED_UNLESS_GIVEN);
+    let command = with_command(command, keys)?;
+    let duplicates = any_files(alloc, "duplicates", DUPLICATES, MOVED_UNLESS_GIVEN);
+    with_command(command, duplicates)
 }
 
 /// The matches of the program's words.
 ///
 /// # Errors
 ///
-/// An error of one of the kinds that `clap` states for the words, which help and version are too, or for want of memory. Where it states
-/// none, only for want of memory.
+/// An error of one of the kinds that `clap` states for the words, which help and version are too, or for lack of memory. Where it states
+/// none, only for lack of memory.
 pub fn parse<'a, S: AsStr>(alloc: Global, words: &'a [S]) -> Result<ArgMatches<'a>, Error>
     ensures ok { IfOk result (HasMatchesOf program (map S.text words.entry.now)) }
     ensures kinds { FailsBy (fault_of program (map S.text words.entry.now)) result }

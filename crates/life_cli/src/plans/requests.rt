@@ -11,10 +11,20 @@ use clap::{ArgMatches, Command, Error};
 use std::alloc::Global;
 use std::convert::AsStr;
 
-/// How a command is called.
+/// How the program is called, and each command with an option whose value may be wrong.
 const CALL: &str = "golly_canon <COMMAND>";
 
-/// The refusal of words as this kind, with how the command is called and a message.
+const CANON: &str = "golly_canon canon [OPTIONS] <FILE>";
+
+const CONVERT: &str = "golly_canon convert --to <FORMAT> <FILE>";
+
+const SAME: &str = "golly_canon same [OPTIONS] <A> <B>";
+
+const KEYS: &str = "golly_canon keys [OPTIONS] [FILE]...";
+
+const DUPLICATES: &str = "golly_canon duplicates [OPTIONS] [FILE]...";
+
+/// The refusal of the arguments as this kind, with how the command is called and a message.
 fn refusal_as(alloc: Global, kind: ErrorKind, call: &str, message: &str) -> Usage
     ensures { RefusesAs kind (Unit {0}) result }
 {
@@ -25,11 +35,11 @@ fn refusal_as(alloc: Global, kind: ErrorKind, call: &str, message: &str) -> Usag
     }
 }
 
-/// The refusal of a word behind an option, with the message that says what stands there.
-fn refusal(alloc: Global, message: &str) -> Usage
+/// The refusal of the value of an option, with how the command is called and the message that says which values there are.
+fn refusal(alloc: Global, call: &str, message: &str) -> Usage
     ensures { RefusesWord (Unit {0}) result }
 {
-    refusal_as(alloc, ErrorKind::InvalidValue, CALL, message)
+    refusal_as(alloc, ErrorKind::InvalidValue, call, message)
 }
 
 /// The first value of an option or a file.
@@ -73,7 +83,7 @@ fn target(alloc: Global, found: &ArgMatches<'_>) -> Result<Target, Usage>
     match value(found, "to") {
         Some(word) => match target_named(word) {
             Some(target) => Ok(target),
-            None => Err(refusal(alloc, "the value of --to is rle or mc")),
+            None => Err(refusal(alloc, CONVERT, "the value of --to is rle or mc")),
         },
         None => unreachable!(),
     }
@@ -91,24 +101,41 @@ fn form_named(word: &str) -> Option<Form>
     }
 }
 
-/// The form that `--form` names, or that of a pattern as it lies.
-fn form(alloc: Global, found: &ArgMatches<'_>) -> Result<Form, Usage>
-    ensures ok { IfOk result (HoldsForm (rows_of (found_of found.now))) }
+/// The form that `--form` names, or where it isn't given, the default one. A refusal says how the command is called.
+fn form(
+    alloc: Global,
+    found: &ArgMatches<'_>,
+    default_form: Form,
+    call: &str,
+) -> Result<Form, Usage>
+    ensures ok { IfOk result (HoldsForm default_form (rows_of (found_of found.now))) }
     ensures err { IfErr result (RefusesWord (HasNoForm (rows_of (found_of found.now)))) }
 {
     match value(found, "form") {
         Some(word) => match form_named(word) {
             Some(form) => Ok(form),
-            None => Err(refusal(alloc, "the value of --form is placed, moved or turned")),
+            None => Err(refusal(
+                alloc,
+                call,
+                "the value of --form is placed, moved or turned",
+            )),
         },
-        None => Ok(Form::Placed),
+        None => Ok(default_form),
     }
+}
+
+/// Whether a flag was given.
+fn is_set(found: &ArgMatches<'_>, id: &str) -> bool
+    ensures { HoldsFlag id.now (rows_of (found_of found.now)) result }
+{
+    found.get_flag(id)
 }
 
 /// The plan of a task over one file.
 fn over_file(alloc: Global, found: &ArgMatches<'_>, task: Task) -> Result<TaskPlan, Usage>
     requires { IsFound (codes "FILE") (rows_of (found_of found.now)) }
-    ensures ok { IfOk result (λ p. (p.task ≡ task) × HoldsFile (rows_of (found_of found.now)) p) }
+    ensures ok { IfOk result (λ p. (p.task ≡ task) × HoldsFile (rows_of (found_of found.now)) p
+        × HoldsFlag (codes "explain") (rows_of (found_of found.now)) p.explain) }
     ensures err { IfErr result (λ usage. usage ≡ Usage.Memory) }
 {
     let first = required(alloc, found, "FILE")?;
@@ -116,6 +143,7 @@ fn over_file(alloc: Global, found: &ArgMatches<'_>, task: Task) -> Result<TaskPl
         task,
         first,
         second: None,
+        explain: is_set(found, "explain"),
     })
 }
 
@@ -130,7 +158,8 @@ fn over_files(
     requires first { IsFound first.now (rows_of (found_of found.now)) }
     requires second { IsFound second.now (rows_of (found_of found.now)) }
     ensures ok { IfOk result
-        (λ p. (p.task ≡ task) × HoldsFiles first.now second.now (rows_of (found_of found.now)) p) }
+        (λ p. (p.task ≡ task) × HoldsFiles first.now second.now (rows_of (found_of found.now)) p
+        × HoldsFlag (codes "explain") (rows_of (found_of found.now)) p.explain) }
     ensures err { IfErr result (λ usage. usage ≡ Usage.Memory) }
 {
     let first = required(alloc, found, first)?;
@@ -139,6 +168,7 @@ fn over_files(
         task,
         first,
         second: Some(second),
+        explain: is_set(found, "explain"),
     })
 }
 
@@ -161,20 +191,12 @@ fn no_job(alloc: Global) -> Usage
     refusal_as(alloc, ErrorKind::InvalidSubcommand, CALL, message)
 }
 
-/// The refusal of words that name no file.
-fn lacks_files(alloc: Global) -> Usage
+/// The refusal of words that name no file, with how the command is called.
+fn lacks_files(alloc: Global, call: &str) -> Usage
     ensures { RefusesAs ErrorKind.MissingRequiredArgument (Unit {0}) result }
 {
-    let call = "golly_canon keys [OPTIONS] [FILE]...";
     let message = "a FILE or --from LIST has to be given";
     refusal_as(alloc, ErrorKind::MissingRequiredArgument, call, message)
-}
-
-/// Whether a flag was given.
-fn is_set(found: &ArgMatches<'_>, id: &str) -> bool
-    ensures { HoldsFlag id.now (rows_of (found_of found.now)) result }
-{
-    found.get_flag(id)
 }
 
 /// A copy of a list of names.
@@ -199,8 +221,14 @@ fn values<'a>(alloc: Global, found: &ArgMatches<'a>, id: &str) -> Result<Vec<&'a
     }
 }
 
-fn keys<'a>(alloc: Global, found: &ArgMatches<'a>) -> Result<KeysPlan<'a>, Usage>
-    ensures ok { IfOk result (HoldsKeys (rows_of (found_of found.now))) }
+/// The plan of a command over any number of files. A refusal says how the command is called.
+fn any_files<'a>(
+    alloc: Global,
+    found: &ArgMatches<'a>,
+    default_form: Form,
+    call: &str,
+) -> Result<KeysPlan<'a>, Usage>
+    ensures ok { IfOk result (HoldsKeys default_form (rows_of (found_of found.now))) }
     ensures err { IfErr result (RefusesKeys (rows_of (found_of found.now))) }
 {
     let files = match values(alloc, found, "FILE") {
@@ -209,16 +237,16 @@ fn keys<'a>(alloc: Global, found: &ArgMatches<'a>) -> Result<KeysPlan<'a>, Usage
     };
     let from = value(found, "from");
     if files.is_empty() && from.is_none() {
-        return Err(lacks_files(alloc));
+        return Err(lacks_files(alloc, call));
     }
-    let form = match form(alloc, found) {
+    let form = match form(alloc, found, default_form, call) {
         Ok(form) => form,
         Err(usage) => return Err(usage),
     };
-    let zero = is_set(found, "zero");
     Ok(KeysPlan {
         form,
-        zero,
+        zero: is_set(found, "zero"),
+        recursive: is_set(found, "recursive"),
         from,
         files,
     })
@@ -266,13 +294,23 @@ fn from_command(alloc: Global, matches: &ArgMatches<'_>) -> Result<TaskPlan, Usa
     ensures refused { IfErr result (Explains [] (subcommand_rows_of matches.now)) }
 {
     if let Some(found) = matches.subcommand_matches("canon") {
-        return over_file(alloc, found, Task::Canon(form(alloc, found)?));
+        return over_file(
+            alloc,
+            found,
+            Task::Canon(form(alloc, found, Form::Placed, CANON)?),
+        );
     }
     if let Some(found) = matches.subcommand_matches("convert") {
         return over_file(alloc, found, Task::Convert(target(alloc, found)?));
     }
     if let Some(found) = matches.subcommand_matches("same") {
-        return over_files(alloc, found, Task::Same(form(alloc, found)?), "A", "B");
+        return over_files(
+            alloc,
+            found,
+            Task::Same(form(alloc, found, Form::Placed, SAME)?),
+            "A",
+            "B",
+        );
     }
     if let Some(found) = matches.subcommand_matches("show") {
         return over_file(alloc, found, Task::Show);
@@ -291,8 +329,14 @@ fn request_of<'a>(alloc: Global, matches: &ArgMatches<'a>) -> Result<Request<'a>
     ensures refused { IfErr result (Explains [] (subcommand_rows_of matches.now)) }
 {
     if let Some(found) = matches.subcommand_matches("keys") {
-        return match keys(alloc, found) {
+        return match any_files(alloc, found, Form::Placed, KEYS) {
             Ok(plan) => Ok(Request::Keys(plan)),
+            Err(usage) => Err(usage),
+        };
+    }
+    if let Some(found) = matches.subcommand_matches("duplicates") {
+        return match any_files(alloc, found, Form::Moved, DUPLICATES) {
+            Ok(plan) => Ok(Request::Duplicates(plan)),
             Err(usage) => Err(usage),
         };
     }
@@ -322,9 +366,9 @@ fn from_matches<'a>(alloc: Global, matches: &ArgMatches<'a>) -> Result<Request<'
 /// # Errors
 ///
 /// `Words` with the text to show, where `clap` finds a fault in the words, as which `--help` and `--version` count too, by its kind; where the
-/// word behind `--to` is that of no format or the one behind `--form` that of no form, as `InvalidValue`; where `keys` is given neither a
-/// file nor a list, as `MissingRequiredArgument`; and where `clap`, or the list of the files of `keys`, gets no memory, as `OutOfMemory`.
-/// `TwoInputs` where words without a fault name `-` for two files, whatever stands behind these options. `Memory` where all is right but there is
+/// word after `--to` is that of no format or the one after `--form` that of no form, as `InvalidValue`; where `keys` or `duplicates` is given
+/// neither a file nor a list, as `MissingRequiredArgument`; and where `clap`, or the list of their files, gets no memory, as `OutOfMemory`.
+/// `TwoInputs` where words without a fault name `-` for two files, whatever follows these options. `Memory` where all is right but there is
 /// no memory for the copy of a file's name.
 pub fn request<'a, S: AsStr>(alloc: Global, words: &'a [S]) -> Result<Request<'a>, Usage>
     ensures faultless { OnOk result (fault_of program (map S.text words.entry.now) ≡ []) }
@@ -356,7 +400,7 @@ fn job_of(task: Task) -> Option<Job>
 
 /// The plan of the job, where the task of the plan takes patterns as they lie.
 fn as_they_lie(alloc: Global, plan: TaskPlan) -> Result<Plan, Usage>
-    ensures ok { IfOk result (λ p. plan ≡ task_plan_of p) }
+    ensures ok { IfOk result (λ p. plan ≡ task_plan_of plan.explain p) }
     ensures err { IfErr result (RefusesWord (TakesOtherForm plan.task)) }
 {
     match job_of(plan.task) {
@@ -365,7 +409,7 @@ fn as_they_lie(alloc: Global, plan: TaskPlan) -> Result<Plan, Usage>
             first: plan.first,
             second: plan.second,
         }),
-        None => Err(refusal(alloc, "the value of --form is placed")),
+        None => Err(refusal(alloc, CALL, "the value of --form is placed")),
     }
 }
 
@@ -373,8 +417,8 @@ fn as_they_lie(alloc: Global, plan: TaskPlan) -> Result<Plan, Usage>
 ///
 /// # Errors
 ///
-/// Those of `request`, and `Words` of words that ask for keys, as `InvalidSubcommand`, or for another form than `placed`, as `InvalidValue`:
-/// `request` has a plan for these too.
+/// Those of `request`, and `Words` of words that ask for keys or duplicates, as `InvalidSubcommand`, or for another form than `placed`, as
+/// `InvalidValue`: `request` has a plan for these too. That `--explain` is given isn't stored.
 pub fn plan<S: AsStr>(alloc: Global, words: &[S]) -> Result<Plan, Usage>
     ensures faultless { OnOk result (fault_of program (map S.text words.entry.now) ≡ []) }
     ensures ok { IfOk result (IsPlanOf (subcommand_of program (map S.text words.entry.now))) }
@@ -387,6 +431,7 @@ pub fn plan<S: AsStr>(alloc: Global, words: &[S]) -> Result<Plan, Usage>
     match request(alloc, words) {
         Ok(Request::Work(plan)) => as_they_lie(alloc, plan),
         Ok(Request::Keys(_)) => Err(no_job(alloc)),
+        Ok(Request::Duplicates(_)) => Err(no_job(alloc)),
         Err(usage) => Err(usage),
     }
 }

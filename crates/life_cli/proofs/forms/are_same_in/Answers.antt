@@ -11,19 +11,20 @@ returns-in-Placed-clause-answer c =
 
 pub returns-in-Moved-clause-answer : goal.returns-in-Moved-clause-answer
 returns-in-Moved-clause-answer c =
-    rw c.in-Moved.is (related c.patterns_fit.ensures c.files_are_unique.ensures _ _ _ IsShift c.are_shifts.result c.are_shifts.ensures.answer)
+    rw c.in-Moved.is (related c.patterns_fit.ensures c.files_are_unique.ensures _ _ _ IsShift c.are_shifts-answer.result c.are_shifts-answer.ensures.answer)
 
 pub returns-in-Placed-clause-few : goal.returns-in-Placed-clause-few
 returns-in-Placed-clause-few c = rw c.in-Placed.is (λ first second p q many. many)
 
 pub returns-in-Moved-clause-few : goal.returns-in-Moved-clause-few
 returns-in-Moved-clause-few c =
-    rw c.in-Moved.is (few_shifted c.patterns_fit.ensures c.files_are_unique.ensures _ _ _ c.are_shifts.result c.are_shifts.ensures.few)
+    rw c.in-Moved.is (few_shifted c.patterns_fit.ensures c.files_are_unique.ensures _ _ _ c.are_shifts-answer.result c.are_shifts-answer.ensures.few)
 
 pub returns-in-Moved-clause-fault : goal.returns-in-Moved-clause-fault
 returns-in-Moved-clause-fault c =
-    rw c.in-Moved.is (unshifted c.patterns_fit.ensures c.files_are_unique.ensures _ _ _ c.are_shifts.new.store
-    c.are_shifts.result (c.are_shifts.ensures.keeps.limit ∙ c.requires.limit) c.are_shifts.ensures.fault c.are_shifts.ensures.needed)
+    rw c.in-Moved.is (unshifted c.patterns_fit.ensures c.files_are_unique.ensures _ _ _ c.are_shifts-answer.new.store
+    c.are_shifts-answer.result (c.are_shifts-answer.ensures.keeps.limit ∙ c.requires.limit) c.len.ensures.distinct
+    (λ t there. (c.len.ensures.only t there).0) c.are_shifts-answer.ensures.adds c.are_shifts-answer.ensures.fault c.are_shifts-answer.ensures.needed)
 
 pub returns-in-Turned-clause-answer : goal.returns-in-Turned-clause-answer
 returns-in-Turned-clause-answer c =
@@ -43,11 +44,11 @@ are_turns-requires-clause-a_rule c = rule_of_file c.files_are_on_plane.ensures c
 pub are_turns-requires-clause-b_rule : goal.are_turns-requires-clause-b_rule
 are_turns-requires-clause-b_rule c = rule_of_file c.files_are_on_plane.ensures c.requires.b.0 c.args.store.now c.args.b.now c.requires.b.1
 
-pub are_shifts-requires-clause-a : goal.are_shifts-requires-clause-a
-are_shifts-requires-clause-a c = (c.patterns_fit.ensures c.requires.a.0 c.args.store.now c.args.a.now c.requires.a.1).0
+pub are_shifts-answer-requires-clause-a : goal.are_shifts-answer-requires-clause-a
+are_shifts-answer-requires-clause-a c = (c.patterns_fit.ensures c.requires.a.0 c.args.store.now c.args.a.now c.requires.a.1).0
 
-pub are_shifts-requires-clause-b : goal.are_shifts-requires-clause-b
-are_shifts-requires-clause-b c = (c.patterns_fit.ensures c.requires.b.0 c.args.store.now c.args.b.now c.requires.b.1).0
+pub are_shifts-answer-requires-clause-b : goal.are_shifts-answer-requires-clause-b
+are_shifts-answer-requires-clause-b c = (c.patterns_fit.ensures c.requires.b.0 c.args.store.now c.args.b.now c.requires.b.1).0
 
 pub are_turns-requires-clause-a : goal.are_turns-requires-clause-a
 are_turns-requires-clause-a c = (c.patterns_fit.ensures c.requires.a.0 c.args.store.now c.args.a.now c.requires.a.1).0

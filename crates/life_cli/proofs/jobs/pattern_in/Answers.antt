@@ -3,6 +3,11 @@ use Rattle.life_base.specs.declared.fault.Fault.{Fault}
 use Rattle.life_cli.proofs.WorkLemmas.{no_file, too_small}
 use Rattle.life_cli.proofs.jobs.pattern_in.Goals as goal
 
+pub returns-in-Ok-clause-pattern : goal.returns-in-Ok-clause-pattern
+returns-in-Ok-clause-pattern g c =
+    let whole = c.in-Ok.ensures.only in
+    record { bytes = whole.bytes; read = whole.read; pattern = whole.is; adds = whole.adds; fault = tt }
+
 pub returns-in-Err-clause-err : goal.returns-in-Err-clause-err
 returns-in-Err-clause-err g c =
     no_file _ _ c.pattern_of.new.store c.in-Err.fault c.refusals_have_kinds.ensures c.in-Err.ensures.reads.fault

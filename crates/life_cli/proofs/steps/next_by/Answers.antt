@@ -3,7 +3,7 @@ use Rattle.std.proofs.lemmas.Result.{err_from_is_err_and}
 use Rattle.life_base.specs.declared.cell.TheConstants.{MAX_LEVEL}
 use Rattle.life_canon.specs.Files.{Reads}
 use Rattle.life_canon.specs.Universe.{Universe}
-use Rattle.life_step.specs.Refusals.{LacksForTable, TableRefusal}
+use Rattle.life_step.specs.Refusals.{SomeByTable, TableRefusal}
 use Rattle.life_step.specs.Stepped.{IsSteppedBy}
 use Rattle.life_cli.specs.Jobs.{RefusesStepBy}
 use Rattle.life_cli.proofs.WorkLemmas.{comes_of_pattern, nothing_comes, refused_step}
@@ -16,15 +16,16 @@ returns-in_err-pattern g c =
     (RefusesStepBy c.args.table.now) _ _ _ _ c.seeded-store.ensures.most c.seeded-store.ensures.stored
     c.pattern_of.ensures.squares (λ bytes refuses. inl refuses) c.in_err-pattern.ensures.reads)
 
-pub next_by_table-requires : goal.next_by_table-requires
-next_by_table-requires g c = (c.in_ok-pattern.ensures.reads.pattern.bytes, c.in_ok-pattern.ensures.reads.pattern.is)
+pub next_by_table-text-requires : goal.next_by_table-text-requires
+next_by_table-text-requires g c = (c.in_ok-pattern.ensures.reads.pattern.bytes, c.in_ok-pattern.ensures.reads.pattern.is)
 
 pub returns : goal.returns
 returns g c =
-    comes_of_pattern _ (IsSteppedBy c.args.table.now) (RefusesStepBy c.args.table.now) _ c.pattern_of.new.store c.in_ok-pattern.pattern c.next_by_table.result
-    c.in_ok-pattern.ensures.reads.pattern c.in_ok-pattern.ensures.reads.works c.next_by_table.ensures.stepped
-    (refused_step (LacksForTable c.args.table.now)
-    (λ bytes fault. (u : Universe) × Reads MAX_LEVEL bytes u × TableRefusal MAX_LEVEL c.args.table.now u (Some fault)) _ c.pattern_of.new.store
-    c.next_by_table.new.store c.in_ok-pattern.pattern c.next_by_table.result c.in_ok-pattern.ensures.reads.pattern
-    (c.next_by_table.ensures.keeps.limit ∙ c.pattern_of.ensures.reads.reads.keeps.limit ∙ c.seeded-store.ensures.most)
-    c.next_by_table.ensures.refused c.next_by_table.ensures.needed)
+    comes_of_pattern _ (IsSteppedBy c.args.table.now) (RefusesStepBy c.args.table.now) _ c.pattern_of.new.store c.in_ok-pattern.pattern
+    c.next_by_table-text.result c.in_ok-pattern.ensures.reads.pattern c.in_ok-pattern.ensures.reads.works c.next_by_table-text.ensures.stepped
+    (refused_step (λ P. SomeByTable P c.args.table.now)
+    (λ bytes fault. (u : Universe) × Reads MAX_LEVEL bytes u × TableRefusal MAX_LEVEL c.args.table.now u (Some fault)) _ _ c.pattern_of.new.store
+    c.next_by_table-text.new.store c.in_ok-pattern.pattern c.seeded-store.ensures.stored c.in_ok-pattern.ensures.only
+    (c.next_by_table-text.ensures.keeps.limit ∙ c.pattern_of.ensures.reads.reads.keeps.limit ∙ c.seeded-store.ensures.most)
+    c.len.ensures.distinct (λ t there. (c.len.ensures.only t there).0) c.next_by_table-text.ensures.adds
+    c.next_by_table-text.result c.next_by_table-text.ensures.refused c.next_by_table-text.ensures.needed)

@@ -1,0 +1,115 @@
+//! The names of files with equal keys, in groups.
+
+use super::devices::{assert_left, sink_with};
+use super::{EAST_GLIDER, GLIDER, LINE, TWINS, TWINS_IN_RLE};
+use life_base::Device;
+use life_cli::plans::Request;
+use life_cli::{Origin, Seeds, request, write_duplicates};
+use std::alloc::Global;
+use std::io::{self, Result as IoResult};
+use std::process::Abort;
+
+/// The bytes of the file that has this name.
+fn bytes_of(origin: Origin<'_>) -> IoResult<&'static [u8]> {
+    let Origin::File(name) = origin else {
+        return Ok(b"east\n\nline\nabsent\n");
+    };
+    match name {
+        "glider" => Ok(GLIDER),
+        "east" | "ea\nst" => Ok(EAST_GLIDER),
+        "line" => Ok(LINE),
+        "twins" => Ok(TWINS),
+        "twins.rle" => Ok(TWINS_IN_RLE),
+        "bad" => Ok(b"x"),
+        _ => Err(io::ErrorKind::NotFound.into()),
+    }
+}
+
+/// A run over the files that these words name to the command `keys` prints this, reports this, and ends with this status.
+fn assert_run(
+    rt: &impl Abort,
+    alloc: Global,
+    words: &[&str],
+    text: &[u8],
+    reports: &[u8],
+    status: u8,
+) {
+    let Ok(Request::Keys(plan)) = request(alloc, words) else {
+        panic!(rt; "no keys");
+    };
+    let mut out = sink_with(alloc, 1000, 7);
+    let mut err = sink_with(alloc, 1000, 7);
+    let got = write_duplicates(
+        alloc,
+        &Seeds::fixed(),
+        &plan,
+        |origin| Ok(Device::new(bytes_of(origin)?)),
+        &mut out,
+        &mut err,
+    );
+    assert_left(rt, (got, out, err), (status, text, reports));
+}
+
+const ABSENT: &[u8] = b"absent: no such file\n";
+
+const BAD: &[u8] = b"bad: line 1: BadHeader: The header isn't x = .., y = .., rule = ..\n";
+
+#[test]
+fn groups_of_files(rt: HostRuntime) {
+    let rows: [(&[&str], &[u8], &[u8], u8); 6] = [
+        (&["p", "keys", "glider", "line", "east"], b"", b"", 1),
+        (
+            &["p", "keys", "--form", "moved", "glider", "line", "east"],
+            b"glider\neast\n",
+            b"",
+            0,
+        ),
+        (
+            &[
+                "p",
+                "keys",
+                "line",
+                "twins",
+                "glider",
+                "twins.rle",
+                "line",
+                "twins",
+            ],
+            b"line\nline\n\ntwins\ntwins.rle\ntwins\n",
+            b"",
+            0,
+        ),
+        (
+            &[
+                "p",
+                "keys",
+                "--zero",
+                "line",
+                "twins",
+                "ea\nst",
+                "twins.rle",
+                "line",
+                "east",
+            ],
+            b"line\0line\0\0twins\0twins.rle\0\0ea\nst\0east\0",
+            b"",
+            0,
+        ),
+        (
+            &["p", "keys", "ea\nst", "bad", "east"],
+            b"ea\\nst\neast\n",
+            b"",
+            2,
+        ),
+        (
+            &["p", "keys", "east", "line", "--from", "-"],
+            b"east\neast\n\nline\nline\n",
+            ABSENT,
+            3,
+        ),
+    ];
+    for (words, text, reports, status) in rows {
+        let reports = if status == 2 { BAD } else { reports };
+        assert_run(&rt, rt.alloc(), words, text, reports, status);
+    }
+}

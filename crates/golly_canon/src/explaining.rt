@@ -1,0 +1,299 @@
+//! What is said of a fault after its own line: the file, the line's text, a sentence, and what to do.
+
+use crate::escaping::push_visible;
+use crate::foreign::{Foreign, recognized};
+use crate::opening::HeldStreams;
+use crate::outputs::Nowhere;
+use crate::rereading::{SHOWN, again, head, line, unreadable};
+use fault_sentences::sentence;
+use life_base::{Device, Fault, Kind};
+use life_cli::plans::{Form, Task, TaskPlan};
+use life_cli::{Refusal, Seeds, carry_out};
+use std::alloc::AllocError;
+use std::fs::File;
+use std::io::Write;
+
+/// The file that a fault is in.
+#[derive(Clone, Copy)]
+enum Place<'a> {
+    /// None, or it isn't known which one.
+    Nowhere,
+    /// The file of this name, or standard input. It was wanted as a rule table, or as a pattern.
+    File { name: &'a str, is_table: bool },
+    /// One of two, and it isn't known which one.
+    OneOfTwo,
+}
+
+/// Whether the fault of a step by a rule table is in the table.
+fn is_of_table(refusal: &Refusal) -> bool {
+    refusal.in_table || matches!(refusal.fault.kind, Kind::Ambiguous)
+}
+
+/// Whether a file is refused with this fault when it is read alone; nothing where it can't be read again.
+fn is_refused_alone(
+    rt: &HostRuntime,
+    seeds: &Seeds,
+    form: Form,
+    name: &str,
+    fault: &Fault,
+) -> Option<bool> {
+    let mut first = Device::new(again(rt, name)?);
+    let mut second: Option<Device<File>> = None;
+    let mut out = Device::new(Nowhere);
+    let task = Task::Canon(form);
+    match carry_out(rt.alloc(), seeds, &task, &mut first, &mut second, &mut out) {
+        Ok(_) => Some(false),
+        Err(refusal) => match refusal.fault.kind {
+            Kind::Memory | Kind::Full | Kind::ReadFault => None,
+            _ => Some(refusal.fault == *fault),
+        },
+    }
+}
+
+/// The one of two compared files that a fault is in. That of the first file comes before that of the second.
+fn place_of_two<'a>(
+    rt: &HostRuntime,
+    seeds: &Seeds,
+    form: Form,
+    names: (&'a str, &'a str),
+    fault: &Fault,
+) -> Place<'a> {
+    let (first, second) = names;
+    match is_refused_alone(rt, seeds, form, first, fault) {
+        Some(true) => Place::pattern(first),
+        Some(false) => Place::pattern(second),
+        None => match is_refused_alone(rt, seeds, form, second, fault) {
+            Some(false) => Place::pattern(first),
+            _ => Place::OneOfTwo,
+        },
+    }
+}
+
+impl<'a> Place<'a> {
+    /// A pattern file.
+    fn pattern(name: &'a str) -> Place<'a> {
+        Place::File {
+            name,
+            is_table: false,
+        }
+    }
+
+    /// The place of a fault.
+    fn of(rt: &HostRuntime, seeds: &Seeds, plan: &'a TaskPlan, refusal: &Refusal) -> Place<'a> {
+        if matches!(
+            refusal.fault.kind,
+            Kind::Full | Kind::Memory | Kind::WriteFault | Kind::ReadFault
+        ) {
+            return Place::Nowhere;
+        }
+        let first = plan.first.as_str();
+        let Some(second) = &plan.second else {
+            return Place::pattern(first);
+        };
+        let second = second.as_str();
+        match plan.task {
+            Task::Same(form) => place_of_two(rt, seeds, form, (first, second), &refusal.fault),
+            _ if is_of_table(refusal) => Place::File {
+                name: second,
+                is_table: true,
+            },
+            _ => Place::pattern(first),
+        }
+    }
+
+    /// What the file is, if it is something that the program doesn't read.
+    fn foreign(self, rt: &HostRuntime) -> Option<Foreign> {
+        match self {
+            Place::File { name, is_table } => recognized(head(rt, name)?.as_slice(), is_table),
+            _ => None,
+        }
+    }
+
+    /// The text of a line of the file.
+    fn line(self, rt: &HostRuntime, number: u64) -> Option<Vec<u8>> {
+        match self {
+            Place::File { name, .. } if number > 0 => line(rt, name, number),
+            _ => None,
+        }
+    }
+}
+
+/// What helps against a fault of this kind, or nothing.
+fn advice(kind: Kind) -> &'static str {
+    match kind {
+        Kind::NoHeader =>
+            "Let [M2] begin the file, or a line such as x = 0, y = 0, rule = B3/S23 come before the items; put # before text.",
+        Kind::BadHeader =>
+            "Write the header as x = 0, y = 0, rule = B3/S23: the sizes are numbers.",
+        Kind::BadRule | Kind::UnsupportedRule =>
+            "Write the rule as B3/S23 or as a name, with no space in it and nothing after it.",
+        Kind::BadNumber =>
+            "Write the position as Pos=1,2, without a space, and the generation as Gen=3.",
+        Kind::BadItem =>
+            "Correct or remove what isn't a count, b, o, ., a letter of a state, $ or !; a count and its letter are on one line.",
+        Kind::ZeroCount => "Remove the count and what it counts.",
+        Kind::BirthOnZero => "Such rules fill the whole plane, so they aren't supported.",
+        Kind::BadNode => "Put #C before text, and remove what comes after the last square.",
+        Kind::LineTooLong => "Break the line: in RLE after a $.",
+        Kind::BoundedGrid =>
+            "Remove the rule's part from the : on if you mean the unbounded plane.",
+        Kind::LateHeader =>
+            "Move the line up: #CXRLE above the header, and #R or #G above the first square.",
+        Kind::SecondHeader => "Make a file of each of the patterns.",
+        Kind::StateRange =>
+            "Under a B/S rule write b and o in lowercase, or give the header the rule that has these states.",
+        Kind::BadChild | Kind::BadLevel | Kind::BadLeaf =>
+            "A line was probably lost, added or changed: get the file again.",
+        Kind::Timeline =>
+            "Open the file in Golly, and save one of its patterns as a file of its own.",
+        Kind::TooManyCells =>
+            "The commands canon and keys have no such limit where the form is placed.",
+        Kind::NeedsTable => "Name the rule table: golly_canon step --table NAME.rule FILE.",
+        Kind::RuleMismatch => "Take the table of that name; for a B/S rule leave --table out.",
+        Kind::NoRuleLine =>
+            "Let the file begin with the line @RULE NAME, and a line @TABLE come before the table.",
+        Kind::StateBeyondTable => "Take the table that the pattern was made for.",
+        Kind::Ambiguous =>
+            "Split the line: write one for each value of its variable, in the order of the values.",
+        _ => "",
+    }
+}
+
+/// Adds a file's name, or `standard input`.
+fn push_file(text: &mut String, name: &str) -> Result<(), AllocError> {
+    if name == "-" {
+        text.push_str("standard input")
+    } else {
+        push_visible(text, name.as_bytes())
+    }
+}
+
+/// Adds where a fault is: `FILE, line N: `, as far as that is known.
+fn push_place(
+    rt: &HostRuntime,
+    text: &mut String,
+    place: Place<'_>,
+    number: u64,
+) -> Result<(), AllocError> {
+    match place {
+        Place::Nowhere => return Ok(()),
+        Place::File { name, .. } => push_file(text, name)?,
+        Place::OneOfTwo => text.push_str("one of the two files")?,
+    }
+    if number > 0 {
+        let line = format!(in rt.alloc(); ", line {number}")?;
+        text.push_str(line.as_str())?;
+    }
+    text.push_str(": ")
+}
+
+/// The part of a line that is shown: not the carriage return at its end.
+fn shown(line: &[u8]) -> &[u8] {
+    match line {
+        [front @ .., b'\r'] => front,
+        _ => line,
+    }
+}
+
+/// Adds the text of a line, on a line of its own, and three dots where it goes on.
+fn push_line(text: &mut String, line: &[u8]) -> Result<(), AllocError> {
+    let (front, goes_on) = match line.get(..SHOWN) {
+        Some(front) if line.len() > SHOWN => (front, true),
+        _ => (shown(line), false),
+    };
+    if front.is_empty() {
+        return Ok(());
+    }
+    text.push_str("    ")?;
+    push_visible(text, front)?;
+    text.push_str(if goes_on { " ...\n" } else { "\n" })
+}
+
+/// Adds a sentence, if there is one, on a line of its own.
+fn push_sentence(text: &mut String, sentence: &str) -> Result<(), AllocError> {
+    if sentence.is_empty() {
+        return Ok(());
+    }
+    text.push_str(sentence)?;
+    text.push('\n')
+}
+
+/// What is said of a fault of a file, or of none.
+fn explanation(
+    rt: &HostRuntime,
+    seeds: &Seeds,
+    plan: &TaskPlan,
+    refusal: &Refusal,
+) -> Result<String, AllocError> {
+    let mut text = String::new(rt.alloc());
+    let place = Place::of(rt, seeds, plan, refusal);
+    let number = refusal.fault.place.line;
+    push_place(rt, &mut text, place, number)?;
+    push_sentence(&mut text, sentence(refusal.fault.kind))?;
+    let foreign = place.foreign(rt);
+    if !foreign.is_some_and(|it| it.is_binary()) {
+        if let Some(line) = place.line(rt, number) {
+            push_line(&mut text, line.as_slice())?;
+        }
+    }
+    let advice = foreign.map_or(advice(refusal.fault.kind), |it| it.advice());
+    push_sentence(&mut text, advice)?;
+    Ok(text)
+}
+
+/// Why a file can't be read, as far as that is seen.
+fn why_unread(rt: &HostRuntime, held: &HeldStreams, name: &str) -> Option<&'static str> {
+    if name != "-" {
+        return unreadable(rt, name);
+    }
+    if held.holds_input() {
+        return Some("can't be opened");
+    }
+    unreadable(rt, "/dev/stdin")
+}
+
+/// What is said where a file can't be read, or no random bytes come.
+fn unread_explanation(
+    rt: &HostRuntime,
+    held: &HeldStreams,
+    plan: &TaskPlan,
+) -> Result<String, AllocError> {
+    let mut text = String::new(rt.alloc());
+    let names = [Some(plan.first.as_str()), plan.second.as_deref()];
+    for name in names.iter().flatten() {
+        if let Some(why) = why_unread(rt, held, name) {
+            push_file(&mut text, name)?;
+            text.push_str(": ")?;
+            push_sentence(&mut text, why)?;
+            return Ok(text);
+        }
+    }
+    push_sentence(&mut text, sentence(Kind::ReadFault))?;
+    Ok(text)
+}
+
+/// Writes a text to standard error, as far as that takes it; nothing where there was no memory for the text.
+fn say(rt: &HostRuntime, text: Result<String, AllocError>) {
+    if let Ok(text) = text {
+        let _ = rt.stderr().write_all(text.as_bytes());
+    }
+}
+
+/// Writes what is said where a file can't be read, or no random bytes come.
+pub(crate) fn explain_unread(rt: &HostRuntime, held: &HeldStreams, plan: &TaskPlan) {
+    say(rt, unread_explanation(rt, held, plan));
+}
+
+/// Writes what is said of a refused task after the line of its fault.
+pub(crate) fn explain(
+    rt: &HostRuntime,
+    held: &HeldStreams,
+    seeds: &Seeds,
+    plan: &TaskPlan,
+    refusal: &Refusal,
+) {
+    match refusal.fault.kind {
+        Kind::ReadFault => explain_unread(rt, held, plan),
+        _ => say(rt, explanation(rt, seeds, plan, refusal)),
+    }
+}

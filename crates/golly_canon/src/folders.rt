@@ -1,0 +1,252 @@
+//! The files in folders, which the option `--recursive` asks for.
+
+use std::alloc::AllocError;
+use std::collections::BTreeMap;
+use std::fs;
+use std::fs::{Files, Metadata};
+use std::io::{ErrorKind, Read, Result as IoResult};
+
+/// The files that names represent.
+#[derive(Drop)]
+pub(crate) struct Found {
+    /// Their names, in order.
+    pub files: Vec<String>,
+    /// The list of further files, if one is named.
+    pub list: Option<String>,
+    /// The names among them that can't be opened, and why, where that is known already.
+    unopened: BTreeMap<String, ErrorKind>,
+}
+
+/// A name in a folder.
+#[derive(Drop)]
+struct Entry {
+    /// The name with those of its folders, and U+FFFD in place of what is no UTF-8 text.
+    path: String,
+    is_text: bool,
+}
+
+/// What a name is of.
+#[derive(Clone, Copy)]
+enum Sort {
+    Folder,
+    /// A file, or what can't be looked at, so that opening it says why.
+    File,
+    /// What isn't read: a link, a device, a pipe or a socket.
+    Other,
+}
+
+/// A copy of a name.
+fn copied(rt: &HostRuntime, name: &str) -> Result<String, AllocError> {
+    String::from_str(rt.alloc(), name)
+}
+
+/// Adds a name at the end.
+fn push_name(files: &mut Vec<String>, name: String) -> Result<(), AllocError> {
+    match files.push(name) {
+        Ok(()) => Ok(()),
+        Err(_) => Err(AllocError),
+    }
+}
+
+impl Found {
+    /// No files.
+    pub(crate) fn new(rt: &HostRuntime) -> Found {
+        Found {
+            files: Vec::new(rt.alloc()),
+            list: None,
+            unopened: BTreeMap::new(rt.alloc()),
+        }
+    }
+
+    /// Adds a file.
+    fn push(&mut self, name: String) -> Result<(), AllocError> {
+        push_name(&mut self.files, name)
+    }
+
+    /// Notes why a file can't be opened, whichever file has its name.
+    pub(crate) fn note(&mut self, name: String, why: ErrorKind) -> Result<(), AllocError> {
+        match self.unopened.insert(name, why) {
+            Ok(_) => Ok(()),
+            Err(_) => Err(AllocError),
+        }
+    }
+
+    /// Why the file of this name can't be opened, where that is known already.
+    pub(crate) fn why(&self, name: &str) -> Option<ErrorKind> {
+        self.unopened.get(name).copied()
+    }
+}
+
+/// What the system says that an entry of a folder is.
+fn sort_of(metadata: &Metadata) -> Sort {
+    if metadata.is_dir() {
+        Sort::Folder
+    } else if metadata.is_file() {
+        Sort::File
+    } else {
+        Sort::Other
+    }
+}
+
+/// What an entry of a folder is.
+fn sort_of_path(rt: &HostRuntime, path: &str) -> Sort {
+    match fs::symlink_metadata(rt, path) {
+        Ok(metadata) => sort_of(&metadata),
+        Err(_) => Sort::File,
+    }
+}
+
+/// Whether a word names a folder, by a link too.
+fn is_folder(rt: &HostRuntime, word: &str) -> bool {
+    match fs::metadata(rt, word) {
+        Ok(metadata) => metadata.is_dir(),
+        Err(_) => false,
+    }
+}
+
+/// A name, and a slash after it.
+fn with_slash(rt: &HostRuntime, folder: &str) -> Result<String, AllocError> {
+    let mut path = copied(rt, folder)?;
+    if !folder.ends_with('/') {
+        path.push('/')?;
+    }
+    Ok(path)
+}
+
+/// The names in a folder, each ended by a NUL.
+fn names_in(rt: &HostRuntime, path: &str) -> IoResult<Vec<u8>> {
+    // The system follows a link where a slash comes after it.
+    let mut folder = rt.open_dir(with_slash(rt, path)?.as_str())?;
+    let mut names = Vec::new(rt.alloc());
+    let mut piece = [0; 4096];
+    for _ in 0..usize::MAX {
+        let count = folder.read(&mut piece)?;
+        if count == 0 {
+            break;
+        }
+        names.extend_from_slice(&piece[..count])?;
+    }
+    Ok(names)
+}
+
+/// Whether a name is that of a file or a folder, and not `.` or `..`.
+fn is_proper(name: &[u8]) -> bool {
+    !name.is_empty() && name != b".".as_slice() && name != b"..".as_slice()
+}
+
+/// The names that are listed, in their order byte by byte.
+fn sorted<'a>(rt: &HostRuntime, listed: &'a [u8]) -> Result<Vec<&'a [u8]>, AllocError> {
+    let mut names = Vec::new(rt.alloc());
+    for name in listed.split(|byte| *byte == 0) {
+        if is_proper(name) && names.push(name).is_err() {
+            return Err(AllocError);
+        }
+    }
+    names.sort_unstable();
+    Ok(names)
+}
+
+/// A name in a folder.
+fn entry_in(rt: &HostRuntime, folder: &str, name: &[u8]) -> Result<Entry, AllocError> {
+    let mut path = with_slash(rt, folder)?;
+    let text = String::from_utf8_lossy(rt.alloc(), name)?;
+    path.push_str(text.as_str())?;
+    Ok(Entry {
+        path,
+        is_text: str::from_utf8(name).is_ok(),
+    })
+}
+
+/// Adds the names in a folder to those that are left, so that the least of them is the next.
+fn push_entries(
+    rt: &HostRuntime,
+    folder: &str,
+    listed: &[u8],
+    left: &mut Vec<Entry>,
+) -> Result<(), AllocError> {
+    let names = sorted(rt, listed)?;
+    for name in names.as_slice().iter().rev() {
+        if left.push(entry_in(rt, folder, name)?).is_err() {
+            return Err(AllocError);
+        }
+    }
+    Ok(())
+}
+
+/// Adds what is in a folder to what is left; a folder that can't be read is a file that can't be opened.
+fn open_folder(
+    rt: &HostRuntime,
+    path: String,
+    left: &mut Vec<Entry>,
+    found: &mut Found,
+) -> Result<(), AllocError> {
+    match names_in(rt, path.as_str()) {
+        Ok(listed) => push_entries(rt, path.as_str(), listed.as_slice(), left),
+        Err(error) if matches!(error.kind(), ErrorKind::OutOfMemory) => Err(AllocError),
+        Err(error) => {
+            found.note(copied(rt, path.as_str())?, error.kind())?;
+            found.push(path)
+        }
+    }
+}
+
+/// Takes an entry of a folder.
+fn take_entry(
+    rt: &HostRuntime,
+    entry: Entry,
+    left: &mut Vec<Entry>,
+    found: &mut Found,
+) -> Result<(), AllocError> {
+    let Entry { path, is_text } = entry;
+    if !is_text {
+        found.note(copied(rt, path.as_str())?, ErrorKind::InvalidFilename)?;
+        return found.push(path);
+    }
+    match sort_of_path(rt, path.as_str()) {
+        Sort::Folder => open_folder(rt, path, left, found),
+        Sort::File => found.push(path),
+        Sort::Other => Ok(()),
+    }
+}
+
+/// Takes all that is in a folder and below it.
+fn take_folder(rt: &HostRuntime, word: &str, found: &mut Found) -> Result<(), AllocError> {
+    let mut left = Vec::new(rt.alloc());
+    open_folder(rt, copied(rt, word)?, &mut left, found)?;
+    for _ in 0..usize::MAX {
+        let Some(entry) = left.pop() else {
+            break;
+        };
+        take_entry(rt, entry, &mut left, found)?;
+    }
+    Ok(())
+}
+
+/// Adds the list that a plan names, if it names one.
+pub(crate) fn take_list(
+    rt: &HostRuntime,
+    from: Option<&str>,
+    found: &mut Found,
+) -> Result<(), AllocError> {
+    if let Some(name) = from {
+        found.list = Some(copied(rt, name)?);
+    }
+    Ok(())
+}
+
+/// Adds the files that the words name: each word that names a folder represents the files in it and below it, in the order of their names, byte by byte.
+/// Links in a folder are passed over.
+pub(crate) fn take_words(
+    rt: &HostRuntime,
+    words: &[&str],
+    found: &mut Found,
+) -> Result<(), AllocError> {
+    for word in words {
+        if *word != "-" && found.why(word).is_none() && is_folder(rt, word) {
+            take_folder(rt, word, found)?;
+        } else {
+            found.push(copied(rt, word)?)?;
+        }
+    }
+    Ok(())
+}

@@ -1,0 +1,244 @@
+//! What a macrocell file is probably meant to be, where the formats read it otherwise: its bytes are watched as they pass.
+
+use crate::counting::NameCount;
+use crate::escaping::push_name;
+use std::alloc::AllocError;
+use std::cell::{Cell, RefCell};
+use std::io::{Read, Result as IoResult};
+
+/// Why a macrocell file is probably meant otherwise than it is read.
+#[derive(Clone, Copy, PartialEq, Eq, Debug)]
+pub(crate) enum Warning {
+    /// Its first line has a carriage return inside it.
+    Return,
+    /// It has no line of squares.
+    NoSquares,
+    /// A line before its squares would be a rule or a generation if it had a space.
+    Comment,
+}
+
+impl Warning {
+    /// The warning, as a sentence.
+    pub(crate) fn text(self) -> &'static str {
+        match self {
+            Warning::Return => concat!(
+                "line 1 has a carriage return inside it: the file seems to have lost its line ends, so that most of it is ",
+                "read as a comment",
+            ),
+            Warning::NoSquares => concat!(
+                "the file has no line of squares, so it is the blank pattern; a macrocell file that lost its line ends ",
+                "looks like this",
+            ),
+            Warning::Comment => concat!(
+                "a line such as `#RB36/S23` or `#G7`, without a space, is a comment here, and a rule or a generation in ",
+                "Golly",
+            ),
+        }
+    }
+}
+
+/// What is known of a file by its bytes so far.
+#[derive(Clone, Copy, PartialEq, Eq, Debug)]
+pub(crate) enum Watch {
+    /// None of them came.
+    Start,
+    /// `[` came.
+    Bracket,
+    /// `[M` came.
+    Letter,
+    /// `[M2` came.
+    Digit,
+    /// They are in the first line, which begins with `[M2]` and has no carriage return.
+    FirstLine,
+    /// They are in the first line, and its first carriage return came last, or several did.
+    FirstReturn,
+    /// A line begins, and no line of squares came before.
+    LineStart,
+    /// A line begins with spaces, tabs or carriage returns, and nothing else of it came.
+    Spaces,
+    /// A line is `#` so far.
+    Hash,
+    /// A line is `#R` so far.
+    Rule,
+    /// A line is `#R` and digits of counts so far.
+    Counts,
+    /// A line is `#R` and `B` or `S` so far, of either case.
+    Sets,
+    /// A line is `#G` so far.
+    Generation,
+    /// A line is a comment, or is blank.
+    Rest,
+    /// A line is a comment, and would be a rule or a generation if it had a space.
+    Meant,
+    /// It is known whether there is a warning.
+    Known(Option<Warning>),
+}
+
+/// What is known after one byte more, where the mark `[M2]` isn't whole yet.
+fn after_mark(watch: Watch, byte: u8) -> Watch {
+    match (watch, byte) {
+        (Watch::Start, b'[') => Watch::Bracket,
+        (Watch::Bracket, b'M') => Watch::Letter,
+        (Watch::Letter, b'2') => Watch::Digit,
+        (Watch::Digit, b']') => Watch::FirstLine,
+        _ => Watch::Known(None),
+    }
+}
+
+/// What is known after one byte more of the first line.
+fn after_first(watch: Watch, byte: u8) -> Watch {
+    match (watch, byte) {
+        (_, b'\n') => Watch::LineStart,
+        (_, b'\r') => Watch::FirstReturn,
+        (Watch::FirstReturn, _) => Watch::Known(Some(Warning::Return)),
+        _ => Watch::FirstLine,
+    }
+}
+
+/// What is known after the first byte of a line, or the first one after its spaces.
+fn after_start(watch: Watch, byte: u8) -> Watch {
+    match (watch, byte) {
+        (Watch::LineStart, b'#') => Watch::Hash,
+        (_, b' ' | b'\t' | b'\r') => Watch::Spaces,
+        (_, b'#' | 0x0B | 0x0C) => Watch::Rest,
+        _ => Watch::Known(None),
+    }
+}
+
+/// What is known after one byte more of a comment.
+fn after_comment(watch: Watch, byte: u8) -> Watch {
+    match (watch, byte) {
+        (Watch::Hash, b'R') => Watch::Rule,
+        (Watch::Hash, b'G') => Watch::Generation,
+        (Watch::Rule, b'B' | b'b' | b'S' | b's') => Watch::Sets,
+        (Watch::Rule | Watch::Counts, b'0'..=b'8') => Watch::Counts,
+        (Watch::Rule | Watch::Counts, b'/') => Watch::Meant,
+        (Watch::Sets, b'0'..=b'8') => Watch::Meant,
+        (Watch::Generation, b'0'..=b'9') => Watch::Meant,
+        (Watch::Meant, _) => Watch::Meant,
+        _ => Watch::Rest,
+    }
+}
+
+/// What is known after one byte more of a line that isn't the first.
+fn after_line(watch: Watch, byte: u8) -> Watch {
+    match (watch, byte) {
+        (Watch::Meant, b'\n') => Watch::Known(Some(Warning::Comment)),
+        (_, b'\n') => Watch::LineStart,
+        (Watch::LineStart | Watch::Spaces, _) => after_start(watch, byte),
+        _ => after_comment(watch, byte),
+    }
+}
+
+impl Watch {
+    /// What is known after one byte more.
+    fn after(self, byte: u8) -> Watch {
+        match self {
+            Watch::Known(_) => self,
+            Watch::Start | Watch::Bracket | Watch::Letter | Watch::Digit => after_mark(self, byte),
+            Watch::FirstLine | Watch::FirstReturn => after_first(self, byte),
+            _ => after_line(self, byte),
+        }
+    }
+
+    /// What is known after these bytes more.
+    fn after_all(self, bytes: &[u8]) -> Watch {
+        let mut watch = self;
+        for byte in bytes {
+            if matches!(watch, Watch::Known(_)) {
+                return watch;
+            }
+            watch = watch.after(*byte);
+        }
+        watch
+    }
+
+    /// What is known where the file has ended.
+    fn at_end(self) -> Watch {
+        match self {
+            Watch::Known(_) => self,
+            Watch::Start | Watch::Bracket | Watch::Letter | Watch::Digit => Watch::Known(None),
+            _ => Watch::Known(Some(Warning::NoSquares)),
+        }
+    }
+}
+
+/// What is watched of the file that a run reads.
+#[derive(Drop)]
+pub(crate) struct Watcher {
+    name: RefCell<String>,
+    watch: Cell<Watch>,
+}
+
+/// Keeps a name in the place of another.
+fn keep(kept: &mut String, name: &str) -> Result<(), AllocError> {
+    kept.clear();
+    kept.push_str(name)
+}
+
+impl Watcher {
+    /// No file is watched yet.
+    pub(crate) fn new(rt: &HostRuntime) -> Watcher {
+        Watcher {
+            name: RefCell::new(String::new(rt.alloc())),
+            watch: Cell::new(Watch::Known(None)),
+        }
+    }
+
+    /// Begins to watch a file of this name. Where there is no memory for the name, nothing is watched.
+    pub(crate) fn begin(&self, name: &str) {
+        self.watch.set(Watch::Known(None));
+        let Ok(mut kept) = self.name.try_borrow_mut() else {
+            return;
+        };
+        if keep(&mut kept, name).is_ok() {
+            self.watch.set(Watch::Start);
+        }
+    }
+
+    /// The warning of the file that was watched, if there is one. It is returned once.
+    pub(crate) fn warning(&self) -> Option<Warning> {
+        match self.watch.replace(Watch::Known(None)) {
+            Watch::Known(warning) => warning,
+            _ => None,
+        }
+    }
+
+    /// The line of a warning of that file.
+    pub(crate) fn line(&self, rt: &HostRuntime, warning: Warning) -> Result<String, AllocError> {
+        let mut line = String::new(rt.alloc());
+        if let Ok(name) = self.name.try_borrow() {
+            push_name(&mut line, name.as_str())?;
+        }
+        line.push_str(": warning: ")?;
+        line.push_str(warning.text())?;
+        line.push('\n')?;
+        Ok(line)
+    }
+}
+
+/// An input whose bytes are watched.
+#[derive(Drop)]
+pub(crate) struct Watched<'a, R> {
+    pub input: R,
+    pub watcher: &'a Watcher,
+    /// Counts the names, if the input is a list.
+    pub names: Option<&'a NameCount>,
+}
+
+impl<'a, R: Read> Read for Watched<'a, R> {
+    fn read(&mut self, buf: &mut [u8]) -> IoResult<usize> {
+        let count = self.input.read(buf)?;
+        if let Some(names) = self.names {
+            names.take(&buf[..count]);
+        }
+        let cell = &self.watcher.watch;
+        let watch = cell.get();
+        cell.set(if count == 0 {
+            watch.at_end()
+        } else {
+            watch.after_all(&buf[..count])
+        });
+        Ok(count)
+    }
+}
