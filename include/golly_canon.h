@@ -1,9 +1,9 @@
 /* golly_canon: one canonical text for a cellular-automaton pattern, as calls of a library.
  *
- * A file is bytes in extended RLE or in macrocell. A call reads the bytes that it is handed, answers a status, and keeps nothing, but for the calls
- * on a stream, which keep in it what came of its file so far. There is no other state behind the calls, so threads may call at the same time, each on
- * memory and streams of its own. No call prints, opens a file or ends the process. What the calls answer is proved for any bytes (docs/PROOFS.md of the
- * project says what). The proof takes for granted what stands here under "The caller guarantees".
+ * A file is bytes in extended RLE or in macrocell. A call reads the bytes that it is given, returns a status, and stores nothing. Only a stream stores
+ * something: what has been read of its file so far. The calls share no other state, so threads may call at the same time, each on memory and streams of its
+ * own. No call prints, opens a file or ends the process. What the calls return is proved for any bytes (docs/PROOFS.md of the project says what). The proof
+ * assumes what this file says under "The caller guarantees".
  *
  *     static unsigned char text[4096];
  *     size_t needed;
@@ -12,26 +12,29 @@
  *
  * Each call that gives bytes writes them into `room` bytes of memory at `out`, and their number into `*needed`:
  *
- *     GOLLY_CANON_OK        the text stands in the first `*needed` bytes at `out`. It has no 0 byte behind it, and what lies there is untouched.
- *     GOLLY_CANON_NO_ROOM   the text has `*needed` bytes, which are more than `room`. Nothing was written at `out`: hand over more memory.
+ *     GOLLY_CANON_OK        the text is in the first `*needed` bytes at `out`. No 0 byte follows it: the bytes after it are untouched.
+ *     GOLLY_CANON_NO_ROOM   the text has `*needed` bytes, which are more than `room`. Nothing was written at `out`: call again with more memory.
  *     any other status      the number of a kind of fault, or GOLLY_CANON_NO_FORM. Nothing was written at `out`, and `*needed` is 0. `*line` is the
- *                           number of the line that the file is refused at, counted from 1, or 0 where the fault is of no line.
+ *                           number of the line that the file is refused at, counted from 1, or 0 if the fault is on no line.
  *
- * With the first two `*line` is 0. With a `room` of 0 a call tells the length of its text alone, and the next one reads the file again; a stream
- * doesn't. A file is its bytes as they stand, not compressed, and whole: of a file of either format that was cut short a part can be a pattern too.
+ * With the first two `*line` is 0. With a `room` of 0 a call returns only the length of its text, and the next call reads the file again; a stream
+ * doesn't. A file is its bytes, not compressed, and whole: part of a file of either format can be a pattern, too, so a file that was cut short may be
+ * accepted.
  *
  * The caller guarantees, in each call:
  *
- *  - A pointer to bytes points to as many bytes as the number behind it says, and a pointer to a number to a number of that type, aligned as
- *    the type is. No pointer of any call may be NULL or dangle, also where the number of bytes is 0: any address of the caller's own memory serves
- *    there.
+ *  - A pointer to bytes points to as many bytes as the number after it says, and a pointer to a number to a number of that type, aligned as
+ *    the type is. No pointer of any call may be NULL or dangle, with one exception: if the number of bytes is 0, the call doesn't use the address of
+ *    the bytes, so it can be NULL, as data() of an empty vector in C++, or dangle, as that of an empty slice in Rust. The tests of the project pass
+ *    NULL in this case; the proof speaks of addresses that aren't NULL.
  *  - No number of bytes is more than PTRDIFF_MAX.
- *  - What is read has been written before. The memory at `out` has been written before too: set it once, as by calloc or memset.
+ *  - What is read has been written before. The memory at `out` has been written before too (set it once, for example with calloc or memset), because it
+ *    is proved that the bytes after a text keep their values, and memory that was never written has no values in C.
  *  - The memory that a call writes (`out`, `needed`, `line`, `is_same`, `in_table`, `stream`) overlaps no other memory that it is handed.
  *  - Until the call returns, no other thread writes what it reads, or touches what it writes.
  *  - malloc, realloc and free are those of one allocator, which aligns a block to each power of two up to 16 that divides its size.
  *  - No call is made from a signal handler, or from the child that a process with threads has forked.
- *  - There is stack: calls go down the levels of the plane by recursion, 62 at most. 64 KB are enough in the tests; no proof speaks of it.
+ *  - There is enough stack: calls go down the levels of the plane by recursion, 62 at most. 64 KB are enough in the tests; it isn't proved.
  */
 #ifndef GOLLY_CANON_H
 #define GOLLY_CANON_H
@@ -46,7 +49,7 @@ extern "C" {
 /* The limit of the store of the program `golly_canon`. */
 #define GOLLY_CANON_SQUARES ((uint64_t)1 << 31)
 
-/* What a call answers. The numbers stay as they are from version to version. */
+/* What a call returns. The numbers stay as they are from version to version. */
 enum {
     GOLLY_CANON_OK = 0,
 
@@ -76,7 +79,7 @@ enum {
     GOLLY_CANON_FULL = 21,
     GOLLY_CANON_MEMORY = 22,
 
-    /* a stream that is closed, or a piece for one that has given its text */
+    /* a stream that is closed, or a piece for one that has given its text or its key */
     GOLLY_CANON_SPENT = 23,
 
     /* a rule table */
@@ -101,95 +104,97 @@ enum {
     /* the text has more bytes than fit */
     GOLLY_CANON_NO_ROOM = 64,
 
-    /* a number that is that of no form of a pattern */
+    /* the number isn't that of a form of a pattern */
     GOLLY_CANON_NO_FORM = 65
 };
 
-/* The forms of a pattern, for the calls with a `form`. Each has the pattern's rule and generation; whether the rule is the same from each side is
- * not asked. Another number is answered by GOLLY_CANON_NO_FORM. */
+/* The forms of a pattern, for the calls with a `form`. Each form has the pattern's rule and generation, even if the rule distinguishes directions.
+ * For any other number a call returns GOLLY_CANON_NO_FORM. */
 enum {
-    GOLLY_CANON_PLACED = 0, /* the pattern where it lies */
-    GOLLY_CANON_MOVED = 1,  /* its least box moved to (0, 0); where it would leave the plane so, ending with the plane, columns and rows apart */
+    GOLLY_CANON_PLACED = 0, /* the pattern as it lies */
+    GOLLY_CANON_MOVED = 1,  /* its bounding box moved to (0, 0); columns, or rows, that would then leave the plane end with the plane instead */
     GOLLY_CANON_TURNED = 2  /* of the pattern's eight turns and reflections, each moved, the one whose canonical text is least, byte by byte */
 };
 
-/* `limit`, of each call: how many different squares the store of the call may hold, those on the way to the answer too. Squares in which each cell
- * is 0 don't count. It is proved that a call is refused as Full only where it needs more different squares than the limit; and that it gives a text, a
- * key or a comparison only where no more than the limit are needed to read the files. So a call on files of which no line has a cell that isn't 0 is
- * never Full. A limit of `14 * length + 264` suffices to read a file; for two files it is the sum of both, and for a stream `length` is that of all
- * that is fed. That is proved too: with so much, canon, to_rle, show, same, and the calls with a form but for moved, are never Full. None is given for
- * the next generation, nor for the form moved: the squares of the one, and of the pattern moved, come on top of those of reading. A limit above 2^62
- * counts as 2^62; but beyond some 2^32 squares the answer is Memory, whatever the limit. As measured, a square takes 32 to 39 bytes of the store, or
- * less where it has at most 4 x 4 cells of the states 0 and 1.
+/* `limit`, of each call: how many different squares the store of the call may hold, including those on the way to the answer. Squares in which each
+ * cell is 0 don't count. It is proved that a call returns Full only if it needs more different squares than the limit, and that it gives a text, a
+ * key or a comparison only if no more than the limit are needed to read the files. So a call on files without cells that aren't 0 is never Full. A
+ * limit of `14 * length + 264` suffices to read a file; for two files it is the sum of both, and for a stream `length` is the number of all bytes
+ * that are fed. That is proved too: with this limit, canon, to_rle, show, same, and the calls with a form other than moved, are never Full. No such
+ * number is known for the next generation and for the form moved: their squares come on top of those of reading. A limit above 2^62 counts as 2^62;
+ * but beyond some 2^32 squares the answer is Memory, whatever the limit. As measured, a square takes 32 to 39 bytes of the store, or less if it has
+ * at most 4 x 4 cells of the states 0 and 1.
  *
- * `seed`, of each call: a number by which the call finds its squares, and the names of its table. What a call answers never depends on it. Where
- * strangers write the files, hand in a random number (as by getentropy, arc4random_buf or Python's secrets.randbits(64)) that they can't know, one for
- * each call or one for the whole program. Else a file can be made for the number whose squares crowd, so that it takes a time that grows quadratically:
- * some ten seconds for 2 MB. 0 is a number like any other, which everybody knows: it serves for files that nobody made against it. */
+ * `seed`, of each call: a number that keys the hash tables of the call's squares and of the names of its table. What a call returns never depends on
+ * it. If the files are untrusted input, give a random number (from getentropy, arc4random_buf or Python's secrets.randbits(64)) that their authors
+ * can't know, one for each call or one for the whole program. Otherwise somebody who knows the number can make a file whose squares collide, and reading
+ * that file takes quadratic time: some ten seconds for 2 MB. Everybody can guess 0, so use it only for files that you trust. */
 
-/* The canonical text of the pattern of a file. Two files have one text exactly if they are one pattern.
+/* The canonical text of the pattern of a file. Two files have the same text exactly if they are the same pattern.
  * The caller guarantees: `length` bytes to read at `bytes`; `room` bytes to write at `out`, which were written before; `*needed` and `*line` to
- * write, apart from each other, from `out` and from `bytes`. NULL is allowed for none of `bytes`, `out`, `needed` and `line`. */
+ * write, apart from each other, from `out` and from `bytes`. NULL is allowed for neither `needed` nor `line`. */
 uint32_t golly_canon_canon(const unsigned char *bytes, size_t length, uint64_t limit, uint64_t seed,
                            unsigned char *out, size_t room, size_t *needed, uint64_t *line);
 
-/* The pattern of a file in extended RLE; TooManyCells where more than 2^20 cells aren't 0.
- * The caller guarantees what golly_canon_canon names: `out` was written before, and none of `bytes`, `out`, `needed` and `line` is NULL. */
+/* The pattern of a file in extended RLE; TooManyCells if more than 2^20 cells aren't 0.
+ * The caller guarantees what golly_canon_canon names: `out` was written before, and neither `needed` nor `line` is NULL. */
 uint32_t golly_canon_to_rle(const unsigned char *bytes, size_t length, uint64_t limit, uint64_t seed,
                             unsigned char *out, size_t room, size_t *needed, uint64_t *line);
 
-/* Five lines on the pattern of a file: rule, generation, population, least box, and squares of the canonical text.
- * The caller guarantees what golly_canon_canon names: `out` was written before, and none of `bytes`, `out`, `needed` and `line` is NULL. */
+/* Five lines on the pattern of a file: rule, generation, population, bounding box, and squares of the canonical text.
+ * The caller guarantees what golly_canon_canon names: `out` was written before, and neither `needed` nor `line` is NULL. */
 uint32_t golly_canon_show(const unsigned char *bytes, size_t length, uint64_t limit, uint64_t seed,
                           unsigned char *out, size_t room, size_t *needed, uint64_t *line);
 
-/* The canonical text of the next generation of the pattern of a file, under its B/S rule; NeedsTable where the rule is a name, TooManyCells where
+/* The canonical text of the next generation of the pattern of a file, under its B/S rule; NeedsTable if the rule is a name, TooManyCells if
  * more than 2^20 cells aren't 0 (docs/FORMATS.md of the project has every refusal of a step, and their order).
- * The caller guarantees what golly_canon_canon names: `out` was written before, and none of `bytes`, `out`, `needed` and `line` is NULL. */
+ * The caller guarantees what golly_canon_canon names: `out` was written before, and neither `needed` nor `line` is NULL. */
 uint32_t golly_canon_step(const unsigned char *bytes, size_t length, uint64_t limit, uint64_t seed,
                           unsigned char *out, size_t room, size_t *needed, uint64_t *line);
 
-/* The same of a pattern under a name, by the rule table of that name: `table` is a .rule file; RuleMismatch under any other rule, a B/S rule too.
- * `*in_table` is 1 where the table is refused, so that `*line` is a line of the table, and else 0. With the status Ambiguous `*line` is a line of
- * the table too, which was itself accepted.
+/* The same for a pattern under a name, by the rule table of that name: `table` is a .rule file. Under any other rule, a B/S rule too, the call returns
+ * RuleMismatch. `*in_table` is 1 if the table is refused; then `*line` is a line of the table. Otherwise `*in_table` is 0. With the status Ambiguous the
+ * table was accepted, so `*in_table` is 0, but `*line` is the line of the table that gives two states.
  * The caller guarantees what golly_canon_canon names; `table_length` bytes to read at `table`, apart from all that is written; `*in_table` to write,
- * apart from all else. `out` was written before, and none of `bytes`, `table`, `out`, `needed`, `line` and `in_table` is NULL. */
+ * apart from all else. `out` was written before, and none of `needed`, `line` and `in_table` is NULL. */
 uint32_t golly_canon_step_by_table(const unsigned char *bytes, size_t length,
                                    const unsigned char *table, size_t table_length, uint64_t limit, uint64_t seed,
                                    unsigned char *out, size_t room, size_t *needed, uint64_t *line,
                                    uint32_t *in_table);
 
-/* Whether two files are one pattern: `*is_same` is 1 or 0, and 0 where the status isn't GOLLY_CANON_OK. The fault is that of the first file
- * where that is refused, and else that of the second one.
+/* Whether two files are the same pattern: `*is_same` is 1 or 0, and 0 if the status isn't GOLLY_CANON_OK. The fault is that of the first file
+ * if that is refused, and otherwise that of the second one.
  * The caller guarantees: `first_length` bytes to read at `first`, and `second_length` at `second`, which may be the same memory; `*is_same`
- * and `*line` to write, apart from each other and from those. NULL is allowed for none of `first`, `second`, `is_same` and `line`. */
+ * and `*line` to write, apart from each other and from those. NULL is allowed for neither `is_same` nor `line`. */
 uint32_t golly_canon_same(const unsigned char *first, size_t first_length,
                           const unsigned char *second, size_t second_length, uint64_t limit, uint64_t seed,
                           uint32_t *is_same, uint64_t *line);
 
-/* The canonical text of the pattern of a file in a form. Two files have one text exactly if they have one rule and one generation, and the cells of
- * the one are those of the other: as they lie (placed: the text of golly_canon_canon), shifted (moved), or turned or reflected and then shifted
- * (turned). Moved and turned it is TooManyCells where more than 2^20 cells aren't 0. The store takes the moved pattern too; the eight images are made
- * in stores of their own, which memory alone bounds. Of a number of no form it is NoForm, with 0 in `*needed` and `*line`.
- * The caller guarantees what golly_canon_canon names: `out` was written before, and none of `bytes`, `out`, `needed` and `line` is NULL. */
+/* The canonical text of the pattern of a file in a form. Two files have the same text exactly if they have the same rule and generation, and the cells
+ * of one are those of the other: as they lie (placed: the text of golly_canon_canon), shifted (moved), or turned or reflected and then shifted
+ * (turned). For moved and turned the call returns TooManyCells if more than 2^20 cells aren't 0. The moved pattern is stored in the same store, and counts
+ * against the limit. The eight images have stores of their own, which only memory limits. For a number of no form the call returns NoForm, with 0 in
+ * `*needed` and `*line`.
+ * The caller guarantees what golly_canon_canon names: `out` was written before, and neither `needed` nor `line` is NULL. */
 uint32_t golly_canon_canon_form(const unsigned char *bytes, size_t length, uint32_t form, uint64_t limit, uint64_t seed,
                                 unsigned char *out, size_t room, size_t *needed, uint64_t *line);
 
-/* The key of the pattern of a file in a form: the SHA-256 of the text that golly_canon_canon_form gives. It has 32 bytes, which are no text. It is
- * refused as that text is, and NoRoom where `room` is less than 32.
- * The caller guarantees what golly_canon_canon names: `out` was written before, and none of `bytes`, `out`, `needed` and `line` is NULL. */
+/* The key of the pattern of a file in a form: the SHA-256 of the text that golly_canon_canon_form gives. It has 32 bytes, which aren't text. The call
+ * returns the same faults as golly_canon_canon_form, and NoRoom if `room` is less than 32.
+ * The caller guarantees what golly_canon_canon names: `out` was written before, and neither `needed` nor `line` is NULL. */
 uint32_t golly_canon_key(const unsigned char *bytes, size_t length, uint32_t form, uint64_t limit, uint64_t seed,
                          unsigned char *out, size_t room, size_t *needed, uint64_t *line);
 
-/* Whether two files have one text in a form: `*is_same` is 1 or 0, and 0 where the status isn't GOLLY_CANON_OK. The fault is that of the first file
- * where that is refused, and else that of the second one. Moved and turned it is then TooManyCells where more than 2^20 cells of one of them aren't
- * 0; but turned, files of two generations are told apart before. Of a number of no form it is NoForm, with 0 in `*line`.
- * The caller guarantees what golly_canon_same names: NULL is allowed for none of `first`, `second`, `is_same` and `line`. */
+/* Whether two files have the same text in a form: `*is_same` is 1 or 0, and 0 if the status isn't GOLLY_CANON_OK. The fault is that of the first file
+ * if that is refused, and otherwise that of the second one. If both are accepted and the form is moved or turned, the call returns TooManyCells if more than
+ * 2^20 cells of one of them aren't 0. But turned files of different generations are reported as different first. For a number of no form the call returns
+ * NoForm, with 0 in `*line`.
+ * The caller guarantees what golly_canon_same names: NULL is allowed for neither `is_same` nor `line`. */
 uint32_t golly_canon_same_form(const unsigned char *first, size_t first_length,
                                const unsigned char *second, size_t second_length, uint32_t form, uint64_t limit, uint64_t seed,
                                uint32_t *is_same, uint64_t *line);
 
-/* A stream reads a file that comes in pieces, cut anywhere: open it, feed it each piece in turn, finish it, close it. The file need not be held.
+/* A stream reads a file that comes in pieces, cut anywhere: open it, feed it each piece in turn, finish it, close it. The file need not be in memory.
  *
  *     golly_canon_stream stream = {0};
  *     uint32_t status = golly_canon_open_canon(&stream, GOLLY_CANON_SQUARES, seed);
@@ -199,9 +204,9 @@ uint32_t golly_canon_same_form(const unsigned char *first, size_t first_length,
  *         status = golly_canon_finish(&stream, text, sizeof text, &needed, &line);
  *     golly_canon_close(&stream);
  *
- * While pieces come, the stream keeps the squares of the pattern, and the bytes of the line that has not ended; behind the end, the text or the
- * fault. The struct is the caller's memory, and what its members hold is the library's. A stream whose members are 0 is closed. An open one also has
- * memory that the library took, and gives back when the stream is closed.
+ * While pieces come, the stream stores the squares of the pattern and the bytes of the line that has not ended; after the end it stores the text or the
+ * fault. You provide the memory of the struct, but only the library uses its members. A stream whose members are 0 is closed. An open stream also has memory
+ * that the library allocated, and frees when the stream is closed.
  * The caller guarantees, of `stream` in each call below: it isn't NULL; its members are 0, or as the last call on it left them, and no copy of them
  * that is older than that is ever used; an open stream is used by the thread that opened it alone. */
 typedef struct golly_canon_stream {
@@ -209,48 +214,63 @@ typedef struct golly_canon_stream {
     void *session;
 } golly_canon_stream;
 
-/* Opens a stream for a file that begins. One that is open is closed first. The name says what golly_canon_finish gives: what golly_canon_canon,
- * golly_canon_to_rle, golly_canon_show or golly_canon_step gives of a whole file, with this `limit` and `seed`. The status is OK, or Memory, and then
- * the stream is closed.
+/* Opens a stream for a new file. If the stream is open, it is closed first. The name says what golly_canon_finish will give: what golly_canon_canon,
+ * golly_canon_to_rle, golly_canon_show or golly_canon_step gives for a whole file, with this `limit` and `seed`. The status is OK, or it is Memory and the
+ * stream is closed.
  * The caller guarantees what is said of `stream`, which isn't NULL. */
 uint32_t golly_canon_open_canon(golly_canon_stream *stream, uint64_t limit, uint64_t seed);
 uint32_t golly_canon_open_to_rle(golly_canon_stream *stream, uint64_t limit, uint64_t seed);
 uint32_t golly_canon_open_show(golly_canon_stream *stream, uint64_t limit, uint64_t seed);
 uint32_t golly_canon_open_step(golly_canon_stream *stream, uint64_t limit, uint64_t seed);
 
-/* The same for what golly_canon_canon_form gives of a whole file in this form. Of a number of no form it is NoForm, and then the stream is closed.
+/* The same for what golly_canon_canon_form gives of a whole file in this form. For a number of no form it is NoForm, and then the stream is closed.
  * The caller guarantees what is said of `stream`, which isn't NULL. */
 uint32_t golly_canon_open_canon_form(golly_canon_stream *stream, uint32_t form, uint64_t limit, uint64_t seed);
 
-/* Takes the next piece of the file, of any length, also 0. The status is OK, or the number of a kind of fault, with its line of the file in `*line`,
- * or 0. The fault of a line is told by the call that brings the line feed behind it, or the byte that makes the line too long. A stream that has told
- * a fault stays refused: each further golly_canon_feed or golly_canon_finish tells the same fault and line. Spent is told, with 0 in `*line`, where
- * the stream is closed, or has ended with a text, given or without room; it then stays as it is.
+/* Takes the next piece of the file, of any length, also 0. The status is OK, or the number of a kind of fault, with the line of the fault in `*line`, or 0.
+ * The fault of a line is reported by the call that brings the line feed after it, or the byte that makes the line too long. A stream that has reported a
+ * fault stays refused: each further golly_canon_feed, golly_canon_finish or golly_canon_finish_key reports the same fault and line. If the stream is closed,
+ * or has ended with a text or a key (even if that didn't fit), the call returns Spent, with 0 in `*line`, and the stream stays as it is.
  * The caller guarantees what is said of `stream`; `length` bytes to read at `piece`; `*line` to write, apart from those and from the stream. NULL is
- * allowed for none of `stream`, `piece` and `line`. */
+ * allowed for neither `stream` nor `line`. */
 uint32_t golly_canon_feed(golly_canon_stream *stream, const unsigned char *piece, size_t length, uint64_t *line);
 
-/* Ends the file, and answers what the call on a whole file answers of all the bytes that were fed: status, text, `*needed` and `*line`. A last line
- * without a line feed is read here. Called again it gives the same text, or tells the same fault, and computes nothing anew: behind NoRoom hand over
- * more memory. A closed stream is Spent, with 0 in `*needed` and `*line`.
+/* Ends the file, and returns what the call on a whole file returns for all the bytes that were fed: status, text, `*needed` and `*line`. A last line
+ * without a line feed is read here. Called again, it gives the same text or reports the same fault, and computes nothing again: after NoRoom, call it
+ * with more memory. A closed stream is Spent, with 0 in `*needed` and `*line`.
  * The caller guarantees what is said of `stream`; `room` bytes to write at `out`, which were written before; `*needed` and `*line` to write, apart from
- * each other, from `out` and from the stream. NULL is allowed for none of `stream`, `out`, `needed` and `line`. */
+ * each other, from `out` and from the stream. NULL is allowed for none of `stream`, `needed` and `line`. */
 uint32_t golly_canon_finish(golly_canon_stream *stream, unsigned char *out, size_t room, size_t *needed, uint64_t *line);
 
-/* Closes a stream, finished or not, and gives its memory back. A closed one stays closed.
+/* Ends the file as golly_canon_finish does, and gives the key of the text that golly_canon_finish gives: its SHA-256, in 64 hexadecimal digits of lower
+ * case, as the program's `keys` writes it. golly_canon_key gives the same key as 32 bytes. The status and `*line` are those of golly_canon_finish, but for
+ * the space: `*needed` is 64, and with a `room` of less than 64 the call returns NoRoom. You can call golly_canon_finish and golly_canon_finish_key on one
+ * stream in any order and as often as you like; whichever came first, golly_canon_feed is Spent after it. If the stream was opened for extended RLE or
+ * the five lines, these digits are the SHA-256 of that text, which isn't the key of the pattern.
+ * The caller guarantees what golly_canon_finish names: `out` was written before, and none of `stream`, `needed` and `line` is NULL. */
+uint32_t golly_canon_finish_key(golly_canon_stream *stream, unsigned char *out, size_t room, size_t *needed, uint64_t *line);
+
+/* Closes a stream, finished or not, and frees its memory. A closed one stays closed.
  * The caller guarantees what is said of `stream`, which isn't NULL. */
 void golly_canon_close(golly_canon_stream *stream);
 
-/* The name of a status, as `BadChild` of GOLLY_CANON_BAD_CHILD, `OK`, `NoRoom` and `NoForm`; no byte for a number that no kind has. The names are
- * those that the program prints. None has more than 23 bytes.
- * The caller guarantees: `room` bytes to write at `out`, which were written before, and `*needed` to write, apart from each other. NULL is allowed for
- * neither `out` nor `needed`. */
+/* The name of a status: `BadChild` for GOLLY_CANON_BAD_CHILD, and `OK`, `NoRoom` and `NoForm`. For a number that isn't a status it is empty. The program
+ * prints the same names. None has more than 23 bytes.
+ * The caller guarantees: `room` bytes to write at `out`, which were written before, and `*needed` to write, apart from each other. `needed` isn't
+ * NULL. */
 uint32_t golly_canon_status_name(uint32_t status, unsigned char *out, size_t room, size_t *needed);
 
-/* The version of the library, which is that of the program, as `0.2.0`. In 0.2 the calls with a `limit` take a `seed` behind it,
- * and there are calls with a `form`.
- * The caller guarantees: `room` bytes to write at `out`, which were written before, and `*needed` to write, apart from each other. NULL is allowed for
- * neither `out` nor `needed`. */
+/* What a status means, in a sentence of English: `A child number doesn't refer to an earlier square one level down.` for GOLLY_CANON_BAD_CHILD. It is the
+ * sentence that the program's `keys` writes after the name, so that of Full speaks of the program's limit, whatever limit the call was given. For
+ * GOLLY_CANON_OK and for a number that isn't a status it is empty. None has more than 200 bytes. Show it to people, and compare the status: the wording
+ * may change from version to version.
+ * The caller guarantees what golly_canon_status_name names: `out` was written before, and `needed` isn't NULL. */
+uint32_t golly_canon_sentence(uint32_t status, unsigned char *out, size_t room, size_t *needed);
+
+/* The version of the library, which is that of the program, as `0.2.0`. In 0.2 the calls with a `limit` take a `seed` after it,
+ * and there are calls with a `form`, golly_canon_finish_key and golly_canon_sentence.
+ * The caller guarantees: `room` bytes to write at `out`, which were written before, and `*needed` to write, apart from each other. `needed` isn't
+ * NULL. */
 uint32_t golly_canon_version(unsigned char *out, size_t room, size_t *needed);
 
 #ifdef __cplusplus

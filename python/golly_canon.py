@@ -10,29 +10,40 @@ A pattern file is bytes in extended RLE or in macrocell. Two files have one cano
       ...
     golly_canon.Refused: line 2: BadChild
 
-A pattern has three forms, each with its canonical text: `placed`, as it lies; `moved`, with its least box at (0, 0), which two files share exactly if
-they are one pattern wherever it lies; and `turned`, which they share exactly if they are one also where it is turned or reflected. `key` is the SHA-256
-of such a text, for a table of many files:
+A pattern has three forms, each with its canonical text: `placed`, as it lies; `moved`, with its bounding box at (0, 0), which two files share
+exactly if they are one pattern wherever it is; and `turned`, which they share exactly if they are one pattern however it is turned or reflected too. `key`
+is the SHA-256 of such a text, for a table of many files:
 
     >>> golly_canon.key(b"x = 3, y = 3\\nbo$2bo$3o!\\n", "turned") == golly_canon.key(b"#CXRLE Pos=9,9\\nx = 3, y = 3\\n3o$2bo$bo!\\n", "turned")
     True
 
-A file that is refused raises `Refused`. Threads may call at the same time; a `Stream` is used and closed by the thread that made it alone.
+`keys` takes the paths of many files, and goes on where one of them is refused:
 
-The library is found where the environment variable GOLLY_CANON_LIBRARY says, else where the system looks for it, else beside the place of this
-module: in PREFIX/lib of PREFIX/share/golly_canon, or in out/library of the repository. Where it isn't found, the import fails.
+    for it in golly_canon.keys(["glider.mc", "glider.rle"], "turned"):
+        print(it.path, it.why if it.key is None else it.key.hex())
+
+A file that is refused raises `Refused`. A macrocell file that probably isn't what its author meant, because it seems to have lost its line ends or has
+`#RB36/S23` for `#R B36/S23`, is read as the formats say, and a `PatternWarning` is issued. Threads may call at the same time; a `Stream` is used and
+closed only by the thread that made it.
+
+The library is found where the environment variable GOLLY_CANON_LIBRARY says, else beside this module, as in a wheel, else where the system looks for
+it, else in PREFIX/lib of PREFIX/share/golly_canon, or in out/library of the repository. Where it isn't found, the import fails.
 """
 
 import ctypes
 import os
+import re
 import secrets
 import threading
-from typing import Any, BinaryIO, Iterable, Iterator, Literal, NamedTuple, Optional, Union
+import warnings
+from typing import Any, BinaryIO, Callable, Iterable, Iterator, Literal, NamedTuple, Optional, Union
 
-__all__ = ["Box", "Form", "Refused", "Shown", "Stream", "SQUARES", "canon", "key", "same", "show", "step", "stream", "to_rle"]
+__all__ = ["Box", "Form", "Keyed", "PatternWarning", "Refused", "Shown", "Stream", "SQUARES", "canon", "key", "keys", "same", "sentence_of", "show", "step",
+           "stream", "stream_key", "to_rle", "warning_of"]
 __version__ = "0.2.0"
 
 Bytes = Union[bytes, bytearray, memoryview]
+Path = Union[str, bytes, "os.PathLike[str]", "os.PathLike[bytes]"]
 Form = Literal["placed", "moved", "turned"]
 
 #: The limit of a call, if none is given: so many different squares, as the program has it. Beyond it a file is refused as `Full`. To read a file
@@ -41,7 +52,7 @@ SQUARES = 1 << 31
 
 _NAME = "libgolly_canon.so.1"
 _HERE = os.path.dirname(os.path.abspath(__file__))
-_PLACES = [os.path.join(_HERE, "..", "..", "lib", _NAME), os.path.join(_HERE, "..", "out", "library", _NAME)]
+_PLACES = [os.path.join(_HERE, _NAME), _NAME, os.path.join(_HERE, "..", "..", "lib", _NAME), os.path.join(_HERE, "..", "out", "library", _NAME)]
 _CHUNK = 1 << 16
 _FORMS = ("placed", "moved", "turned")  # by their numbers
 _GIVEN = ("canon", "to_rle", "show", "step")
@@ -64,11 +75,13 @@ _CALLS = {
     "open_canon_form": [_STREAM, _FORM, _NUMBER, _NUMBER],
     "feed": [_STREAM, *_BYTES, _LINE],
     "finish": [_STREAM, *_OUT, _LINE],
+    "finish_key": [_STREAM, *_OUT, _LINE],
     "close": [_STREAM],
     "key": [*_BYTES, _FORM, _NUMBER, _NUMBER, *_OUT, _LINE],
     "same_form": [*_BYTES, *_BYTES, _FORM, _NUMBER, _NUMBER, _FLAG, _LINE],
     "step_by_table": [*_BYTES, *_BYTES, _NUMBER, _NUMBER, *_OUT, _LINE, _FLAG],
     "status_name": [ctypes.c_uint32, *_OUT],
+    "sentence": [ctypes.c_uint32, *_OUT],
     "version": _OUT,
 }
 
@@ -90,7 +103,7 @@ def _loaded() -> ctypes.CDLL:
     """The library, from the first place that has it."""
     named = os.environ.get("GOLLY_CANON_LIBRARY")
     tried = []
-    for place in [named] if named else [_NAME, *map(os.path.normpath, _PLACES)]:
+    for place in [named] if named else map(os.path.normpath, _PLACES):
         try:
             return _loaded_from(place)
         except (OSError, AttributeError) as why:
@@ -106,7 +119,8 @@ class Refused(Exception):
     """Why a file, a rule table or a pattern is refused.
 
     `kind` is the name of the kind of fault, as docs/FORMATS.md has it. `line` is the line of the file, counted from 1, or None where the fault is of
-    no line. With `in_table` it is a line of the rule table. As a text it is the line that the program writes, as `line 4: BadChild`.
+    no line. With `in_table` it is a line of the rule table. As a text it is the line that the program writes, as `line 4: BadChild`. `sentence` says in
+    a sentence what the kind means.
     """
 
     def __init__(self, kind: str, line: Optional[int] = None, in_table: bool = False) -> None:
@@ -115,12 +129,30 @@ class Refused(Exception):
         self.line = line
         self.in_table = in_table
 
+    @property
+    def sentence(self) -> str:
+        """What the kind means, in a sentence: what `sentence_of` returns."""
+        return sentence_of(self.kind)
+
     def __str__(self) -> str:
         return self.kind if self.line is None else f"{'table ' if self.in_table else ''}line {self.line}: {self.kind}"
 
 
+class PatternWarning(UserWarning):
+    """A macrocell file is read as the formats say, and that probably isn't what its author meant: `warning_of` has the cases."""
+
+
+class Keyed(NamedTuple):
+    """What `keys` finds of a file: its path as it was given; its key, 32 bytes; or why it has none, a `Refused` or an `OSError`; and a warning."""
+
+    path: Path
+    key: Optional[bytes]
+    why: Optional[Exception]
+    warning: Optional[str]
+
+
 class Box(NamedTuple):
-    """The least box of the cells that aren't 0. `top` is the row with the least number, as y grows downwards."""
+    """The bounding box of the cells that aren't 0. `top` is the row with the least number, as y grows downwards."""
 
     left: int
     top: int
@@ -129,8 +161,8 @@ class Box(NamedTuple):
 
 
 class Shown(NamedTuple):
-    """What a pattern file holds: the rule in its canonical spelling, the generation, how many cells aren't 0, their least box (None without such
-    cells), and how many squares the canonical text has, a line each."""
+    """What a pattern file holds: the rule in its canonical form, the generation, how many cells aren't 0, their bounding box (None without
+    such cells), and how many squares the canonical text has, a line each."""
 
     rule: str
     generation: int
@@ -150,11 +182,83 @@ def _bytes_of(data: Bytes) -> bytes:
     return data if isinstance(data, bytes) else bytes(memoryview(data))
 
 
+class _Watch:
+    """Watches the chunks of a macrocell file, up to its first line of squares, for what its author probably didn't mean: that it lost its line ends, and a rule
+    or a generation that is a comment. It keeps the first line, and the line that has not ended."""
+
+    _RETURN = "line 1 has a carriage return inside it: the file seems to have lost its line ends, so that most of it is read as a comment"
+    _SQUARES = "the file has no line of squares, so it is the blank pattern; a macrocell file that lost its line ends looks like this"
+    _COMMENT = "a line such as `#RB36/S23` or `#G7`, without a space, is a comment here, and a rule or a generation in Golly"
+    _LINE_OF_SQUARES = re.compile(rb"(?m)^[ \t\r]*[^#\s]")
+    _MEANT_OTHERWISE = re.compile(rb"(?m)^#(?:R(?:[BbSs][0-8]|[0-8]*/[0-8]*)|G[0-9])")
+
+    def __init__(self) -> None:
+        self._rest, self._is_first, self._is_done = b"", True, False
+        self._warning: Optional[str] = None
+
+    def take(self, chunk: bytes) -> None:
+        if self._is_done:
+            return
+        data = self._rest + chunk
+        if self._is_first:
+            if data[:4] != b"[M2]"[: len(data)]:
+                self._is_done = True
+                return
+            line, end, after = data.partition(b"\n")
+            if b"\r" in line.rstrip(b"\r"):
+                self._is_done, self._warning = True, self._RETURN
+                return
+            if not end:
+                self._rest = data
+                return
+            self._is_first, data = False, after
+        squares, whole = self._LINE_OF_SQUARES.search(data), data.rfind(b"\n") + 1
+        if self._MEANT_OTHERWISE.search(data, 0, squares.start() if squares else whole):
+            self._is_done, self._warning = True, self._COMMENT
+        elif squares:
+            self._is_done = True
+        self._rest = data[whole:]
+
+    def found(self) -> Optional[str]:
+        """The warning, if there is one, when the file has ended."""
+        is_macrocell = not self._is_first or self._rest[:4] == b"[M2]"
+        return self._warning if self._is_done else self._SQUARES if is_macrocell else None
+
+
+def warning_of(data: Bytes) -> Optional[str]:
+    """What is odd about a file that is accepted. A macrocell file whose first line has a carriage return inside it, or that has no line of squares, seems to
+    have lost its line ends; and in one with a line such as `#RB36/S23` or `#G7` before its squares this is a comment, but a rule or a generation in Golly.
+    None of any other file."""
+    found = _Watch()
+    found.take(_bytes_of(data))
+    return found.found()
+
+
+def _warn(warning: Optional[str], level: int) -> None:
+    """Issues a warning, if there is one, for the caller of the function so many levels above."""
+    if warning is not None:
+        warnings.warn(warning, PatternWarning, stacklevel=level + 1)
+
+
+def _said(what: str, status: int) -> str:
+    """What the library says of a status: with `status_name` its name, with `sentence` what it means."""
+    text, needed = ctypes.create_string_buffer(256), ctypes.c_size_t()
+    getattr(_library, f"golly_canon_{what}")(status, text, len(text), ctypes.byref(needed))
+    return text.raw[: needed.value].decode("ascii")
+
+
 def _refused(status: int, line: int, in_table: bool) -> Refused:
     """What a status says."""
-    name, needed = ctypes.create_string_buffer(32), ctypes.c_size_t()
-    _library.golly_canon_status_name(status, name, len(name), ctypes.byref(needed))
-    return Refused(name.raw[: needed.value].decode("ascii"), line or None, bool(line) and in_table)
+    return Refused(_said("status_name", status), line or None, bool(line) and in_table)
+
+
+def sentence_of(kind: str) -> str:
+    """What a kind of fault means, in a sentence of English, as `golly_canon keys` writes it after the kind: of `ZeroCount` it is `A count is 0.` That of `Full`
+    speaks of the limit that the program has. A name that is no kind raises `ValueError`."""
+    for status in range(1, _NO_ROOM):
+        if kind and _said("status_name", status) == kind:
+            return _said("sentence", status)
+    raise ValueError(f"no kind of fault has the name {kind!r}")
 
 
 class Stream:
@@ -163,13 +267,16 @@ class Stream:
         with golly_canon.Stream() as file:
             for chunk in chunks:
                 file.feed(chunk)
-            text = file.finish()
+            text = file.finish()  # and file.finish_key()
 
     `gives` says what comes of it: `canon`, `to_rle`, `show` or `step`; `form` is that of the text of `canon`. `limit` is the most different squares
     that it may store: `14 * length + 264` suffices to read, with the length of all that is fed.
     """
 
+    _level = 2  # the caller of `finish`, to whom a warning goes
+
     def __init__(self, gives: str = "canon", *, form: Form = "placed", limit: int = SQUARES) -> None:
+        self._watch = _Watch()
         self._struct, self._line, self._thread = _Struct(), ctypes.c_uint64(), threading.get_ident()
         if gives not in _GIVEN:
             raise ValueError(f"a stream gives canon, to_rle, show or step, and not {gives!r}")
@@ -194,19 +301,28 @@ class Stream:
     def feed(self, chunk: Bytes) -> None:
         """Takes the next chunk. A line is refused with the chunk in which it ends, and then each further chunk and the end are refused alike."""
         data = _bytes_of(chunk)
+        self._watch.take(data)
         self._check(_library.golly_canon_feed(self._own(), data, len(data), ctypes.byref(self._line)))
 
     def finish(self) -> bytes:
         """Ends the file, and returns the text. Called again it returns the same."""
         room, needed = 0, ctypes.c_size_t()
         status = _NO_ROOM
-        while status == _NO_ROOM:  # the second time with the room that the text needs
+        while status == _NO_ROOM:  # the second time with the memory that the text needs
             text = ctypes.create_string_buffer(room)
             out = text, room, ctypes.byref(needed), ctypes.byref(self._line)
             status = _library.golly_canon_finish(self._own(), *out)
             room = needed.value
         self._check(status)
+        _warn(self._watch.found(), self._level)
         return text.raw
+
+    def finish_key(self) -> bytes:
+        """Ends the file, and returns the key of the text that `finish` returns: its SHA-256, 32 bytes. Both can be called, in any order and again."""
+        digits, needed = ctypes.create_string_buffer(64), ctypes.c_size_t()
+        self._check(_library.golly_canon_finish_key(self._own(), digits, len(digits), ctypes.byref(needed), ctypes.byref(self._line)))
+        _warn(self._watch.found(), self._level)
+        return bytes.fromhex(digits.raw.decode("ascii"))
 
     def close(self) -> None:
         """Gives the memory of the stream back. A closed one refuses each further call as `Spent`."""
@@ -248,21 +364,41 @@ def stream(source: Union[BinaryIO, Iterable[Bytes]], gives: str = "canon", *, fo
 
     `gives` is `canon`, `to_rle`, `show` or `step`; `form` is that of the text of `canon`. What it reads is not held. Raises `Refused`.
     """
+    return _streamed(source, gives, form, limit, 3)
+
+
+def stream_key(source: Union[BinaryIO, Iterable[Bytes]], form: Form = "placed", *, limit: int = SQUARES) -> bytes:
+    """The key of a file that comes in chunks, as `stream` takes them: what `key` returns for the whole file. Raises `Refused`."""
+    return _streamed(source, "canon", form, limit, 3, Stream.finish_key)
+
+
+def _streamed(source: Union[BinaryIO, Iterable[Bytes]], gives: str, form: Form, limit: int, level: int,
+              end: Callable[[Stream], bytes] = Stream.finish) -> bytes:
+    """What the end of a stream gives, for a caller so many levels above."""
     with Stream(gives, form=form, limit=limit) as file:
+        file._level = level + 1
         for chunk in _chunks_of(source):
             file.feed(chunk)
-        return file.finish()
+        return end(file)
 
 
 def canon(data: Bytes, form: Form = "placed", *, limit: int = SQUARES) -> bytes:
     """The canonical text of the pattern of a file, in a form. Raises `Refused`, also of a pattern with more than 2^20 cells that aren't 0 (`TooManyCells`),
     unless the form is `placed`."""
-    return stream([data], "canon", form=form, limit=limit)
+    return _streamed([data], "canon", form, limit, 3)
 
 
 def key(data: Bytes, form: Form = "placed", *, limit: int = SQUARES) -> bytes:
     """The SHA-256 of the text that `canon` gives, 32 bytes; `.hex()` is what `sha256sum` writes of it. Raises `Refused` as `canon` does."""
-    file, found, needed, line = _bytes_of(data), ctypes.create_string_buffer(32), ctypes.c_size_t(), ctypes.c_uint64()
+    file = _bytes_of(data)
+    found = _key(file, form, limit)
+    _warn(warning_of(file), 2)
+    return found
+
+
+def _key(file: bytes, form: Form, limit: int) -> bytes:
+    """The same without a warning."""
+    found, needed, line = ctypes.create_string_buffer(32), ctypes.c_size_t(), ctypes.c_uint64()
     out = found, len(found), ctypes.byref(needed), ctypes.byref(line)
     status = _library.golly_canon_key(file, len(file), _number_of(form), _limit_of(limit), _SEED, *out)
     if status:
@@ -270,25 +406,49 @@ def key(data: Bytes, form: Form = "placed", *, limit: int = SQUARES) -> bytes:
     return found.raw
 
 
+def keys(paths: Iterable[Path], form: Form = "placed", *, limit: int = SQUARES) -> Iterator[Keyed]:
+    """The key of each of these files, in their order: what `key` gives, or why the file has none. It goes on where a file is refused or can't be read, and
+    holds one file at a time. Files with equal keys are duplicates:
+
+        groups = {}
+        for it in golly_canon.keys(paths, "turned"):
+            if it.key is not None:
+                groups.setdefault(it.key, []).append(it.path)
+    """
+    number = _number_of(form)  # refused here, and not in the middle of the files
+    return (_keyed(path, _FORMS[number], limit) for path in paths)
+
+
+def _keyed(path: Path, form: Form, limit: int) -> Keyed:
+    """The key of one file."""
+    try:
+        with open(path, "rb") as file:
+            data = file.read()
+        return Keyed(path, _key(data, form, limit), None, warning_of(data))
+    except (OSError, Refused) as why:
+        return Keyed(path, None, why, None)
+
+
 def to_rle(data: Bytes, *, limit: int = SQUARES) -> bytes:
     """The pattern of a file in extended RLE. Raises `Refused`, also of a pattern with more than 2^20 cells that aren't 0 (`TooManyCells`)."""
-    return stream([data], "to_rle", limit=limit)
+    return _streamed([data], "to_rle", "placed", limit, 3)
 
 
 def show(data: Bytes, *, limit: int = SQUARES) -> Shown:
     """What a pattern file holds. Raises `Refused`."""
-    return Shown.of(stream([data], "show", limit=limit))
+    return Shown.of(_streamed([data], "show", "placed", limit, 3))
 
 
 def same(first: Bytes, second: Bytes, form: Form = "placed", *, limit: int = SQUARES) -> bool:
     """Whether two files are one pattern, in a form: whether `canon` gives one text of them. Raises `Refused` for the first file where that is refused,
-    and else for the second. Two turned patterns of different generations are told apart whatever their cells."""
+    and else for the second. Two turned patterns of different generations are different whatever their cells are."""
     one, other, number = _bytes_of(first), _bytes_of(second), _number_of(form)
     is_same, line = ctypes.c_uint32(), ctypes.c_uint64()
     answered = ctypes.byref(is_same), ctypes.byref(line)
     status = _library.golly_canon_same_form(one, len(one), other, len(other), number, _limit_of(limit), _SEED, *answered)
     if status:
         raise _refused(status, line.value, False)
+    _warn(warning_of(one) or warning_of(other), 2)
     return bool(is_same.value)
 
 
@@ -296,14 +456,15 @@ def step(data: Bytes, table: Optional[Bytes] = None, *, limit: int = SQUARES) ->
     """The canonical text of the next generation of the pattern of a file: without a table by its B/S rule, and of a pattern under a name by the rule
     table of that name, the bytes of a .rule file. Raises `Refused`, also of a pattern that has no next generation."""
     if table is None:
-        return stream([data], "step", limit=limit)
+        return _streamed([data], "step", "placed", limit, 3)
     file, rule, room, status = _bytes_of(data), _bytes_of(table), _CHUNK, _NO_ROOM
     needed, line, in_table = ctypes.c_size_t(), ctypes.c_uint64(), ctypes.c_uint32()
-    while status == _NO_ROOM:  # the second time with the room that the text needs
+    while status == _NO_ROOM:  # the second time with the memory that the text needs
         text = ctypes.create_string_buffer(room)
         out = text, room, ctypes.byref(needed), ctypes.byref(line), ctypes.byref(in_table)
         status = _library.golly_canon_step_by_table(file, len(file), rule, len(rule), _limit_of(limit), _SEED, *out)
         room = needed.value
     if status:
         raise _refused(status, line.value, bool(in_table.value) or status == _AMBIGUOUS)
+    _warn(warning_of(file), 2)
     return text.raw[: needed.value]

@@ -1,7 +1,8 @@
--- The names of statuses.
+-- The names of statuses, and what each means in a sentence.
 use Rattle.std.specs.Prelude.{ℕ, ◌==◌, List, [], Option, Some, None, find, codes, if◌then◌else◌}
 use Rattle.life_base.specs.Kinds.{kind_number, kind_name}
 use Rattle.life_base.specs.declared.kind.Kind.{Kind}
+use Rattle.fault_sentences.specs.Sentences.{sentence_of}
 use Rattle.golly_canon_c.specs.declared.names.TheConstants.{KINDS}
 
 -- the name of a kind, and no byte for none
@@ -15,3 +16,15 @@ status_name number =
     if number == 0 then codes "OK"
     else (if number == 64 then codes "NoRoom"
     else (if number == 65 then codes "NoForm" else name_or_none (find (λ kind. kind_number kind == number) KINDS)))
+
+-- the sentence of a kind, and no byte for none
+abbrev pub sentence_or_none : Option Kind → List ℕ
+sentence_or_none None = []
+sentence_or_none (Some kind) = sentence_of kind
+
+-- what a status means, in a sentence; that of no fault has none
+abbrev pub status_sentence : ℕ → List ℕ
+status_sentence number =
+    if number == 64 then codes "The text has more bytes than the memory that was given for it."
+    else (if number == 65 then codes "The number isn't that of a form of a pattern."
+    else sentence_or_none (find (λ kind. kind_number kind == number) KINDS))

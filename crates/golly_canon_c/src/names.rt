@@ -1,8 +1,9 @@
-//! The names of statuses, and the version.
+//! The names of statuses, what each means in a sentence, and the version.
 
 ghost use Rattle.std.specs.Prelude.{◌≡◌, ◌≢◌, ◌==◌, [], codes, find};
-ghost use Rattle.golly_canon_c.specs.Words.{KindValue, kind_number, kind_name, Gives, told, status_name};
+ghost use Rattle.golly_canon_c.specs.Words.{KindValue, kind_number, kind_name, Gives, told, status_name, sentence_of, status_sentence};
 
+use fault_sentences::sentence;
 use library_calls::{NO_FORM, NO_ROOM, give};
 use life_base::Kind;
 
@@ -79,7 +80,21 @@ fn name_of(number: u32) -> &'static [u8]
     }
 }
 
-/// Gives a name, and puts its length into `needed`. The answer is the status.
+/// What a status means: the sentence of the kind, one for `NO_ROOM` and `NO_FORM`, and no byte for 0 and for a number that no call answers.
+fn meaning_of(number: u32) -> &'static [u8]
+    ensures { result.now ≡ status_sentence number }
+{
+    match number {
+        NO_ROOM => b"The text has more bytes than the memory that was given for it.",
+        NO_FORM => b"The number isn't that of a form of a pattern.",
+        _ => match kind_of(number) {
+            Some(kind) => sentence(kind).as_bytes(),
+            None => b"",
+        },
+    }
+}
+
+/// Gives a name or a sentence, and puts its length into `needed`. The answer is the status.
 fn tell_name(name: &[u8], out: &mut [u8], needed: &mut usize) -> u32
     ensures { Gives name.now out.old out.new (told result needed.new 0) }
 {
@@ -103,6 +118,25 @@ pub extern "C" fn golly_canon_status_name(number: u32, out: &mut [u8], needed: &
         → Gives [] out.old out.new (told result needed.new 0) }
 {
     tell_name(name_of(number), out, needed)
+}
+
+/// What a status means, in a sentence: that of the kind of fault, which the program writes, one for `NoRoom` and `NoForm`, and no byte for `OK` and for a
+/// number that no call answers.
+#[unsafe(no_mangle)]
+pub extern "C" fn golly_canon_sentence(number: u32, out: &mut [u8], needed: &mut usize) -> u32
+    ensures kind { (kind : KindValue) → number ≡ kind_number kind
+        → Gives (sentence_of kind) out.old out.new (told result needed.new 0) }
+    ensures no_room { number ≡ 64
+        → Gives (codes "The text has more bytes than the memory that was given for it.")
+        out.old out.new (told result needed.new 0) }
+    ensures no_form { number ≡ 65
+        → Gives (codes "The number isn't that of a form of a pattern.") out.old out.new
+        (told result needed.new 0) }
+    ensures none { number ≢ 64 → number ≢ 65
+        → ((kind : KindValue) → number ≢ kind_number kind)
+        → Gives [] out.old out.new (told result needed.new 0) }
+{
+    tell_name(meaning_of(number), out, needed)
 }
 
 /// The version of the library, which is that of the program.

@@ -1,10 +1,12 @@
 //! The calls on streams: a file in pieces, and one answer at its end.
 
 ghost use Rattle.std.specs.Prelude.{◌≡◌, None, IfSome, MatchOption};
-ghost use Rattle.golly_canon_c.specs.Words.{text_in, form_numbered, session_of, Opens, Feeds, Finishes, IsSpent, TellsPiece, TellsNothing, TellsEnd, told, OutputValue};
+ghost use Rattle.golly_canon_c.specs.Words.{text_in, form_numbered, session_of, Opens, Feeds, Finishes, IsSpent, TellsPiece, TellsNothing, TellsEnd, TellsKey, TellsText, told, OutputValue};
 
 use crate::told::tell;
-use library_calls::{Options, Output, Stream, close, feed, finish, open, open_canon_form};
+use library_calls::{
+    Options, Output, Stream, close, feed, finish, finish_key, open, open_canon_form,
+};
 use std::alloc::Global;
 
 /// Opens a stream whose end gives the canonical text, and closes it first where it is open.
@@ -74,7 +76,7 @@ pub extern "C" fn golly_canon_open_step(
     open(alloc, stream, Output::Next, Options { limit, seed })
 }
 
-/// Takes the next piece of the file. The fault of a line that it tells is that of the whole file, whatever bytes follow (`faults_stay` of
+/// Takes the next piece of the file. The fault of a line that it reports is that of the whole file, whatever bytes follow (`faults_stay` of
 /// `life_canon`).
 #[unsafe(no_mangle)]
 pub extern "C" fn golly_canon_feed(
@@ -93,7 +95,7 @@ pub extern "C" fn golly_canon_feed(
     answer.status
 }
 
-/// Ends the file, and gives its text or tells its fault, as often as it is called.
+/// Ends the file, and gives its text or its fault, as often as it is called.
 #[unsafe(no_mangle)]
 pub extern "C" fn golly_canon_finish(
     alloc: Global,
@@ -110,6 +112,27 @@ pub extern "C" fn golly_canon_finish(
         (TellsEnd out.old out.new (told result needed.new line.new)) }
 {
     tell(finish(alloc, stream, out), needed, line)
+}
+
+/// Ends the file, and gives the key of the text that `golly_canon_finish` gives, or its fault, as often as it is called: the SHA-256 of the text, in 64
+/// hex digits.
+#[unsafe(no_mangle)]
+pub extern "C" fn golly_canon_finish_key(
+    alloc: Global,
+    stream: &mut Stream,
+    out: &mut [u8],
+    needed: &mut usize,
+    line: &mut u64,
+) -> u32
+    ensures closed { session_of stream.old ≡ None
+        → (session_of stream.new ≡ None)
+        × TellsNothing out.old out.new (told result needed.new line.new) }
+    ensures finishes { Finishes (session_of stream.old) (session_of stream.new) }
+    ensures tells { IfSome (session_of stream.new)
+        (TellsKey out.old out.new (told result needed.new line.new)) }
+    ensures digits { TellsText (told result needed.new line.new) → needed.new ≡ 64 }
+{
+    tell(finish_key(alloc, stream, out), needed, line)
 }
 
 /// Closes a stream.

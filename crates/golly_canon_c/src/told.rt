@@ -1,11 +1,11 @@
-//! What a call told, put where the caller wants it.
+//! The result of a call, put where the caller wants it.
 
 ghost use Rattle.std.specs.Prelude.{◌≡◌};
 ghost use Rattle.golly_canon_c.specs.Words.{compared, told};
 
 use library_calls::{Compared, Told};
 
-/// Puts the length and the line of what was told into `needed` and `line`. The answer is the status.
+/// Puts the length and the line of a result into `needed` and `line`, and returns the status.
 pub(crate) fn tell(answer: Told, needed: &mut usize, line: &mut u64) -> u32
     ensures { answer ≡ told result needed.new line.new }
 {

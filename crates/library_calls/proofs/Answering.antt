@@ -44,7 +44,7 @@ and-lacks P (Err fault) p lacks = (p, λ full. lacks (ap (λ (f : Fault). Err f)
 pub not-full : {P : Type 0} (fault : Fault) → fault ≡ fault_of Memory → fault ≡ fault_of Full → P
 not-full fault memory full = let e : Memory ≡ Full = ap (λ (f : Fault). f.kind) (sym memory ∙ full) in absurd cc
 
--- a store that was empty, and had no room beside what it held, is tight
+-- a store that was empty, and had no room besides what it held, is tight
 pub tight : (room : ℕ) (old new : Nodes) → held old ≡ [] → new.limit ≡ old.limit → old.limit < length (held old) + room → new.limit < room
 tight room old new empty same low = let none : length (held old) ≡ 0 = ap (λ (squares : List Tree). length squares) empty in omega (arith, none, same, low)
 

@@ -17,11 +17,12 @@ use Rattle.life_quad.specs.Keeping.{AddsOnly}
 use Rattle.life_quad.specs.Store.{Nodes, IsShared, content, held, id_of}
 use Rattle.life_canon.specs.Calls.{EndsInto, FeedsInto, ReadsInto}
 use Rattle.life_canon.specs.Needs.{IsNew, LacksFor}
-use Rattle.life_canon.specs.Room.{HoldsFile, AddsFile, HoldsFront, HoldsOnly, room_for}
+use Rattle.life_canon.specs.Room.{FewSquares, HoldsFile, AddsFile, HoldsFront, HoldsOnly, room_for}
 use Rattle.life_canon.specs.Store.{IsRead}
 use Rattle.life_canon.specs.declared.pattern.Pattern.{Pattern}
 use Rattle.life_canon.proofs.RoomCount.{Found, find-file, find-lines}
 use Rattle.life_canon.proofs.RoomLists.{Among, among-contains, contains-among, distinct-pairs, pigeons}
+use Rattle.library_calls.specs.InForm.{SomeOfMoving, SomeToMove}
 use Rattle.library_calls.specs.Outputs.{IsTooLowForFront, SomeOfFront}
 use Rattle.library_calls.specs.Texts.{Fits, IsTooLowFor, NeedsMore, SomeToRead, room_of}
 use Rattle.library_calls.proofs.Answering.{tight, tight-alone}
@@ -70,18 +71,60 @@ needs-more Needs Others most f more = (more.0, more.1, λ k d lt. let it = more.
 pub within : (store : Nodes) → IsShared store → length (held store) ≤ store.limit
 within store shared = let same = length-map store.log (λ k. content store (id_of k)) in let len = shared.len in omega (arith, same, len)
 
+-- a list that has all that is needed is longer than what more is needed than
+pub longer : (Needs : (Tree → Type 0) → Type 0) (list : List Tree) (most : ℕ)
+    → ((t : Tree) → is_blank_tree t ≡ false → Needs (λ u. u ≡ t) → Contains list t) → NeedsMore Needs most → most < length list
+longer Needs list most all more =
+    let squares = more.0 in
+    let Is = λ (t : Tree). (is_blank_tree t ≡ false) × Needs (λ u. u ≡ t) in
+    let have : (x : Tree) → Among squares x → Among list x = λ x a.
+    let it : Is x = All-contains Is squares x more.2 (contains-among squares x a) in among-contains list x (all x it.0 it.1) in
+    let least = pigeons squares list (distinct-pairs squares more.1) have in
+    let over = more.3 in
+    omega (arith, least, over)
+
 -- all that is needed is held
 pub enough : (Needs : (Tree → Type 0) → Type 0) (store : Nodes) → IsShared store
     → ((t : Tree) → is_blank_tree t ≡ false → Needs (λ u. u ≡ t) → Contains (held store) t) → ¬ NeedsMore Needs store.limit
 enough Needs store shared all more =
-    let squares = more.0 in
-    let Is = λ (t : Tree). (is_blank_tree t ≡ false) × Needs (λ u. u ≡ t) in
-    let have : (x : Tree) → Among squares x → Among (held store) x = λ x a.
-    let it : Is x = All-contains Is squares x more.2 (contains-among squares x a) in among-contains (held store) x (all x it.0 it.1) in
-    let least = pigeons squares (held store) (distinct-pairs squares more.1) have in
+    let long = longer Needs (held store) store.limit all more in
     let most = within store shared in
-    let over = more.3 in
-    omega (arith, least, most, over)
+    omega (arith, long, most)
+
+-- ---- the bound by the bytes
+
+-- where more squares are needed to read a file than the limit, the limit is below the bound by the bytes
+pub below-room : FewSquares → (bytes : List ℕ) (most : ℕ) → NeedsMore (SomeToRead bytes) most → most < room_for (length bytes)
+below-room few bytes most more =
+    let squares = few bytes in
+    let long = longer (SomeToRead bytes) squares.0 most squares.2 more in
+    let short = squares.1 in
+    omega (arith, long, short)
+
+-- squares that are needed to read a file or to move its pattern are all needed to read it, or one is needed to move it
+read-or-moved : (bytes : List ℕ) (squares : List Tree) → All (λ t. (is_blank_tree t ≡ false) × SomeToMove bytes (λ u. u ≡ t)) squares
+    → All (λ t. (is_blank_tree t ≡ false) × SomeToRead bytes (λ u. u ≡ t)) squares ⊎ ((t : Tree) × SomeOfMoving bytes (λ u. u ≡ t))
+read-or-moved bytes [] all = inl (λ k d lt. absurd (omega (arith, lt)))
+read-or-moved bytes (t ∷ rest) all =
+    let Reads = λ (u : Tree). (is_blank_tree u ≡ false) × SomeToRead bytes (λ v. v ≡ u) in
+    let first = all zero t (omega arith) in
+    elim first.1 [
+      | inr moving ↦ inr (t, moving)
+      | inl reading ↦
+          elim (read-or-moved bytes rest (λ k d lt. all (suc k) d (omega (arith, lt)))) [
+            | inl more ↦ inl (all-cons Reads t rest (first.0, reading) more)
+            | inr moving ↦ inr moving
+          ]
+    ]
+
+-- Where more squares are needed to read a file and to move its pattern than the limit, the limit is below the bound by the bytes, or a square is
+-- needed to move the pattern, and those are bounded by no length of a file.
+pub below-room-or-moved : FewSquares → (bytes : List ℕ) (most : ℕ) → NeedsMore (SomeToMove bytes) most
+    → (most < room_for (length bytes)) ⊎ ((t : Tree) × SomeOfMoving bytes (λ u. u ≡ t))
+below-room-or-moved few bytes most more = elim (read-or-moved bytes more.0 more.2) [
+  | inl reads ↦ inl (below-room few bytes most (more.0, more.1, reads, more.3))
+  | inr moving ↦ inr moving
+]
 
 -- ---- what a store holds
 
@@ -100,7 +143,7 @@ from-needed Before Added Needs old new f g before adds t there = elim (adds.each
   | inr it ↦ g _ it
 ]
 
--- beside no square
+-- besides no square
 pub only-needed : (bytes : List ℕ) (store : Nodes) → HoldsOnly [] bytes store → HoldsNeeded (SomeToRead bytes) store
 only-needed bytes store only t there = elim (only t there) [ inl none ↦ no-square t none | inr it ↦ it ]
 

@@ -4,7 +4,7 @@
 --     content, handle     the session and its allocator, as the calls of a box take them
 --     holds               a pointer with what it owns is a `Held`
 --     called              the contract of a call
---     asks, gives         what a call of a box asks beside its arguments and its `requires`, and what it gives
+--     asks, gives         what a call of a box asks besides its arguments and its `requires`, and what it gives
 --     found               the session that is held
 pub use Rattle.std.proofs.Common.{◌≡◌, [], ◌∷◌, refl, sym, ap, ◌∙◌}
 pub use base.Fml.{ftrue}

@@ -1,5 +1,7 @@
 -- What a stream holds, and what the calls on it tell of the bytes that were fed.
 use Rattle.std.specs.Prelude.{◌≡◌, ◌⊎◌, ◌++◌, ℕ, Option, Some, None, List, []}
+use Rattle.hex.specs.Hex.{encode_lower}
+use Rattle.sha2.specs.Sha256.{sha256}
 use Rattle.life_base.specs.Kinds.{kind_number}
 use Rattle.life_base.specs.declared.cell.TheConstants.{MAX_LEVEL}
 use Rattle.life_base.specs.declared.fault.Fault.{Fault}
@@ -88,3 +90,13 @@ abbrev pub TellsEnd : (before after : List ℕ) → Told → Session → Type 0
 TellsEnd before after it (Reading feeding) = TellsNothing before after it
 TellsEnd before after it (Written text) = Gives text.items before after it × (it.line ≡ 0)
 TellsEnd before after it (Refused fault) = Tells fault before after it
+
+-- the key of a text: its SHA-256, in 64 hex digits of lower case
+abbrev pub key_digits : List ℕ → List ℕ
+key_digits text = encode_lower (sha256 text)
+
+-- what `finish_key` reports of the session: the key of the text that `finish` gives, or its fault
+abbrev pub TellsKey : (before after : List ℕ) → Told → Session → Type 0
+TellsKey before after it (Reading feeding) = TellsNothing before after it
+TellsKey before after it (Written text) = Gives (key_digits text.items) before after it × (it.line ≡ 0)
+TellsKey before after it (Refused fault) = Tells fault before after it

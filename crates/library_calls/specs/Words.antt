@@ -5,7 +5,7 @@ pub use Rattle.library_calls.specs.ComparingInForm.{AreOneInForm, ComparesInForm
 pub use Rattle.library_calls.specs.Outputs.{IsTextOf, IsTextOfRead, RefusesPiece, RefusesTextOf, RefusesTextOfRead, text_in}
 pub use Rattle.library_calls.specs.InForm.{form_numbered, IsKeyInForm, IsTextInForm, AnswersInForm}
 pub use Rattle.library_calls.specs.Stepping.{RefusesStepByWithin, RefusesStepWithin, StepsByTable}
-pub use Rattle.library_calls.specs.Streams.{Feeds, Finishes, IsSpent, Opens, session_of, TellsEnd, TellsNothing, TellsPiece}
+pub use Rattle.library_calls.specs.Streams.{Feeds, Finishes, IsSpent, key_digits, Opens, session_of, TellsEnd, TellsKey, TellsNothing, TellsPiece}
 pub use Rattle.library_calls.specs.Told.{Answers, Gives, Tells, told}
 pub use Rattle.life_base.specs.Kinds.{kind_number}
 pub use Rattle.life_base.specs.Refusal.{fault_of}

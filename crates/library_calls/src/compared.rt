@@ -9,7 +9,7 @@ use crate::pattern_form::PatternForm;
 use life_base::Fault;
 use std::alloc::Global;
 
-/// What a comparison tells.
+/// The result of a comparison.
 #[derive(Clone, Copy)]
 pub struct Compared {
     /// 0 where the two were compared; else `NO_FORM`, or the number of a kind of fault.
@@ -21,7 +21,7 @@ pub struct Compared {
 }
 
 impl Compared {
-    /// Tells the answer.
+    /// Reports the answer.
     pub(crate) fn of(answer: bool) -> Compared
         ensures { result ≡ compared 0 (if answer then 1 else 0) 0 }
     {
@@ -32,7 +32,7 @@ impl Compared {
         }
     }
 
-    /// Tells a fault.
+    /// Reports a fault.
     pub(crate) fn refused(fault: &Fault) -> Compared
         ensures { result ≡ compared (kind_number fault.now.kind) 0 fault.now.place.line }
     {

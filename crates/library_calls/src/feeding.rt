@@ -12,7 +12,7 @@ use life_quad::Shared;
 use std::alloc::Global;
 use std::marker::Model;
 
-/// A reader, its store, in which its squares stand, and which text its end gives.
+/// A reader, the store of its squares, and which text its end gives.
 #[derive(Drop)]
 pub struct Feeding {
     reader: Reader,

@@ -36,7 +36,7 @@ pub(crate) fn text_in(form: PatternForm) -> Output
     }
 }
 
-/// What is told where no form has the number.
+/// The result if no form has the number.
 fn no_form() -> Told
     ensures { result ≡ told 65 0 0 }
 {

@@ -25,6 +25,6 @@ pub use in_form::{NO_FORM, canon_form, key};
 pub use options::Options;
 pub use steps::{step, step_by_table};
 pub use stream::Stream;
-pub use streams::{close, feed, finish, open, open_canon_form};
+pub use streams::{close, feed, finish, finish_key, open, open_canon_form};
 pub use texts::{Output, canon, show, to_rle};
 pub use told::{NO_ROOM, Told, give};

@@ -1,4 +1,4 @@
-//! What a call is given beside its input.
+//! What a call is given besides its input.
 
 ghost use Rattle.library_calls.specs.Words.{IsFresh};
 

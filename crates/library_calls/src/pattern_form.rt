@@ -3,7 +3,7 @@
 /// A form of a pattern.
 #[derive(Clone, Copy)]
 pub enum PatternForm {
-    /// The pattern where it lies.
+    /// The pattern in its place.
     Placed,
     /// The pattern, moved to (0, 0), or to the end of a plane that it would leave so (`moved_of` of `life_forms`).
     Moved,

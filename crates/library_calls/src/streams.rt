@@ -1,7 +1,7 @@
 //! The calls on streams: a file in pieces, and one answer at its end.
 
-ghost use Rattle.std.specs.Prelude.{◌≡◌, None, IfSome, MatchOption};
-ghost use Rattle.library_calls.specs.Words.{text_in, form_numbered, session_of, Opens, Feeds, Finishes, IsSpent, TellsPiece, TellsNothing, TellsEnd};
+ghost use Rattle.std.specs.Prelude.{◌≡◌, None, Some, IfSome, MatchOption};
+ghost use Rattle.library_calls.specs.Words.{text_in, form_numbered, session_of, Opens, Feeds, Finishes, IsSpent, TellsPiece, TellsNothing, TellsEnd, TellsText, Gives, key_digits, TellsKey};
 
 use crate::feeding::Feeding;
 use crate::in_form::{NO_FORM, form_of, text_in};
@@ -11,6 +11,7 @@ use crate::stream::{Stream, put, take};
 use crate::texts::Output;
 use crate::told::{Told, give, refuse};
 use life_base::{Fault, Kind};
+use sha2::{Digest, Sha256};
 use std::alloc::Global;
 use std::mem;
 
@@ -42,7 +43,7 @@ pub fn open_canon_form(alloc: Global, stream: &mut Stream, form: u32, options: O
     }
 }
 
-/// Tells that the call doesn't fit its stream.
+/// Reports that the call doesn't fit its stream.
 fn spent() -> Told
     ensures spent { IsSpent result.status result.line }
     ensures needed { result.needed ≡ 0 }
@@ -50,7 +51,7 @@ fn spent() -> Told
     refuse(&Fault::of(Kind::Spent))
 }
 
-/// Tells what a piece made of the session.
+/// Reports what a piece made of the session.
 fn tell_piece(session: &Session) -> Told
     ensures tells { TellsPiece result.status result.line session.now }
     ensures needed { result.needed ≡ 0 }
@@ -66,7 +67,7 @@ fn tell_piece(session: &Session) -> Told
     }
 }
 
-/// Tells what the end made of the session.
+/// Reports what the end made of the session.
 fn tell_end(session: &Session, out: &mut [u8]) -> Told
     ensures { TellsEnd out.old out.new result session.now }
 {
@@ -77,7 +78,30 @@ fn tell_end(session: &Session, out: &mut [u8]) -> Told
     }
 }
 
-/// Takes the next piece of the file. The fault of a line that it tells is that of the whole file, whatever bytes follow (`faults_stay` of
+/// Gives the key of a text.
+fn give_key(text: &[u8], out: &mut [u8]) -> Told
+    ensures gives { Gives (key_digits text.now) out.old out.new result }
+    ensures line { result.line ≡ 0 }
+    ensures digits { result.needed ≡ 64 }
+{
+    let mut digits = [0; 64];
+    let _ = hex::encode_to_slice(&Sha256::digest(text), &mut digits);
+    give(&digits, out)
+}
+
+/// Reports the key of the text that the end made of the session, or its fault.
+fn tell_key(session: &Session, out: &mut [u8]) -> Told
+    ensures tells { TellsKey out.old out.new result session.now }
+    ensures digits { TellsText result → result.needed ≡ 64 }
+{
+    match session {
+        Session::Reading(_) => spent(),
+        Session::Written(text) => give_key(text, out),
+        Session::Refused(why) => refuse(why),
+    }
+}
+
+/// Takes the next piece of the file. The fault of a line that it reports is that of the whole file, whatever bytes follow (`faults_stay` of
 /// `life_canon`).
 pub fn feed(alloc: Global, stream: &mut Stream, piece: &[u8]) -> Told
     ensures closed { session_of stream.old ≡ None
@@ -96,7 +120,15 @@ pub fn feed(alloc: Global, stream: &mut Stream, piece: &[u8]) -> Told
     told
 }
 
-/// Ends the file, and gives its text or tells its fault, as often as it is called.
+/// Ends the file of a session.
+fn end(alloc: Global, session: &mut Session)
+    ensures { Finishes (Some session.old) (Some session.new) }
+{
+    let before = mem::replace(session, Session::Refused(Fault::of(Kind::Spent)));
+    *session = ended(before, alloc);
+}
+
+/// Ends the file, and gives its text or its fault, as often as it is called.
 pub fn finish(alloc: Global, stream: &mut Stream, out: &mut [u8]) -> Told
     ensures closed { session_of stream.old ≡ None
         → (session_of stream.new ≡ None) × TellsNothing out.old out.new result }
@@ -106,9 +138,26 @@ pub fn finish(alloc: Global, stream: &mut Stream, out: &mut [u8]) -> Told
     let Some(mut session) = take(alloc, stream) else {
         return spent();
     };
-    let before = mem::replace(&mut *session, Session::Refused(Fault::of(Kind::Spent)));
-    *session = ended(before, alloc);
+    end(alloc, &mut session);
     let told = tell_end(&session, out);
+    put(stream, session);
+    told
+}
+
+/// Ends the file, and gives the key of the text that `finish` gives, or its fault, as often as it is called: the SHA-256 of the text, in 64 hex
+/// digits. Whichever of the two ended the file, both can be called after it, and `feed` is refused.
+pub fn finish_key(alloc: Global, stream: &mut Stream, out: &mut [u8]) -> Told
+    ensures closed { session_of stream.old ≡ None
+        → (session_of stream.new ≡ None) × TellsNothing out.old out.new result }
+    ensures finishes { Finishes (session_of stream.old) (session_of stream.new) }
+    ensures tells { IfSome (session_of stream.new) (TellsKey out.old out.new result) }
+    ensures digits { TellsText result → result.needed ≡ 64 }
+{
+    let Some(mut session) = take(alloc, stream) else {
+        return spent();
+    };
+    end(alloc, &mut session);
+    let told = tell_key(&session, out);
     put(stream, session);
     told
 }

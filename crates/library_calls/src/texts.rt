@@ -88,7 +88,7 @@ pub(crate) fn text_of_file(
     text_of_read(alloc, &mut store, pattern, output)
 }
 
-/// Gives that text, or tells why there is none.
+/// Gives that text, or says why there is none.
 pub(crate) fn answer(
     alloc: Global,
     bytes: &[u8],

@@ -1,4 +1,4 @@
-//! What a call tells, with its text in memory of the caller.
+//! The result of a call, with its text in memory of the caller.
 
 ghost use Rattle.std.specs.Prelude.{◌≡◌, IfOk, IfErr, OnErr};
 ghost use Rattle.library_calls.specs.Words.{kind_number, Gives, Tells, TellsText};
@@ -8,7 +8,7 @@ use life_base::Fault;
 /// The status of a call whose text doesn't fit into the memory that was handed over.
 pub const NO_ROOM: u32 = 64;
 
-/// What a call tells beside the bytes of its text.
+/// What a call returns besides the bytes of its text.
 #[derive(Clone, Copy)]
 pub struct Told {
     /// 0 where the text was written; else `NO_ROOM`, `NO_FORM`, or the number of a kind of fault.
@@ -19,7 +19,7 @@ pub struct Told {
     pub line: u64,
 }
 
-/// Puts a text at the front of the caller's memory where it fits, and tells its length.
+/// Puts a text at the beginning of the caller's memory if it fits, and returns its length.
 pub fn give(text: &[u8], out: &mut [u8]) -> Told
     ensures gives { Gives text.now out.old out.new result }
     ensures line { result.line ≡ 0 }
@@ -37,7 +37,7 @@ pub fn give(text: &[u8], out: &mut [u8]) -> Told
     }
 }
 
-/// Tells a fault, where there is no text.
+/// Reports a fault, which comes without a text.
 pub(crate) fn refuse(fault: &Fault) -> Told
     ensures status { result.status ≡ kind_number fault.now.kind }
     ensures needed { result.needed ≡ 0 }
@@ -50,7 +50,7 @@ pub(crate) fn refuse(fault: &Fault) -> Told
     }
 }
 
-/// Gives the text, or tells why there is none.
+/// Gives the text, or says why there is none.
 pub(crate) fn tell(found: Result<Vec<u8>, Fault>, out: &mut [u8]) -> Told
     ensures gives { IfOk found (λ text. Gives text.items out.old out.new result) }
     ensures no_line { IfOk found (λ _. result.line ≡ 0) }
