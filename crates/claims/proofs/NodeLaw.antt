@@ -64,7 +64,7 @@ all_is p q e (n ∷ ns) = ap (λ v. v && list_all p ns) (e n) ∙ ap (λ v. q n 
 bad_level : (level : ℕ) → (level == 0 || nat_lt 62 level) ≡ not (nat_le 1 level && nat_le level 62)
 bad_level level = grind (arith, nat_tests)
 
--- an answer of the claims beside the rule that the layer finds broken and the squares that it then has
+-- an answer of the claims, together with the rule that the layer finds broken and the squares that it then has
 pub data Fits {X : Type 0} (P : X → Type 0) : Option Kind → Result X Kind → Type 0 where
   passes : (x : X) → P x → Fits P None (Ok x)
   fails : (kind : Kind) → Fits P (Some kind) (Err kind)

@@ -24,7 +24,7 @@ use Rattle.claims.specs.RleText.{box_lines}
 abbrev b3s23 : Rule
 b3s23 = counting 8 (3 ∷ []) (2 ∷ 3 ∷ [])
 
--- texts beside the outcome that they share
+-- texts with the outcome that they share
 abbrev Rows : Type 0 → Type 0
 Rows Outcome = List (Outcome × List (List ℕ))
 

@@ -11,8 +11,8 @@ use life_table::laws::grammars_agree;
 use std::alloc::Global;
 use table_laws::laws::{tables_decide, tables_read, tables_refuse};
 
-/// A text of the next generation of a file under its B/S rule stands at the front of the caller's memory, or its length is
-/// told where it doesn't fit; or the number and the line of the file's fault are told, or the first reason why it has none.
+/// A text of the next generation of a file under its B/S rule is at the beginning of the caller's memory, or its length is
+/// reported where it doesn't fit; or the number and the line of the file's fault are reported, or the first reason why it has none.
 pub fn next_is_told(alloc: Global, file: &[u8], options: Options, out: &mut [u8]) -> Told
     ensures { Answers (IsStepped file.now)
         (λ fault. IsUnread file.now fault ⊎ IsUnstepped file.now fault) out.old out.new result }
@@ -21,7 +21,7 @@ pub fn next_is_told(alloc: Global, file: &[u8], options: Options, out: &mut [u8]
     step(alloc, file, options, out)
 }
 
-/// The same by a rule table. Where 0 is told beside it, the line of `Ambiguous` is one of the table's file. Where 1 is told,
+/// The same by a rule table. Where 0 is reported beside it, the line of `Ambiguous` is one of the table's file. Where 1 is reported,
 /// the number and the line are those of the fault of the table's file, or memory was wanted to read it.
 pub fn next_by_table_is_told(
     alloc: Global,

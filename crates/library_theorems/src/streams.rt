@@ -12,7 +12,7 @@ use life_canon::laws::{
 use life_quad::Shared;
 use std::alloc::Global;
 
-/// What the end of the file tells whose pieces these are: each is fed to an open stream, which is finished and closed.
+/// What is reported at the end of the file that these are the pieces of: each is fed to an open stream, which is finished and closed.
 fn told_of_pieces(alloc: Global, stream: &mut Stream, pieces: &[Vec<u8>], out: &mut [u8]) -> Told
     ensures { (output : OutputValue) (limit : ℕ)
         → IsOpen (IsFed output limit []) (session_of stream.old)
@@ -29,8 +29,8 @@ fn told_of_pieces(alloc: Global, stream: &mut Stream, pieces: &[Vec<u8>], out: &
     told
 }
 
-/// A stream that was opened for this output, which only want of memory refuses, and fed the pieces of a file, cut
-/// anywhere, tells at its end what is told of the whole file.
+/// A stream that was opened for this output, which only lack of memory refuses, and fed the pieces of a file, cut
+/// anywhere, reports at its end what is reported of the whole file.
 pub fn text_of_stream(
     alloc: Global,
     stream: &mut Stream,
@@ -63,8 +63,8 @@ pub fn text_of_stream(
     (opened, told_of_pieces(alloc, stream, pieces, out))
 }
 
-/// Where no fault is told, the text of a stream that was fed a file's pieces, cut anywhere, is the one that `canon` of
-/// `life_canon` makes of the file; and its five lines tell the file's pattern, and how many node lines that text has. The text
+/// Where no fault is reported, the text of a stream that was fed a file's pieces, cut anywhere, is the one that `canon` of
+/// `life_canon` makes of the file; and its five lines describe the file's pattern, and how many node lines that text has. The text
 /// of the next generation that a stream put into the caller's memory is its own canonical text.
 pub fn text_of_stream_beside_canon(
     alloc: Global,

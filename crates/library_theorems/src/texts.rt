@@ -11,8 +11,8 @@ use life_canon::laws::{
 use life_quad::Shared;
 use std::alloc::Global;
 
-/// The canonical text of a file stands at the front of the caller's memory, or its length is told where it doesn't fit; or
-/// the number and the line of the file's fault are told, and `Full` only where the limit is below 14 squares for each byte of
+/// The canonical text of a file is at the beginning of the caller's memory, or its length is reported where it doesn't fit; or
+/// the number and the line of the file's fault are reported, and `Full` only where the limit is below 14 squares for each byte of
 /// the file, and 264.
 pub fn text_is_told(alloc: Global, file: &[u8], options: Options, out: &mut [u8]) -> Told
     ensures { Answers (IsCanonicalText file.now) (IsUnreadWithin options.limit file.now) out.old
@@ -32,7 +32,7 @@ pub fn rle_is_told(alloc: Global, file: &[u8], options: Options, out: &mut [u8])
     to_rle(alloc, file, options, out)
 }
 
-/// The same of the five lines that tell a file's pattern.
+/// The same of the five lines that describe a file's pattern.
 pub fn lines_are_told(alloc: Global, file: &[u8], options: Options, out: &mut [u8]) -> Told
     ensures { Answers (AreFiveLines file.now) (IsUnreadWithin options.limit file.now)
         out.old out.new result }
@@ -45,7 +45,7 @@ pub fn lines_are_told(alloc: Global, file: &[u8], options: Options, out: &mut [u
     show(alloc, file, options, out)
 }
 
-/// Where no fault is told, the text is the one that `canon` of `life_canon` makes of the file; and the five lines tell the file's
+/// Where no fault is reported, the text is the one that `canon` of `life_canon` makes of the file; and the five lines describe the file's
 /// pattern, and how many node lines that text has.
 pub fn told_texts_are_those_of_canon(
     alloc: Global,

@@ -11,7 +11,7 @@ use Rattle.life_canon.specs.Universe.{Universe, IsOnPlane, macrocell_universe}
 use Rattle.life_forms.specs.Forms.{IsShift as LayerShift, IsTurnedShift as LayerTurnedShift}
 use Rattle.life_forms.specs.Images.{IsTurnedText}
 use Rattle.life_forms.specs.Turns.{turn_of}
-use Rattle.life_forms.specs.declared.turn.Turn.{Turn}
+use Rattle.life_quad.specs.declared.turning.Turn.{Turn}
 use Rattle.life_forms.specs.Turns as layer
 use Rattle.life_cli.specs.Forms.{AreOfOneGeneration, AreSameIn, IsMovedText, SayRelated, SaysText}
 use Rattle.life_cli.specs.Forms.{HasTooMany as LayerTooMany}

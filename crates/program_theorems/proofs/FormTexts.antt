@@ -10,7 +10,7 @@ use Rattle.life_forms.specs.Forms.{IsInPlace as LayerInPlace, at_zero, at_edge}
 use Rattle.life_forms.specs.Images.{IsTurnedText as LayerTurnedText}
 use Rattle.life_forms.specs.Turns.{turn_of}
 use Rattle.life_forms.specs.Turns as layer
-use Rattle.life_forms.specs.declared.turn.Turn.{Turn}
+use Rattle.life_quad.specs.declared.turning.Turn.{Turn}
 use Rattle.life_cli.specs.Forms.{SaysText}
 use Rattle.life_cli.specs.Forms.{IsMovedText as LayerMovedText}
 use Rattle.claims.specs.Pattern.{Pattern}

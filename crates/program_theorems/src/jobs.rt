@@ -9,9 +9,9 @@ use life_base::{Sink, Source};
 use life_cli::work_seeded;
 use std::alloc::Global;
 
-/// A task writes the text that the bytes of its files ask for to `out`, behind what that held, and ends with its status: 0 or 1.
-/// Or it tells on `err` why not, by the line of a fault, ends with the fault's status, and `out` is as it was, if it works.
-/// A sink that fails, or takes no bytes, has a front of the text or of the line.
+/// A task writes the text that the bytes of its files ask for to `out`, after what that held, and ends with its status: 0 or 1.
+/// Or it reports on `err` why not, by the line of a fault, ends with the fault's status, and `out` is as it was, if it works.
+/// A sink that fails, or takes no bytes, has a prefix of the text or of the line.
 pub fn does_its_job<A: Source, B: Source, O: Sink, E: Sink>(
     alloc: Global,
     run: &mut Run<A, B, O, E>,

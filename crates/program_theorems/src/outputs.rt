@@ -38,7 +38,7 @@ pub fn written_text_is_that_of_canon<A: Source, B: Source, O: Sink, E: Sink>(
 }
 
 /// Two runs that write canonical texts, of files or of next generations, write the same bytes exactly if these are files of the
-/// same pattern; two runs of `canon` in one form exactly if the files that they read are the same in that form; and `show` tells how many
+/// same pattern; two runs of `canon` in one form exactly if the files that they read are the same in that form; and `show` says how many
 /// node lines the text has that `canon` writes of the same bytes without a form.
 pub fn outputs_of_two_runs<A: Source, B: Source, O: Sink, E: Sink>(
     alloc: Global,

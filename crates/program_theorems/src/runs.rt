@@ -3,7 +3,7 @@
 use life_cli::Seeds;
 use life_cli::plans::Task;
 
-/// A run of a task: its files, and the outputs that it writes to and tells on.
+/// A run of a task: its files, and the outputs for its text and for its reports.
 pub struct Run<A, B, O, E> {
     pub seeds: Seeds,
     pub task: Task,

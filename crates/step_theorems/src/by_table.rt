@@ -20,7 +20,7 @@ use theorems::{Room, are_equal};
 ///
 /// # Errors
 ///
-/// The fault of the rule file; that of the file; want of room or of memory; or the first reason, in their order, why its
+/// The fault of the rule file; that of the file; a full store or no more memory; or the first reason, in their order, why its
 /// pattern has no next one by the table: `RuleMismatch`, `GenerationTooLarge`, `TooManyCells`, `StateBeyondTable`,
 /// `Ambiguous`, `OutOfPlane`.
 pub fn next_generation_by_table(

@@ -9,13 +9,13 @@ use life_canon::laws::{files_are_on_plane, files_are_unique, texts_keep_patterns
 use life_canon::{canon, run_canon};
 use std::alloc::Global;
 
-/// From a source that tells its bytes to a sink that tells what it holds, the canonical text of the file, which is a file of
+/// From a source that reports its bytes to a sink that reports what it holds, the canonical text of the file, which is a file of
 /// the same pattern, is written after what the sink held; and the sink stays as it was where another fault than one of
-/// writing is told.
+/// writing is reported.
 ///
 /// # Errors
 ///
-/// The fault of the file; want of room or of memory; `InputTooLong` where more than 2^30 bytes come; `ReadFault` where the
+/// The fault of the file; a full store or no more memory; `InputTooLong` where more than 2^30 bytes come; `ReadFault` where the
 /// source failed; `WriteFault` where the sink failed or took no bytes.
 pub fn stream_to_stream<R: Source, W: Sink>(
     alloc: Global,
@@ -48,7 +48,7 @@ pub fn stream_to_stream<R: Source, W: Sink>(
     run_canon(alloc, &mut room.new_store(alloc), reader, writer)
 }
 
-/// What is written to a sink that tells what it holds is the canonical text that `canon` makes of the bytes of the source.
+/// What is written to a sink that reports what it holds is the canonical text that `canon` makes of the bytes of the source.
 pub fn stream_writes_the_text<R: Source, W: Sink>(
     alloc: Global,
     one: Room,
