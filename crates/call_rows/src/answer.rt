@@ -6,9 +6,11 @@ use std::alloc::{AllocError, AllocFailed};
 /// Why a row has no answer. What a call refuses is an answer, and none of these.
 #[derive(Clone, Copy, PartialEq, Eq)]
 pub(crate) enum Unanswered {
-    /// A call on the way to the answer was refused, as for want of memory.
+    /// A call on the way to the answer was refused, as when it is out of memory.
     Refused(Kind),
-    /// There is no `|` behind the call.
+    /// The row's own input or answer got no memory.
+    NoMemory,
+    /// There is no `|` after the call.
     NoInput,
     /// There is no call of that name.
     NoCall,
@@ -19,10 +21,11 @@ pub(crate) enum Unanswered {
 }
 
 impl Unanswered {
-    /// The line that tells it.
+    /// The line that says so.
     pub(crate) fn text(self) -> &'static str {
         match self {
             Unanswered::Refused(kind) => kind.name(),
+            Unanswered::NoMemory => "no memory",
             Unanswered::NoInput => "no input",
             Unanswered::NoCall => "no such call",
             Unanswered::BadEscape => "no such escape",
@@ -45,12 +48,12 @@ impl From<Fault> for Unanswered {
 
 impl From<AllocError> for Unanswered {
     fn from(_refused: AllocError) -> Unanswered {
-        Unanswered::Refused(Kind::Memory)
+        Unanswered::NoMemory
     }
 }
 
 impl<T: Drop> From<AllocFailed<T>> for Unanswered {
     fn from(_refused: AllocFailed<T>) -> Unanswered {
-        Unanswered::Refused(Kind::Memory)
+        Unanswered::NoMemory
     }
 }

@@ -4,9 +4,9 @@ use crate::answer::Unanswered;
 use crate::row::{halves, number_of};
 use crate::shown::{Show, show_bool, show_bytes, show_each, show_rule};
 use life_base::{
-    Device, Items, Kind, LifeRule, Near, Rule, Source, append_number, begins_with, is_too_long,
-    leading_number, line_end, line_fits, lines, read_i64, read_u64, read_within, split_word,
-    trimmed,
+    Device, Items, Kind, LifeRule, Near, Rule, Source, append, append_number, begins_with,
+    is_too_long, leading_number, line_end, line_fits, lines, read_i64, read_u64, read_within,
+    split_word, trimmed,
 };
 use std::alloc::Global;
 
@@ -20,7 +20,7 @@ fn is_named(alloc: Global, rule: &Rule, text: &[u8]) -> Result<bool, Unanswered>
     }
 }
 
-/// Of a B/S rule `Life` and its canonical text, `Name` of one that is kept as it stands but for whitespace around it, and of a text that is
+/// Of a B/S rule `Life` and its canonical text, `Name` of one that is kept as it is but for whitespace around it, and of a text that is
 /// no rule the kind with which it is refused.
 pub(crate) fn rule(alloc: Global, out: &mut String, text: &[u8]) -> Result<(), Unanswered> {
     match Rule::parse(alloc, text) {
@@ -45,7 +45,15 @@ pub(crate) fn same_rules(alloc: Global, out: &mut String, texts: &[u8]) -> Resul
     show_bool(out, one.same(&copy))
 }
 
-/// Each line with its number, and `more` if one comes behind the last, or later.
+/// A copy of a rule's name.
+pub(crate) fn copied_name(alloc: Global, out: &mut String, text: &[u8]) -> Result<(), Unanswered> {
+    match Rule::parse(alloc, text)? {
+        Rule::Life(_) => Err(Unanswered::BadInput),
+        Rule::Named(name) => show_bytes(out, name.copy(alloc)?.bytes()),
+    }
+}
+
+/// Each line with its number, and `more` if one comes after the last, or later.
 pub(crate) fn numbered_lines(out: &mut String, text: &[u8]) -> Result<(), Unanswered> {
     let mut behind = lines(text);
     for (number, line) in lines(text) {
@@ -66,7 +74,7 @@ pub(crate) fn front(out: &mut String, texts: &[u8]) -> Result<(), Unanswered> {
     show_bool(out, begins_with(text, front))
 }
 
-/// The first word of a text, and what stands behind it.
+/// The first word of a text, and what comes after it.
 pub(crate) fn first_word(out: &mut String, text: &[u8]) -> Result<(), Unanswered> {
     let (word, rest) = split_word(text);
     out.push_str("<")?;
@@ -77,7 +85,7 @@ pub(crate) fn first_word(out: &mut String, text: &[u8]) -> Result<(), Unanswered
     Ok(())
 }
 
-/// The number in front of a text, and how many digits it has.
+/// The number at the beginning of a text, and how many digits it has.
 pub(crate) fn number_in_front(out: &mut String, text: &[u8]) -> Result<(), Unanswered> {
     let (number, count) = leading_number(text);
     write!(out, "{number} {count}")?;
@@ -130,7 +138,7 @@ impl Show for u64 {
     }
 }
 
-/// Numbers that become items one behind another: all of them behind each.
+/// Numbers that become items one after another: all of them after each.
 pub(crate) fn items(alloc: Global, out: &mut String, numbers: &[u8]) -> Result<(), Unanswered> {
     let mut items = Items::<u64>::new(alloc);
     for number in numbers.split(|byte| *byte == b' ') {
@@ -166,10 +174,11 @@ fn append_of(text: &mut Vec<u8>, name: &[u8], number: &[u8]) -> Result<(), Unans
     Ok(())
 }
 
-/// Numbers of a type one behind another, as they are added to `#G `.
+/// Numbers of a type one after another, as they are added to `#G `.
 pub(crate) fn numbers(alloc: Global, out: &mut String, input: &[u8]) -> Result<(), Unanswered> {
     let (name, numbers) = halves(input)?;
-    let mut text = Vec::from_slice(alloc, b"#G ")?;
+    let mut text = Vec::new(alloc);
+    append(&mut text, b"#G ")?;
     for number in numbers.split(|byte| *byte == b' ') {
         append_of(&mut text, name, number)?;
     }

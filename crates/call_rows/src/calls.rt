@@ -1,7 +1,7 @@
 //! The calls that rows name.
 
 use crate::answer::Unanswered;
-use crate::{base, canon, forms, mc, rle, step, table};
+use crate::{base, canon, mc, pieces, rle, step, stores, table};
 use std::alloc::Global;
 
 /// Adds what a call answers to an input.
@@ -14,6 +14,7 @@ pub(crate) fn answer(
     match call {
         "rule" => base::rule(alloc, out, input),
         "same_rules" => base::same_rules(alloc, out, input),
+        "name_copy" => base::copied_name(alloc, out, input),
         "lines" => base::numbered_lines(out, input),
         "begins_with" => base::front(out, input),
         "split_word" => base::first_word(out, input),
@@ -48,17 +49,22 @@ pub(crate) fn answer(
         "canonical" => canon::canonical(alloc, out, input),
         "refused" => canon::refused(alloc, out, input),
         "same" => canon::compared(alloc, out, input),
-        "show" => canon::five_lines(alloc, out, input),
-        "to_rle" => canon::runs(alloc, out, input),
+        "in_pieces" => pieces::cut(alloc, out, input),
+        "two_pieces" => pieces::two(alloc, out, input),
+        "each_piece" => pieces::each(alloc, out, input),
+        "byte_by_byte" => pieces::dripped(alloc, out, input),
+        "read_from" => pieces::from_source(alloc, out, input),
+        "run_within" => pieces::within(alloc, out, input),
 
-        "moved" => forms::moved(alloc, out, input),
-        "turned" => forms::turned(alloc, out, input),
+        "in_store" => stores::in_store(alloc, out, input),
+        "in_full_store" => stores::in_full_store(alloc, out, input),
+        "least_limit" => stores::least_limit(alloc, out, input),
+        "takes_room" => stores::takes_room(alloc, out, input),
+        "serves" => stores::serves(alloc, out, input),
 
-        "step_life" => step::by_rule(alloc, out, input),
-        "step_table" => step::by_table(alloc, out, input),
         "becomes" => step::becomes(alloc, out, input),
         "next_by_rule" => step::next_of_pattern(alloc, out, input),
         "next_by_table" => step::next_of_pattern_by_table(alloc, out, input),
-        _ => Err(Unanswered::NoCall),
+        _ => stores::in_new_store(alloc, out, call, input),
     }
 }

@@ -1,14 +1,17 @@
 //! Calls of `life_canon`.
 
+ghost use Rattle.life_canon.specs.Store.{IsTrimmed};
+
 use crate::answer::Unanswered;
 use crate::row::halves;
-use crate::shown::{ROOM, show_bool, show_bytes, show_fault, show_text};
+use crate::shown::{ROOM, show_bool, show_bytes, show_fault};
 use life_base::Fault;
-use life_canon::{canon, read, same, show, to_rle};
+use life_canon::{Pattern, Reader, canon, number, read, same, show, text_of, to_rle};
+use life_mc::write_mc;
 use life_quad::{Seed, Shared};
 use std::alloc::Global;
 
-/// The canonical text of a file, and behind `|` that of this text where it is another.
+/// The canonical text of a file, and after `|` that of this text where it is another.
 pub(crate) fn canonical(alloc: Global, out: &mut String, file: &[u8]) -> Result<(), Unanswered> {
     let text = canon(alloc, &mut Shared::seeded(alloc, Seed::fixed(), ROOM), file)?;
     show_bytes(out, &text)?;
@@ -35,7 +38,7 @@ fn show_refusal<T: Drop>(out: &mut String, answer: Result<T, Fault>) -> Result<(
     }
 }
 
-/// The line and the kind of the faults that the calls for the canonical text, the five lines, the runs and the pattern of a file tell.
+/// The line and the kind of the faults with which the calls for the canonical text, the five lines, the runs and the pattern of a file answer.
 pub(crate) fn refused(alloc: Global, out: &mut String, file: &[u8]) -> Result<(), Unanswered> {
     let mut store = Shared::seeded(alloc, Seed::fixed(), ROOM);
     show_refusal(out, canon(alloc, &mut store, file))?;
@@ -64,18 +67,77 @@ pub(crate) fn compared(alloc: Global, out: &mut String, files: &[u8]) -> Result<
     show_same(out, same(alloc, &mut store, second, first))
 }
 
-/// The five lines on a file, or the line and the kind of a fault.
-pub(crate) fn five_lines(alloc: Global, out: &mut String, file: &[u8]) -> Result<(), Unanswered> {
-    show_text(
-        out,
-        show(alloc, &mut Shared::seeded(alloc, Seed::fixed(), ROOM), file),
-    )
+/// The canonical text of the node lines of a pattern, and the pattern's own text.
+fn texts_of(alloc: Global, store: &Shared, pattern: &Pattern) -> Result<(Vec<u8>, Vec<u8>), Fault>
+    requires { IsTrimmed store.now pattern.now }
+{
+    let file = number(alloc, store, pattern)?;
+    let written = write_mc(alloc, &file)?;
+    let text = text_of(alloc, store, pattern)?;
+    Ok((written, text))
 }
 
-/// A file in RLE, or the line and the kind of a fault.
-pub(crate) fn runs(alloc: Global, out: &mut String, file: &[u8]) -> Result<(), Unanswered> {
-    show_text(
-        out,
-        to_rle(alloc, &mut Shared::seeded(alloc, Seed::fixed(), ROOM), file),
-    )
+/// Adds a text, and after `|` another one where it is another; or the line and the kind of a fault.
+fn show_texts(
+    out: &mut String,
+    answer: Result<(Vec<u8>, Vec<u8>), Fault>,
+) -> Result<(), Unanswered> {
+    match answer {
+        Ok((text, other)) => {
+            show_bytes(out, &text)?;
+            if text.as_slice() != other.as_slice() {
+                out.push_str("|")?;
+                show_bytes(out, &other)?;
+            }
+            Ok(())
+        }
+        Err(fault) => show_fault(out, &fault),
+    }
+}
+
+/// Both texts of the pattern that is read of a file.
+fn texts_read(alloc: Global, store: &mut Shared, file: &[u8]) -> Result<(Vec<u8>, Vec<u8>), Fault> {
+    let pattern = read(alloc, store, file)?;
+    texts_of(alloc, store, &pattern)
+}
+
+/// The pattern that a reader is fed, in pieces of seven bytes, and both its texts.
+fn texts_fed(alloc: Global, store: &mut Shared, file: &[u8]) -> Result<(Vec<u8>, Vec<u8>), Fault> {
+    let mut reader = Reader::new(alloc);
+    for piece in file.chunks(7) {
+        reader.feed(store, piece)?;
+    }
+    let pattern = reader.finish(store)?;
+    texts_of(alloc, store, &pattern)
+}
+
+/// The canonical text of a file that is read and numbered; or the line and the kind of a fault.
+pub(crate) fn numbered(
+    alloc: Global,
+    out: &mut String,
+    store: &mut Shared,
+    file: &[u8],
+) -> Result<(), Unanswered> {
+    show_texts(out, texts_read(alloc, store, file))
+}
+
+/// The canonical text of a file that a reader is fed; or the line and the kind of a fault.
+pub(crate) fn fed(
+    alloc: Global,
+    out: &mut String,
+    store: &mut Shared,
+    file: &[u8],
+) -> Result<(), Unanswered> {
+    show_texts(out, texts_fed(alloc, store, file))
+}
+
+/// Whether two files are the same; or the line and the kind of a fault.
+pub(crate) fn are_same(
+    alloc: Global,
+    out: &mut String,
+    store: &mut Shared,
+    files: &[u8],
+) -> Result<(), Unanswered> {
+    let (first, second) = halves(files)?;
+    show_same(out, same(alloc, store, first, second))
 }

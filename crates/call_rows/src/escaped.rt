@@ -15,13 +15,13 @@ enum Escape {
     Backslash,
     /// A backslash and `x`.
     Hexadecimal,
-    /// The first digit of two behind these.
+    /// The first digit of two after these.
     HighDigit(u8),
     /// A backslash and a number.
     Number(u32),
 }
 
-/// The number that a hexadecimal digit stands for.
+/// The value of a hexadecimal digit.
 fn digit_of(byte: u8) -> Option<u8> {
     match byte {
         b'0'..=b'9' => Some(byte - b'0'),
@@ -30,7 +30,7 @@ fn digit_of(byte: u8) -> Option<u8> {
     }
 }
 
-/// The number with a digit behind it, up to the most.
+/// The number with one more digit at its end, up to the most.
 fn with_digit(number: u32, digit: u8) -> Option<u32> {
     let number = number.saturating_mul(10).saturating_add(u32::from(digit));
     if number > MOST { None } else { Some(number) }
@@ -41,12 +41,12 @@ fn with_digit(number: u32, digit: u8) -> Option<u32> {
 struct Bytes {
     read: Vec<u8>,
     state: Escape,
-    /// How many times the next byte stands there.
+    /// How many times the next byte is repeated.
     times: u32,
 }
 
 impl Bytes {
-    /// Adds a byte, as often as was said in front of it.
+    /// Adds a byte, as often as was said before it.
     fn put(&mut self, byte: u8) -> Result<Escape, Unanswered> {
         for _ in 0..self.times {
             self.read.push(byte)?;
@@ -55,7 +55,7 @@ impl Bytes {
         Ok(Escape::Between)
     }
 
-    /// Takes a byte behind a backslash.
+    /// Takes a byte after a backslash.
     fn take_escape(&mut self, byte: u8) -> Result<Escape, Unanswered> {
         match byte {
             b't' => self.put(b'\t'),
@@ -67,7 +67,7 @@ impl Bytes {
         }
     }
 
-    /// Takes a byte behind a backslash and a number.
+    /// Takes a byte after a backslash and a number.
     fn take_number(&mut self, number: u32, byte: u8) -> Result<Escape, Unanswered> {
         match byte {
             b'0'..=b'9' => Ok(Escape::Number(with_digit(number, byte - b'0').ok_or(
@@ -103,7 +103,7 @@ impl Bytes {
 /// The bytes that a text writes.
 pub(crate) fn bytes_of(alloc: Global, text: &[u8]) -> Result<Vec<u8>, Unanswered> {
     let mut bytes = Bytes {
-        read: Vec::new(alloc),
+        read: Vec::with_capacity(alloc, text.len())?,
         state: Escape::Between,
         times: 1,
     };

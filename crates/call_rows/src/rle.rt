@@ -38,7 +38,7 @@ fn show_runs(out: &mut String, runs: &[Run]) -> Result<(), Unanswered> {
     Ok(())
 }
 
-/// Of each line its runs or the kind of a fault, and `!` where the pattern is over behind it; and at the end the rule and the generation, or
+/// Of each line its runs or the kind of a fault, and `!` where the pattern is over after it; and at the end the rule and the generation, or
 /// the kind with which the lines are no file.
 pub(crate) fn by_lines(alloc: Global, out: &mut String, input: &[u8]) -> Result<(), Unanswered> {
     let mut reader = RleLines::new(alloc);

@@ -7,7 +7,10 @@ use std::alloc::Global;
 use std::num::ParseIntError;
 use std::str::FromStr;
 
-/// A text in front of its first `|`, and what stands behind it.
+/// Bytes of an answer for which memory is taken at once, so that most requests for memory are those of calls.
+const BYTES: usize = 1 << 13;
+
+/// A text before its first `|`, and what comes after it.
 pub(crate) fn halves(text: &[u8]) -> Result<(&[u8], &[u8]), Unanswered> {
     match text.iter().position(|byte| *byte == b'|') {
         Some(bar) => Ok((&text[..bar], &text[bar + 1..])),
@@ -23,14 +26,20 @@ pub(crate) fn number_of<N: FromStr<Err = ParseIntError>>(text: &[u8]) -> Result<
     text.parse::<N>().map_err(|_| Unanswered::BadInput)
 }
 
+/// The call that a text names, and its input.
+pub(crate) fn call_of(text: &[u8]) -> Result<(&str, &[u8]), Unanswered> {
+    let (call, input) = halves(text)?;
+    match std::str::from_utf8(call) {
+        Ok(call) => Ok((call, input)),
+        Err(_) => Err(Unanswered::NoCall),
+    }
+}
+
 /// The answer of a row.
 pub(crate) fn answer_to(alloc: Global, row: &[u8]) -> Result<String, Unanswered> {
-    let (call, text) = halves(row)?;
-    let Ok(call) = std::str::from_utf8(call) else {
-        return Err(Unanswered::NoCall);
-    };
+    let (call, text) = call_of(row)?;
     let input = bytes_of(alloc, text)?;
-    let mut out = String::new(alloc);
+    let mut out = String::with_capacity(alloc, BYTES)?;
     answer(alloc, &mut out, call, &input)?;
     Ok(out)
 }

@@ -7,13 +7,13 @@ use std::alloc::Global;
 /// More squares than a store may hold in these tests.
 pub(crate) const ROOM: u64 = 1 << 31;
 
-/// What stands in an answer as one of several.
+/// What is one of several in an answer.
 pub(crate) trait Show {
     /// Adds it to the answer.
     fn show(&self, out: &mut String) -> Result<(), Unanswered>;
 }
 
-/// Adds each of these behind a space.
+/// Adds each of these after a space.
 pub(crate) fn show_each<T: Show>(out: &mut String, items: &[T]) -> Result<(), Unanswered> {
     for item in items {
         out.push_str(" ")?;

@@ -23,40 +23,53 @@ fn one_step(
     }
 }
 
-/// The canonical text behind some steps, one or more.
+/// The canonical text after some steps, one or more.
 fn stepped(
     alloc: Global,
+    store: &mut Shared,
     file: &[u8],
     table: Option<&Table>,
     steps: u64,
 ) -> Result<Vec<u8>, Fault> {
-    let mut store = Shared::seeded(alloc, Seed::fixed(), ROOM);
-    let mut text = one_step(alloc, &mut store, file, table)?;
+    let mut text = one_step(alloc, store, file, table)?;
     for _ in 1..steps {
-        text = one_step(alloc, &mut store, &text, table)?;
+        text = one_step(alloc, store, &text, table)?;
     }
     Ok(text)
 }
 
 /// The canonical text that so many steps make of a file under its own rule, or the line and the kind of a fault.
-pub(crate) fn by_rule(alloc: Global, out: &mut String, input: &[u8]) -> Result<(), Unanswered> {
+pub(crate) fn by_rule(
+    alloc: Global,
+    out: &mut String,
+    store: &mut Shared,
+    input: &[u8],
+) -> Result<(), Unanswered> {
     let (steps, file) = halves(input)?;
-    show_text(out, stepped(alloc, file, None, number_of(steps)?))
+    show_text(out, stepped(alloc, store, file, None, number_of(steps)?))
 }
 
 /// The canonical text that so many steps make of a file by a table, or the line and the kind of a fault.
-pub(crate) fn by_table(alloc: Global, out: &mut String, input: &[u8]) -> Result<(), Unanswered> {
+pub(crate) fn by_table(
+    alloc: Global,
+    out: &mut String,
+    store: &mut Shared,
+    input: &[u8],
+) -> Result<(), Unanswered> {
     let (steps, files) = halves(input)?;
     let (file, text) = halves(files)?;
+    let steps = number_of(steps)?;
     let table = read_table_seeded(alloc, NameSeed::fixed(), text)?;
-    show_text(out, stepped(alloc, file, Some(&table), number_of(steps)?))
+    show_text(out, stepped(alloc, store, file, Some(&table), steps))
 }
 
 /// Whether so many steps make of a file the canonical text of another file.
 pub(crate) fn becomes(alloc: Global, out: &mut String, input: &[u8]) -> Result<(), Unanswered> {
     let (steps, files) = halves(input)?;
     let (file, other) = halves(files)?;
-    let text = stepped(alloc, file, None, number_of(steps)?)?;
+    let steps = number_of(steps)?;
+    let mut store = Shared::seeded(alloc, Seed::fixed(), ROOM);
+    let text = stepped(alloc, &mut store, file, None, steps)?;
     let wanted = canon(
         alloc,
         &mut Shared::seeded(alloc, Seed::fixed(), ROOM),

@@ -1,4 +1,4 @@
-//! Tests of `life_base`, but for its devices: those stand in `cli_tests`, beside the jobs on the same readers and writers.
+//! Tests of `life_base`, except for its devices: those are in `cli_tests`, with the tests of jobs on the same readers and writers.
 
 mod kinds;
 mod texts;

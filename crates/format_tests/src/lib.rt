@@ -1,4 +1,4 @@
-//! Tests of the calls of `life_base`, `life_rle`, `life_mc` and `life_table`, for what no clause says: that the definitions are those of
+//! Tests of the calls of `life_base`, `life_rle`, `life_mc` and `life_table`, for what is not proved: that the definitions are those of
 //! the formats, and that calls succeed where memory is there.
 #![tactic(auto)]
 

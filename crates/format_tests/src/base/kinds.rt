@@ -3,7 +3,7 @@
 use life_base::{Fault, Kind, Place};
 use std::process::Abort;
 
-/// Each kind with its number, its name and the line that a fault of it on line 7 tells.
+/// Each kind with its number, its name and the line that a fault of it on line 7 writes.
 const ROWS: [(Kind, u8, &str, u64); 41] = [
     (Kind::NoHeader, 1, "NoHeader", 7),
     (Kind::BadHeader, 2, "BadHeader", 7),
@@ -53,7 +53,7 @@ const ROWS: [(Kind, u8, &str, u64); 41] = [
     (Kind::InputTooLong, 53, "InputTooLong", 0),
 ];
 
-/// A kind has this number and this name, a fault of it on line 7 tells this line, and one of no line tells none.
+/// A kind has this number and this name, a fault of it on line 7 writes this line, and one of no line writes none.
 fn assert_kind(rt: &impl Abort, kind: Kind, number: u8, name: &str, line: u64) {
     assert!(rt; kind.number() == number && kind.name() == name, "{name}");
     let place = Place { line };

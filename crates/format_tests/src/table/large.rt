@@ -22,7 +22,7 @@ fn name_of(number: usize) -> [u8; 6] {
     [b'v', first, second, third, fourth, fifth]
 }
 
-/// As many variables, from the first on with the states 1 and 2, each with the states of the one before, and a line behind them.
+/// As many variables, from the first on with the states 1 and 2, each with the states of the one before, and a line after them.
 fn chain(alloc: Global, count: usize, line: &str) -> Result<Vec<u8>, AllocError> {
     let mut bytes = Vec::new(alloc);
     bytes.extend_from_slice(
@@ -76,7 +76,7 @@ fn a_chain_of_variables_is_read(rt: HostRuntime) {
     assert!(rt; is_only(table.lines.as_slice(), 10006, &inputs, middle));
 }
 
-/// The line behind a chain of 10,000 variables is refused with this kind.
+/// The line after a chain of 10,000 variables is refused with this kind.
 fn assert_chain_ends(rt: &impl Abort, alloc: Global, line: &str, kind: Kind) {
     let bytes = chain(alloc, 10000, line).expect(rt, "memory");
     let refused = read_table_seeded(alloc, NameSeed::fixed(), &bytes).err();

@@ -12,7 +12,7 @@ use std::rt::HostRuntime;
 const HEAD: &str =
     "@RULE A\n@TABLE\nn_states:3\nneighborhood:vonNeumann\nsymmetries:permute\nvar a={0,1,2}\nvar b={0,1,2}\n";
 
-/// The table that texts write one behind another.
+/// The table that texts write one after another.
 fn read_texts(alloc: Global, texts: &[&str]) -> Result<Result<Table, Fault>, AllocError> {
     let mut bytes = Vec::new(alloc);
     for text in texts {
@@ -21,7 +21,7 @@ fn read_texts(alloc: Global, texts: &[&str]) -> Result<Result<Table, Fault>, All
     Ok(read_table_seeded(alloc, NameSeed::fixed(), &bytes))
 }
 
-/// The table that texts write one behind another, and no refusal.
+/// The table that texts write one after another, and no refusal.
 fn table_of(rt: &impl Abort, alloc: Global, texts: &[&str]) -> Table {
     let answer = read_texts(alloc, texts).expect(rt, "memory");
     answer.expect(rt, "table")
@@ -35,7 +35,7 @@ enum Given {
     More,
 }
 
-/// The state that an entry stands for where the two variables have these states.
+/// The state of an entry where the two variables have these states.
 fn state_of(entry: Entry, choice: [State; 2]) -> State {
     match entry {
         Entry::Fixed(state) => state,
@@ -44,7 +44,7 @@ fn state_of(entry: Entry, choice: [State; 2]) -> State {
     }
 }
 
-/// What the line gives if its entries stand for these states, after what it gave before.
+/// What the line gives if its entries have these states, after what it gave before.
 fn with_choice(line: &Transition, cells: &[State; 5], choice: [State; 2], given: Given) -> Given {
     for (entry, cell) in line.inputs.as_slice().iter().zip(cells) {
         if state_of(*entry, choice) != *cell {

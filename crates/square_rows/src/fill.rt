@@ -1,0 +1,192 @@
+//! Runs put into a square one by one, and row by row.
+
+ghost use Rattle.std.specs.Prelude.{◌≡◌, ◌<◌, ◌≤◌, ◌-◌, ◌^◌, ◌+ℤ◌, pos, IfOk, IfSome, IsTrue, OnOk, ℤ};
+ghost use Rattle.life_base.specs.Tree.{depth};
+ghost use Rattle.life_quad.specs.Grows.{Keeps};
+ghost use Rattle.life_strip.specs.Filling.{IsFilling};
+ghost use Rattle.life_strip.specs.Given.{IsBehind, IsNext, IsOnPlane};
+
+use crate::answer::Unanswered;
+use crate::words::{Words, halves, number_of};
+use life_base::{Kind, MAX_LEVEL, Run};
+use life_quad::{Id, Squares, set_run};
+use life_strip::{Builder, laws};
+use std::alloc::Global;
+
+/// Half of the side of a square of a level.
+fn half_side(level: u8) -> u64
+    requires low { 1 ≤ level }
+    requires high { level ≤ MAX_LEVEL }
+    ensures half { result ≡ 2 ^ (level - 1) }
+    ensures small { result ≤ 2 ^ 61 }
+{
+    1 << (level - 1)
+}
+
+/// A run put into a square, and refused where it isn't in it.
+pub(crate) fn put<S: Squares>(
+    squares: &mut S,
+    root: Id,
+    x: i64,
+    y: i64,
+    len: u64,
+    state: u8,
+) -> Result<Id, Kind>
+    requires { S.knows squares.old root }
+    ensures known { IfOk result (S.knows squares.new) }
+    ensures keeps { Keeps S.Squares squares.old squares.new }
+{
+    let level = squares.level(root);
+    if level == 0 || len == 0 {
+        return Err(Kind::OutOfPlane);
+    }
+    let half = half_side(level) as i64;
+    if x < -half || half <= x || y < -half || half <= y || len > (half - x) as u64 {
+        return Err(Kind::OutOfPlane);
+    }
+    set_run(squares, root, Run { x, y, len, state })
+}
+
+/// The run that a text writes: its column, its row, its length and its state.
+pub(crate) fn run_of(text: &[u8]) -> Result<Run, Unanswered> {
+    let (x, rest) = halves(text, b',')?;
+    let (y, rest) = halves(rest, b',')?;
+    let (len, state) = halves(rest, b',')?;
+    Ok(Run {
+        x: number_of(x)?,
+        y: number_of(y)?,
+        len: number_of(len)?,
+        state: number_of(state)?,
+    })
+}
+
+/// A builder without runs.
+fn begun<S: Squares>(alloc: Global, squares: &S) -> Builder
+    ensures filling { IsFilling (S.knows squares.now) (S.content squares.now) result }
+    ensures next { (x y : ℤ) → IsNext result.runs x y }
+{
+    let _ = squares;
+    laws::empty_builder_fills::<S>();
+    Builder::new(alloc)
+}
+
+/// Whether a run has cells, all of them on the plane.
+fn is_on_plane(x: i64, y: i64, len: u64) -> bool
+    ensures positive { IsTrue result → 1 ≤ len }
+    ensures inside { IsTrue result → IsOnPlane x y len }
+{
+    let half = half_side(MAX_LEVEL) as i64;
+    if len == 0 || x < -half || half <= x || y < -half || half <= y {
+        return false;
+    }
+    if len > (half - x) as u64 {
+        return false;
+    }
+    true
+}
+
+/// The column after so many cells from a column on, if both are near the plane.
+fn end_of(x: i64, len: u64) -> Option<i64>
+    ensures { IfSome result (λ end. end ≡ x +ℤ pos len) }
+{
+    if x < -2305843009213693952 || x > 2305843009213693952 || len > 4611686018427387904 {
+        return None;
+    }
+    Some(x + len as i64)
+}
+
+/// Whether a run begins after another one.
+fn is_after(last: Run, run: Run) -> bool
+    ensures { IsTrue result → IsBehind last run.x run.y }
+{
+    if last.y < run.y {
+        return true;
+    }
+    let Some(end) = end_of(last.x, last.len) else {
+        return false;
+    };
+    if run.y < last.y || run.x < end {
+        return false;
+    }
+    true
+}
+
+/// Gives a builder a run that comes after its last one.
+fn add<S: Squares>(
+    squares: &mut S,
+    builder: &mut Builder,
+    last: Run,
+    run: Run,
+) -> Result<(), Unanswered>
+    requires filling { IsFilling (S.knows squares.old) (S.content squares.old) builder.old }
+    requires next { (x y : ℤ) → IsBehind last x y → IsNext builder.old.runs x y }
+    ensures filling { OnOk result
+        (IsFilling (S.knows squares.new) (S.content squares.new) builder.new) }
+    ensures next { OnOk result
+        ((x y : ℤ) → IsBehind run x y → IsNext builder.new.runs x y) }
+    ensures keeps { Keeps S.Squares squares.old squares.new }
+{
+    if !is_on_plane(run.x, run.y, run.len) || !is_after(last, run) {
+        return Err(Unanswered::BadRow);
+    }
+    match builder.add_run(squares, run) {
+        Ok(()) => Ok(()),
+        Err(kind) => Err(Unanswered::Refused(kind)),
+    }
+}
+
+/// A run in the row north of the plane, which is before every other.
+const FIRST: Run = Run {
+    x: 0,
+    y: -(1 << 61) - 1,
+    len: 1,
+    state: 0,
+};
+
+/// Most runs of a step.
+const RUNS: u8 = 100;
+
+/// A builder with the runs that words write, each of which comes after the one before it.
+fn built<S: Squares>(alloc: Global, squares: &mut S, words: &Words) -> Result<Builder, Unanswered>
+    ensures filling { IfOk result (λ b. IsFilling (S.knows squares.new) (S.content squares.new) b) }
+    ensures keeps { Keeps S.Squares squares.old squares.new }
+{
+    let mut builder = begun(alloc, squares);
+    let mut last = FIRST;
+    let mut words = Words { rest: words.rest };
+    for _run in 0..RUNS {
+        let text = words.word();
+        if text.is_empty() {
+            break;
+        }
+        let run = run_of(text)?;
+        add(squares, &mut builder, last, run)?;
+        last = run;
+    }
+    Ok(builder)
+}
+
+/// The plane with the runs that words write.
+pub(crate) fn filled<S: Squares>(
+    alloc: Global,
+    squares: &mut S,
+    words: &Words,
+) -> Result<Id, Unanswered>
+    ensures known { IfOk result (S.knows squares.new) }
+    ensures keeps { Keeps S.Squares squares.old squares.new }
+{
+    let builder = built(alloc, squares, words)?;
+    Ok(builder.finish(squares)?)
+}
+
+/// Gives a builder the runs that words write, and drops it.
+pub(crate) fn unfinished<S: Squares>(
+    alloc: Global,
+    squares: &mut S,
+    words: &Words,
+) -> Result<(), Unanswered>
+    ensures keeps { Keeps S.Squares squares.old squares.new }
+{
+    let _builder = built(alloc, squares, words)?;
+    Ok(())
+}
