@@ -7,7 +7,7 @@ top=$(cd "$(dirname "$0")/../.." && pwd)
 folder=$(mktemp -d) || exit 1
 trap 'rm -rf "$folder"' EXIT
 cd "$folder" || exit 1
-cp -r "$top/Makefile" "$top/crates.txt" "$top/scripts" "$top/docs" "$top/completions" "$top/include" "$top/python" .
+cp -r "$top/Makefile" "$top/VERSION" "$top/crates.txt" "$top/scripts" "$top/docs" "$top/completions" "$top/include" "$top/python" "$top/examples" .
 for crate in "$top"/crates/*; do mkdir -p "crates/${crate##*/}"; done
 mkdir -p crates/golly_canon/src kit/bin && echo "a program" > crates/golly_canon/src/main.rt && echo "a kit" > kit/KIT-ID
 printf '#!/bin/sh\necho "rt $*" >> "$NOTES"\n' > kit/bin/rt
@@ -80,6 +80,13 @@ verdict "a crate that isn't proved ends it" "$([ $? != 0 ] || cat said)"
 verdict "nothing above it is begun" "$([ "$(cat notes)" = "begin life_base" ] || cat notes)"
 verdict "nothing is left then" "$([ ! -e golly_canon ] || echo "a program")"
 
+# ---- the page
+
+python3 -B scripts/page out/page > said 2>&1
+status=$?
+wanted="scripts/page: the library isn't proved yet: run make library first"
+verdict "the page asks for the library first" "$([ "$status $(cat said)" = "1 $wanted" ] || cat said; [ ! -e out/page ] || echo "a page")"
+
 # ---- what is installed
 
 : > notes
@@ -87,13 +94,13 @@ FAILS=
 export FAILS
 prefix=$folder/prefix
 installed() { find place -type f -o -type l | sort | tr '\n' ' '; }
-makes() { make "$@" RT="$RT" DESTDIR=place PREFIX="$prefix" LIBDIR="$prefix/lib64" MANDIR=/man > said 2>&1; }
+makes() { make RT="$RT" DESTDIR=place PREFIX="$prefix" LIBDIR="$prefix/lib64" MANDIR=/man "$@" > said 2>&1; }
 in_prefix="place$prefix"
 program_files="place/man/man1/golly_canon.1 $in_prefix/bin/golly_canon $in_prefix/share/bash-completion/completions/golly_canon \
 $in_prefix/share/fish/vendor_completions.d/golly_canon.fish $in_prefix/share/zsh/site-functions/_golly_canon"
 library_files="$in_prefix/include/golly_canon.h $in_prefix/lib64/libgolly_canon.a $in_prefix/lib64/libgolly_canon.so \
 $in_prefix/lib64/libgolly_canon.so.1 $in_prefix/lib64/libgolly_canon.so.1.2.3 $in_prefix/lib64/pkgconfig/golly_canon.pc \
-$in_prefix/share/golly_canon/golly_canon.py"
+$in_prefix/share/golly_canon/collection.py $in_prefix/share/golly_canon/golly_canon.py"
 equal_files() { # WANTED..
     wanted=$(printf '%s\n' "$@" | sort | tr '\n' ' ')
     [ "$(installed)" = "$wanted" ] || echo "$(installed) and not $wanted"
@@ -118,6 +125,13 @@ verdict "the file for pkg-config names the folders" "$(diff wanted "$in_prefix/l
 makes uninstall
 verdict "what was installed is removed" "$([ $? = 0 ] || cat said)$(installed)"
 verdict "an install asks rt nothing" "$(cat notes)"
+for name in PREFIX LIBDIR MANDIR PYTHONDIR; do
+    for target in install install_program install_library uninstall; do
+        makes $target $name=relative && echo "status 0" >> said
+        grep -q "^$name=relative is no absolute path" said || echo "make $target $name=relative: $(cat said)" >> problems
+    done
+done
+verdict "a folder that is no absolute path is refused, and nothing is put in place" "$(cat problems 2> /dev/null)$(installed)"
 
 # ---- the words of the C compiler
 
@@ -126,8 +140,7 @@ cat > cc <<'NOTES'
 printf '%s\n' "$@" > "$NOTES"
 NOTES
 chmod 755 cc
-mkdir -p kit/c crates/golly_canon_c/src && touch part.o && ar rc kit/c/liblibc_c.a part.o
-cp "$top/crates/golly_canon_c/src/names.rt" crates/golly_canon_c/src
+mkdir -p kit/c && touch part.o && ar rc kit/c/liblibc_c.a part.o
 CC=$folder/cc CFLAGS="-g -O1" LDFLAGS="-Wl,-z,now" RT=$folder/kit/bin/rt sh scripts/link_library kit/c/liblibc_c.a linked > said 2>&1
 verdict "CFLAGS and LDFLAGS reach the shared object" "$([ "$(grep -xE -- '-g|-O1|-Wl,-z,now' notes | tr '\n' ' ')" = "-g -O1 -Wl,-z,now " ] || cat said notes)"
 

@@ -25,8 +25,18 @@ def seed():
     return ctypes.c_uint64(SEEDS.getrandbits(64))
 
 
+def _said(call, status):
+    """The bytes that a call gives of a status, as a text."""
+    out, needed = ctypes.create_string_buffer(256), ctypes.c_size_t()
+    call(ctypes.c_uint32(status), out, ctypes.c_size_t(256), ctypes.byref(needed))
+    return out.raw[: needed.value].decode()
+
+
 def name_of(library, status):
     """The name of a status."""
-    name, needed = ctypes.create_string_buffer(32), ctypes.c_size_t()
-    library.golly_canon_status_name(ctypes.c_uint32(status), name, ctypes.c_size_t(32), ctypes.byref(needed))
-    return name.raw[: needed.value].decode()
+    return _said(library.golly_canon_status_name, status)
+
+
+def sentence_of(library, status):
+    """What a status means, in a sentence."""
+    return _said(library.golly_canon_sentence, status)

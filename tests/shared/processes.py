@@ -1,7 +1,9 @@
 """How tests start programs."""
 
 import os
+import re
 import resource
+import shutil
 import subprocess
 import sys
 import tempfile
@@ -10,6 +12,10 @@ from typing import NamedTuple
 # Where the standard output and the standard error of `spawned` go, and how they are opened.
 OUTPUT, ERRORS = "standard-output", "standard-error"
 WRITTEN = os.O_WRONLY | os.O_CREAT | os.O_TRUNC
+
+
+# The oldest version of Node in which the module runs.
+NODE = 20
 
 
 class Answer(NamedTuple):
@@ -24,6 +30,15 @@ def program_of(path):
     if not os.access(path, os.X_OK):
         sys.exit(f"there is no program {path}")
     return os.path.abspath(path)
+
+
+def has_node(*more):
+    """Whether Node is installed, in a version in which the module runs, and these programs with it."""
+    if not all(map(shutil.which, ["node", *more])):
+        return False
+    said = subprocess.run(["node", "--version"], stdout=subprocess.PIPE, text=True, check=False).stdout
+    version = re.match(r"v(\d+)\.", said)
+    return bool(version) and int(version[1]) >= NODE
 
 
 def run(words, source=b"", **how):
