@@ -27,7 +27,7 @@ const REFUSED = {
 };
 
 export const EXAMPLES = {
-  "a glider in four spellings": GLIDER,
+  "a glider written in four ways": GLIDER,
   "Golly's two files of one pattern": OF_GOLLY,
   "a pattern 2\u2074\u2070 cells wide": { "triangle.mc": triangle() },
   "a file that is refused": REFUSED,

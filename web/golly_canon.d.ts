@@ -55,11 +55,12 @@ export class Refused extends Error {
 /** The module stopped in a call, as where its stack is full: nothing is said of the file. The next call is made on a new module. */
 export class Fault extends Error {}
 
-/** Whether there is WebAssembly memory of 64 bits here, without which the library can't be loaded. */
+/** Whether the library can be loaded here. It needs WebAssembly with bulk memory operations and BigInt, and a page that allows WebAssembly. */
 export function isSupported(): boolean;
 
 /**
- * Loads the library: from golly_canon.wasm beside this file, or from what is given. `memory` is the most memory that it may take, in bytes.
+ * Loads the library: from golly_canon.wasm beside this file, or from what is given. `memory` is the most memory that it may take, in bytes:
+ * at most 4 GB, which is also what it may take if none is given.
  */
 export function load(
   source?: WebAssembly.Module | BufferSource | Response | URL | string | Promise<WebAssembly.Module | BufferSource | Response>,
@@ -88,6 +89,13 @@ export interface Library {
   read(source: Source, options?: InForm & Told & { gives?: "canon" }): Promise<Uint8Array>;
   read(source: Source, options: Limited & Told & { gives: "toRle" | "step" }): Promise<Uint8Array>;
   read(source: Source, options: Limited & Told & { gives: "show" }): Promise<Shown>;
+  /** The key of a file that is read to its end and not held: what `key` returns for the whole file. */
+  readKey(source: Source, options?: InForm & Told): Promise<Uint8Array>;
+  /**
+   * What a kind of fault means, in a sentence of English, as `golly_canon keys` writes it after the kind: of `ZeroCount` it is `A count is 0.` That of
+   * `Full` speaks of the limit that the program has. It throws a RangeError for a name that is no kind.
+   */
+  sentenceOf(kind: string): string;
 }
 
 /** Who is told how many bytes of a file were read. */
@@ -104,6 +112,8 @@ export interface Stream<Text> {
   feed(chunk: Data): void;
   /** Ends the file, and returns what comes of it. Called again it returns the same. */
   finish(): Text;
+  /** Ends the file, and returns the key of its text: its SHA-256, 32 bytes. It can be called before `finish`, after it, and again. */
+  finishKey(): Uint8Array;
   /** Gives the memory of the stream back. A stream that is lost without it keeps its memory for as long as the library is there. */
   close(): void;
 }

@@ -20,10 +20,14 @@ const NO_ROOM = 64;
 /** Bytes that are handed over at once, and bytes for an answer at first. */
 const CHUNK = 1 << 20;
 const FIRST_ROOM = 1 << 12;
-/** The pages of memory that the module wants at first, 64 KB each. */
-const PAGES = 32n;
-/** A module of WebAssembly that has a memory of 64 bits, and nothing else. */
-const WIDE = Uint8Array.of(0, 97, 115, 109, 1, 0, 0, 0, 5, 3, 1, 4, 1);
+/** The pages of memory that the module wants at first, and the most that there can be, 64 KB each. */
+const PAGES = 32;
+const MOST_PAGES = 65536;
+/** A small module that has what the library's module needs: its function `f` clears memory, extends a sign, and returns the bigint it is given. */
+const NEEDED = Uint8Array.of(
+  ...[0, 97, 115, 109, 1, 0, 0, 0, 1, 6, 1, 96, 1, 126, 1, 126, 3, 2, 1, 0, 5, 3, 1, 0, 1, 7, 5, 1, 1, 102, 0, 0],
+  ...[10, 16, 1, 14, 0, 65, 0, 65, 0, 65, 0, 252, 11, 0, 32, 0, 196, 11],
+);
 
 /** Why a file, a rule table or a pattern is refused. As a text it is the line that the program writes, as `line 4: BadChild`. */
 export class Refused extends Error {
@@ -44,15 +48,20 @@ export class Fault extends Error {
   }
 }
 
-/** Whether there is memory of 64 bits, without which the module can't be loaded. */
+/** Whether the module can be loaded here: whether a small one that needs the same of WebAssembly runs. */
 export function isSupported() {
-  return typeof WebAssembly === "object" && WebAssembly.validate(WIDE);
+  try {
+    return new WebAssembly.Instance(new WebAssembly.Module(NEEDED)).exports.f(-1n) === -1n;
+  } catch {
+    return false;
+  }
 }
 
 /** The library, from its module: the file beside this one, where none is given. */
 export async function load(source, options = {}) {
+  checkMemory(options.memory);
   if (!isSupported()) {
-    throw new Error("this browser has no WebAssembly memory of 64 bits: Chrome and Edge have it from 133 on, Firefox from 134 on");
+    throw new Error("the library can't run here: it needs WebAssembly with bulk memory operations and BigInt, and a page that allows WebAssembly");
   }
   return new Library(await moduleOf(source ?? new URL("golly_canon.wasm", import.meta.url)), options);
 }
@@ -73,8 +82,39 @@ async function moduleOf(source) {
   return WebAssembly.compile(await response.arrayBuffer());
 }
 
-/** The bytes of what is given as a file. */
-function bytesOf(data) {
+/** What a value is, for the message of an error. */
+const shownValue = value => (typeof value === "bigint" || typeof value === "number" ? `${value}` : value === null ? "null" : typeof value);
+
+/** Refuses a number of bytes that can't be the most memory of the module. */
+function checkMemory(memory) {
+  const least = Number(PAGES) * 65536;
+  if (memory !== undefined && typeof memory !== "number") {
+    throw new TypeError(`memory is a number of bytes, and not ${shownValue(memory)}`);
+  }
+  if (memory !== undefined && !(memory >= least && memory < Infinity)) {
+    throw new RangeError(`memory is a number of bytes, ${least} or more, and not ${memory}`);
+  }
+}
+
+/** Refuses what is no limit. */
+function checkLimit(limit) {
+  if (typeof limit !== "number" && typeof limit !== "bigint") {
+    throw new TypeError(`limit is a number of squares, and not ${shownValue(limit)}`);
+  }
+  if (typeof limit === "number" ? !(Number.isInteger(limit) && limit >= 0) : limit < 0n) {
+    throw new RangeError(`limit is a whole number of squares, 0 or more, and not ${limit}`);
+  }
+}
+
+/** Refuses what gives no chunks. */
+function checkChunks(source) {
+  if (source === undefined || source === null || !(source[Symbol.iterator] ?? source[Symbol.asyncIterator])) {
+    throw new TypeError(`source is a stream, a blob, a response, bytes, a string or chunks, and not ${shownValue(source)}`);
+  }
+}
+
+/** The bytes of what is given as a file, as the argument of this name. */
+function bytesOf(data, name = "data") {
   if (typeof data === "string") {
     return new TextEncoder().encode(data);
   }
@@ -84,15 +124,13 @@ function bytesOf(data) {
   if (data instanceof ArrayBuffer) {
     return new Uint8Array(data);
   }
-  throw new TypeError("a file is bytes, or a string");
+  throw new TypeError(`${name} is a file: bytes (an ArrayBuffer or a view of one) or a string, and not ${shownValue(data)}`);
 }
 
 /** A limit as a call takes it. */
 function limitOf(limit) {
+  checkLimit(limit);
   const number = BigInt(limit);
-  if (number < 0n) {
-    throw new RangeError("a limit is a number of squares");
-  }
   return number < 1n << 62n ? number : 1n << 62n;
 }
 
@@ -121,6 +159,7 @@ async function* chunksOf(source) {
   }
   const chunks = source instanceof Blob ? source.stream() : source instanceof Response ? source.body : source;
   if (!(chunks instanceof ReadableStream)) {
+    checkChunks(chunks);
     yield* chunks;
     return;
   }
@@ -134,7 +173,7 @@ async function* chunksOf(source) {
   }
 }
 
-/** The module with its memory. Its addresses are whole numbers of 64 bits. */
+/** The module with its memory. The module takes and returns addresses as bigints, though its memory has 32-bit addresses. */
 class Instance {
   /** Whether it stopped in a call: then nothing is known of its memory. */
   isLost = false;
@@ -143,7 +182,7 @@ class Instance {
   #told;
 
   constructor(module, maximum) {
-    this.#memory = new WebAssembly.Memory({ address: "i64", initial: PAGES, maximum });
+    this.#memory = new WebAssembly.Memory({ initial: PAGES, maximum });
     this.#calls = new WebAssembly.Instance(module, { env: { memory: this.#memory } }).exports;
     this.#told = this.take(24);
   }
@@ -228,9 +267,14 @@ class Instance {
     }
   }
 
+  /** What the library says of a status: with `status_name` its name, with `sentence` what it means. */
+  said(name, status) {
+    return new TextDecoder().decode(this.text(name, [status], []));
+  }
+
   /** What a status says. */
   refused(status, inTable = false) {
-    const kind = new TextDecoder().decode(this.text("status_name", [status], []));
+    const kind = this.said("status_name", status);
     const line = this.number(1);
     return new Refused(kind, line || null, line > 0 && (inTable || status === AMBIGUOUS));
   }
@@ -270,7 +314,7 @@ class Stream {
 
   feed(chunk) {
     this.#open();
-    const bytes = bytesOf(chunk);
+    const bytes = bytesOf(chunk, "chunk");
     for (let at = 0; at < bytes.length; at += CHUNK) {
       const piece = bytes.subarray(at, at + CHUNK);
       this.#instance.bytes(this.#room, piece.length).set(piece);
@@ -285,6 +329,12 @@ class Stream {
     this.#open();
     const text = this.#instance.text("finish", [this.#struct], [1]);
     return this.#gives === "show" ? shownOf(text) : text;
+  }
+
+  finishKey() {
+    this.#open();
+    const digits = new TextDecoder().decode(this.#instance.text("finish_key", [this.#struct], [1]));
+    return Uint8Array.from(digits.match(/../g), it => Number.parseInt(it, 16));
   }
 
   close() {
@@ -308,7 +358,7 @@ class Library {
 
   constructor(module, { memory } = {}) {
     this.#module = module;
-    this.#maximum = memory === undefined ? undefined : BigInt(Math.ceil(memory / 65536));
+    this.#maximum = memory === undefined ? undefined : Math.min(Math.ceil(memory / 65536), MOST_PAGES);
     this.version = new TextDecoder().decode(this.#here().text("version", [], []));
   }
 
@@ -321,9 +371,10 @@ class Library {
 
   /** What a stream gives of one file. */
   #whole(data, options) {
+    const bytes = bytesOf(data);
     const file = this.stream(options);
     try {
-      file.feed(data);
+      file.feed(bytes);
       return file.finish();
     } finally {
       file.close();
@@ -341,7 +392,7 @@ class Library {
 
   same(first, second, { form = "placed", limit = SQUARES } = {}) {
     const here = this.#here();
-    return here.lent([bytesOf(first), bytesOf(second)], (...files) => {
+    return here.lent([bytesOf(first, "first"), bytesOf(second, "second")], (...files) => {
       const status = here.call("golly_canon_same_form", ...files, numberOf(form), limitOf(limit), this.#seed, here.place(2), here.place(1));
       if (status !== 0) {
         throw here.refused(status);
@@ -363,7 +414,7 @@ class Library {
       return this.#whole(data, { gives: "step", limit });
     }
     const here = this.#here();
-    return here.lent([bytesOf(data), bytesOf(table)], (...files) => here.text("step_by_table", [...files, limitOf(limit), this.#seed], [1, 2]));
+    return here.lent([bytesOf(data), bytesOf(table, "table")], (...files) => here.text("step_by_table", [...files, limitOf(limit), this.#seed], [1, 2]));
   }
 
   stream({ gives = "canon", form = "placed", limit = SQUARES } = {}) {
@@ -374,6 +425,15 @@ class Library {
   }
 
   async read(source, { onProgress, ...options } = {}) {
+    return this.#ended(source, options, onProgress, file => file.finish());
+  }
+
+  async readKey(source, { form, limit, onProgress } = {}) {
+    return this.#ended(source, { form, limit }, onProgress, file => file.finishKey());
+  }
+
+  /** What the end of a stream gives that is fed what a source has. */
+  async #ended(source, options, onProgress, end) {
     const file = this.stream(options);
     let length = 0;
     try {
@@ -383,9 +443,19 @@ class Library {
         length += bytes.length;
         onProgress?.(length);
       }
-      return file.finish();
+      return end(file);
     } finally {
       file.close();
     }
+  }
+
+  sentenceOf(kind) {
+    const here = this.#here();
+    for (let status = 1; status < NO_ROOM; status++) {
+      if (kind !== "" && here.said("status_name", status) === kind) {
+        return here.said("sentence", status);
+      }
+    }
+    throw new RangeError(`kind is the name of a kind of fault, and not ${kind}`);
   }
 }

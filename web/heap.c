@@ -32,21 +32,28 @@ typedef __PTRDIFF_TYPE__ ptrdiff_t;
 
 extern unsigned char __heap_base;
 
-/* The end of the memory so far, and so many bytes more behind it, as sbrk does. Behind a memory that can't grow it fails. */
+/* The most memory, in pages. The module has addresses of 32 bits (scripts/page), and its stack ends at address 0. So as many pages are left out as the
+   stack has: a stack that overflows then reaches addresses where there is no memory, which traps. */
+#define MOST_PAGES ((size_t)65536 - 16)
+
+/* Returns the end of the memory so far and moves it up by so many bytes, as sbrk does. It fails where the memory can't grow. */
 static void *more_memory(ptrdiff_t size)
 {
-    static size_t end, whole;
-    if (!end) {
+    static size_t end;
+    size_t pages = __builtin_wasm_memory_size(0), left;
+    if (!end)
         end = ((size_t)&__heap_base + 15) & ~(size_t)15;
-        whole = __builtin_wasm_memory_size(0) * malloc_getpagesize;
-    }
     if (size < 0)
         return (void *)-1;
-    if ((size_t)size > whole - end) {
-        size_t pages = ((size_t)size - (whole - end) + malloc_getpagesize - 1) / malloc_getpagesize;
-        if (__builtin_wasm_memory_grow(0, pages) == (size_t)-1)
+    left = pages * malloc_getpagesize - end;
+    if ((size_t)size > left) {
+        size_t more = ((size_t)size - left + malloc_getpagesize - 1) / malloc_getpagesize;
+        if (pages + more > MOST_PAGES)
             return (void *)-1;
-        whole += pages * malloc_getpagesize;
+        /* The new size says whether the memory grew. What the call returns has 32 bits, so that a failure isn't the -1 of 64 bits. */
+        (void)__builtin_wasm_memory_grow(0, more);
+        if (__builtin_wasm_memory_size(0) != pages + more)
+            return (void *)-1;
     }
     end += (size_t)size;
     return (void *)(end - (size_t)size);

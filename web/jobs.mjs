@@ -6,12 +6,12 @@ export class Stopped extends Error {}
 /** Why a request has no answer: a refusal, a file that can't be read, or a fault. */
 export class Failed extends Error {
   constructor(answer) {
-    super(answer.refused?.told ?? answer.unreadable ?? answer.fault);
+    super(answer.refused?.reason ?? answer.unreadable ?? answer.fault);
     Object.assign(this, answer);
   }
 }
 
-/** The bytes of the module that stands in the page, packed. */
+/** The bytes of the module that is in the page, compressed. */
 async function moduleOfPage() {
   const packed = atob(document.getElementById("module").textContent);
   const bytes = Uint8Array.from(packed, it => it.charCodeAt(0));
@@ -40,7 +40,7 @@ export class Jobs {
     await this.#started();
   }
 
-  /** The answer to a request, behind those that were made before. Progress is told in bytes of the file. */
+  /** The answer to a request, after those that were made before. Progress is reported in bytes of the file. */
   ask(act, words, onProgress) {
     const stops = this.#stops;
     const goOn = () => {

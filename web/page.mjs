@@ -2,35 +2,39 @@
 
 import { EXAMPLES } from "./examples.mjs";
 import { Failed, Jobs, Stopped } from "./jobs.mjs";
-import { Picture } from "./picture.mjs";
+import { Picture, coloursOfRule } from "./picture.mjs";
 import { SENTENCES } from "./sentences.mjs";
 import { filesOfTransfer, sourcesOf } from "./archive.mjs";
 
 const $ = id => document.getElementById(id);
 /** What counts as one pattern: the words of each form. */
 const FORMS = { placed: "As placed", moved: "Moved", turned: "Moved, turned or reflected" };
+/** The columns of the list. */
+const COLUMNS = ["Group", "File", "Rule", "Generation", "Cells", "Box"];
 /** The most rows of the list, and the most bytes of a text, that are shown. */
 const MOST_ROWS = 500;
 const MOST_SHOWN = 1 << 16;
 /** The most cells that aren't 0 for RLE and for a step. */
 const MOST_CELLS = 2n ** 20n;
-/** From one generation to the next while it runs, in milliseconds. */
-const PACE = 60;
+/** The most generations, and the most bytes of their texts, that are kept for going back. */
+const MOST_BACK = 1000;
+const MOST_BACK_BYTES = 2 ** 26;
 
 const memory = Number(new URLSearchParams(location.hash.slice(1)).get("memory"));
 const jobs = new Jobs(memory > 0 ? memory * 2 ** 20 : undefined);
 const picture = new Picture($("picture"), showPlace, showPoint);
 
-/** The files, each with what is known of it: `summary` and `keys`, or `failed`. */
+/** The files, each with what is known of it: `summary`, `keys`, why keys are `lacking` and a `warning`, or `failed`. */
 let files = [];
-/** The rule tables, by the names of their rules. */
+/** The rule tables, and the colours of their states, by the names of their rules. */
 let tables = new Map();
-/** What is shown: its file, its text, its summary and its tree, and the text of the file itself. */
+let colours = new Map();
+/** What is shown: its file, its text, its summary and its tree, those of the file itself, and those of the generations before. */
 let shown = null;
 let form = "placed";
 let isChosen = false;
 let isRunning = false;
-/** A number that is another one behind each stop, and each time all is cleared. */
+/** A number that is different after each stop, and each time all is cleared. */
 let turn = 0;
 
 // ---- words
@@ -60,8 +64,8 @@ function sentenceOf(kind) {
 
 function showPlace({ x, y, zoom }) {
   const far = powerOf(Math.max(0, -zoom));
-  const scale = zoom === 0 ? "one pixel a cell" : zoom > 0 ? `${2 ** zoom} pixels a cell` : `a pixel is ${far} \u00d7 ${far} cells`;
-  $("place").textContent = `Middle: cell (${grouped(x)}, ${grouped(y)}); ${scale}.`;
+  const scale = zoom === 0 ? "one pixel per cell" : zoom > 0 ? `${2 ** zoom} pixels per cell` : `a pixel is ${far} \u00d7 ${far} cells`;
+  $("place").textContent = `Centre: cell (${grouped(x)}, ${grouped(y)}); ${scale}.`;
 }
 
 function showPoint(point) {
@@ -70,6 +74,23 @@ function showPoint(point) {
 
 function say(text) {
   $("said").textContent = text;
+}
+
+/** A file's name as it is shown: a control character, or one that turns the direction of text, is shown as its number. */
+function shownName(name) {
+  const hidden = /[\0-\x1f\x7f-\x9f\u061c\u200e\u200f\u2028-\u202e\u2066-\u2069]/g;
+  return name.replace(hidden, it => `\\u${it.charCodeAt(0).toString(16).padStart(4, "0")}`);
+}
+
+/** One file in a sentence, for who doesn't see the page. */
+function spoken(file) {
+  if (file.failed !== undefined) {
+    const { refused } = file.failed;
+    return `${shownName(file.name)} is refused: ${file.failed.message}. ${refused === undefined ? "" : sentenceOf(refused.kind)}`;
+  }
+  const { rule, generation, population } = file.summary;
+  const what = `${counted(population, "cell", "cells")}, ${rule}, generation ${grouped(generation)}`;
+  return `${shownName(file.name)}: ${what}.${file.warning ? ` Warning: ${file.warning}` : ""}`;
 }
 
 /** An element with a text and these properties. */
@@ -87,7 +108,7 @@ function button(text, onClick, properties = {}) {
 
 let taken = Promise.resolve();
 
-/** Takes files behind those that were given before. */
+/** Takes files after those that were given before. */
 function take(source) {
   const mine = turn;
   taken = taken.then(() => (mine === turn ? takeNow(source, mine) : undefined));
@@ -96,6 +117,7 @@ function take(source) {
 async function takeNow(source, mine) {
   const given = [];
   try {
+    say("");
     working("Looking at the files", null);
     for await (const file of source) {
       if (mine !== turn) {
@@ -112,6 +134,9 @@ async function takeNow(source, mine) {
     if (mine === turn) {
       notWorking();
       showCompared();
+      if (files.length === 1 && given.length > 0 && (files[0].failed ?? files[0].keys) !== undefined && $("said").textContent === "") {
+        say(spoken(files[0]));
+      }
     }
   }
 }
@@ -128,9 +153,10 @@ async function readAll(given, mine) {
         return;
       }
       const [number, count] = sources.length > 1 ? [place, sources.length] : [index, given.length];
-      const about = count > 1 ? `${source.name} (${grouped(number + 1)} of ${grouped(count)})` : source.name;
+      const name = shownName(source.name);
+      const about = count > 1 ? `${name} (${grouped(number + 1)} of ${grouped(count)})` : name;
       const at = before + within;
-      await readOne(source, bytes => working(`${bytes < source.size ? "Reading" : "Writing the text of"} ${about}`, (at + bytes) / whole));
+      await readOne(source, bytes => working(`${bytes < source.size ? "Reading" : "Computing the canonical text of"} ${about}`, (at + bytes) / whole));
       within += source.size;
     }
     before += file.blob.size;
@@ -155,13 +181,15 @@ async function readPattern(file, onProgress) {
       throw new Failed({ unreadable: file.why });
     }
     const found = await jobs.ask("read", { source: sourceOf(file), isShown }, onProgress);
-    Object.assign(file, { summary: found.summary, keys: found.keys });
+    Object.assign(file, { summary: found.summary, keys: found.keys, lacking: found.lacking, warning: found.warning });
     if (isShown) {
       show(file, found);
     }
     if (found.lacksKeys) {
-      working(`Turning ${file.name}`, null);
-      Object.assign(file.keys, await jobs.ask("keys"));
+      working(`Computing the other keys of ${shownName(file.name)}`, null);
+      const others = await jobs.ask("keys");
+      Object.assign(file.keys, others.keys);
+      Object.assign(file.lacking, others.lacking);
     }
     if (file === shown?.file) {
       showSummary();
@@ -178,7 +206,7 @@ async function readPattern(file, onProgress) {
   }
 }
 
-/** A file as the worker is told of it. */
+/** A file as it is sent to the worker. */
 function sourceOf({ blob, bytes, packed, sum, length }) {
   return { blob, bytes: bytes?.slice(), packed, sum, length };
 }
@@ -194,11 +222,18 @@ async function takeTable(file) {
   const bytes = new Uint8Array(await new Response(unpacked).arrayBuffer().catch(() => new ArrayBuffer(0)));
   const name = /^@RULE[ \t]+(\S+)/m.exec(new TextDecoder("latin1").decode(bytes.subarray(0, MOST_SHOWN)))?.[1];
   if (name === undefined) {
-    say(`${file.name} is no rule table: it has no line @RULE with a name.`);
+    say(`${shownName(file.name)} is no rule file: it has no line @RULE with a name.`);
     return;
   }
   tables.set(name, bytes);
-  say(`The rule table of ${name} serves the steps of patterns under that name.`);
+  colours.set(name, coloursOfRule(bytes));
+  const hasTable = /^@TABLE/m.test(new TextDecoder("latin1").decode(bytes));
+  const isColoured = colours.get(name).size > 0;
+  say(hasTable ? `Step and Run now use the rule table of ${name}${isColoured ? ", and the picture its colours" : ""}.`
+    : `The rule file of ${name} has no @TABLE, so there is no step by it.${isColoured ? " The picture uses its colours." : ""}`);
+  if (shown !== null) {
+    picture.show(shown.tree, shown.summary.box, false, colours.get(shown.summary.rule));
+  }
   showSteps();
 }
 
@@ -242,6 +277,7 @@ function clear() {
   notWorking();
   files = [];
   tables = new Map();
+  colours = new Map();
   shown = null;
   isChosen = false;
   say("");
@@ -281,7 +317,7 @@ function showCompared() {
   }
   const groups = groupsIn(form);
   $("answer").textContent = answerOf(groups);
-  $("why").textContent = whyOf(groups);
+  $("why").textContent = [whyOf(groups), warned()].filter(it => it !== "").join(" ");
   $("forms").replaceChildren(...forms.map(it => {
     const choice = button(`${FORMS[it]} (${counted(groupsIn(it).length, "group", "groups")})`, () => {
       [form, isChosen] = [it, true];
@@ -295,7 +331,7 @@ function showCompared() {
 
 /** What is added to a sentence on files that are one pattern in a form, and on those that are compared in it. */
 const HOW = { placed: "", moved: ", at different places", turned: ", turned or reflected" };
-const WHATEVER = { placed: "", moved: ", wherever they lie", turned: ", however they lie or are turned" };
+const WHATEVER = { placed: "", moved: ", wherever they are", turned: ", wherever they are and however they are turned" };
 
 /** The first form in which the files of a group are one pattern. */
 const formOf = group => Object.keys(FORMS).find(it => group.every(file => file.keys[it] === group[0].keys[it]));
@@ -307,18 +343,28 @@ function answerOf(groups) {
   }
   if (groups.length === 0) {
     const what = patterns.length === 2 ? "The files are two patterns" : "No two files are one pattern";
-    return patterns.length < 2 ? "There is nothing to compare." : `${what}${WHATEVER[form]}.`;
+    const few = patterns.length === 1 ? "Only one of the files is a pattern." : "None of the files is a pattern: all were refused.";
+    return patterns.length < 2 ? few : `${what}${WHATEVER[form]}.`;
   }
-  const doubles = groups.reduce((sum, it) => sum + it.length, 0);
+  const duplicates = groups.reduce((sum, it) => sum + it.length, 0);
   const how = `${WHATEVER[form]}: ${counted(groups.length, "group", "groups")}`;
-  return `${grouped(doubles)} of ${grouped(files.length)} files share a pattern with another${how}.`;
+  return `${grouped(duplicates)} of ${grouped(files.length)} files share a pattern with another${how}.`;
 }
 
-/** What two files differ in, or by how much the one is moved; of more files how many were refused. */
+/** Whether files are probably meant otherwise than they are read, in a sentence. */
+function warned() {
+  const count = files.filter(it => it.warning).length;
+  return count > 0 ? `Warning: ${counted(count, "file seems", "files seem")} to be meant as another pattern, see the list.` : "";
+}
+
+/** What two files differ in, or by how much the one is moved; of more files how many were refused, or can't be compared in the form. */
 function whyOf(groups) {
   const refused = files.filter(it => it.failed !== undefined).length;
-  if (files.length !== 2 || refused > 0) {
-    return refused > 0 ? `${counted(refused, "file was", "files were")} refused.` : "";
+  const without = files.filter(it => it.failed === undefined && it.keys[form] === undefined).length;
+  if (files.length !== 2 || refused > 0 || without > 0) {
+    const said = [refused > 0 ? `${counted(refused, "file was", "files were")} refused.` : "",
+      without > 0 ? `${counted(without, "file has", "files have")} no key of this form, and can't be compared in it.` : ""];
+    return said.filter(it => it !== "").join(" ");
   }
   const [one, other] = files.map(it => it.summary);
   if (groups.length === 0) {
@@ -341,7 +387,7 @@ function whyOf(groups) {
       [down, "row", "rows", "south", "north"],
     ].filter(([by]) => by !== 0n);
     const said = ways.map(([by, unit, units, there, back]) => `${counted(by > 0n ? by : -by, unit, units)} to the ${by > 0n ? there : back}`);
-    return `The second one lies ${said.join(" and ")} of the first.`;
+    return `The second one is ${said.join(" and ")} of the first.`;
   }
   return "They name one rule and one generation.";
 }
@@ -357,23 +403,36 @@ function showList(groups) {
   $("more").textContent = sorted.length > MOST_ROWS ? `And ${grouped(sorted.length - MOST_ROWS)} more, which the saved table has.` : "";
 }
 
+/** A cell of the list, under its column. */
+function cellOf(kind, column, text, properties = {}) {
+  const cell = made(kind, text, properties);
+  cell.dataset.column = COLUMNS[column];
+  return cell;
+}
+
 function rowOf(file, group) {
   const row = document.createElement("tr");
+  row.setAttribute("role", "row");
   const mark = made("span", group === undefined ? "" : String(group + 1), { className: "group" });
   if (group !== undefined) {
     mark.style.setProperty("--of-group", colourOf(group));
   }
-  const name = button(file.name, () => choose(file), { className: "link" });
-  const cells = [mark, name].map(it => {
-    const cell = document.createElement("td");
-    cell.append(it);
-    return cell;
-  });
+  const name = button(shownName(file.name), () => choose(file), { className: "link" });
+  const cells = [cellOf("td", 0, "", { className: group === undefined ? "none" : "" }), cellOf("th", 1, "", { scope: "row" })];
+  cells[0].append(mark);
+  cells[1].append(name);
   if (file.failed !== undefined) {
-    cells.push(made("td", file.failed.message, { className: "bad", colSpan: 4 }));
+    cells.push(cellOf("td", 2, file.failed.message, { className: "bad", colSpan: 4 }));
+    cells[2].dataset.column = "Refused";
   } else {
     const { rule, generation, population } = file.summary;
-    cells.push(...[rule, grouped(generation), grouped(population), boxOf(file.summary)].map(it => made("td", it)));
+    cells.push(...[rule, grouped(generation), grouped(population), boxOf(file.summary)].map((it, index) => cellOf("td", index + 2, it)));
+    if (file.warning) {
+      cells[1].append(made("span", ` Warning: ${file.warning}`, { className: "bad" }));
+    }
+  }
+  for (const cell of cells) {
+    cell.setAttribute("role", cell.tagName === "TH" ? "rowheader" : "cell");
   }
   if (file === shown?.file) {
     row.className = "chosen";
@@ -383,7 +442,14 @@ function rowOf(file, group) {
   return row;
 }
 
-/** The list as a table with commas: a line for each file, those of one pattern with one number. */
+/** Why a file has no key in a form, in words. */
+function whyNoKey(file, which) {
+  const kind = file.lacking?.[which];
+  return kind === undefined ? "It isn't computed yet, or was stopped." : kind === "TooManyCells"
+    ? `There is none for a pattern of more than ${powerOf(20)} cells.` : `There is none: ${kind}. ${sentenceOf(kind)}`;
+}
+
+/** The list as a table with commas: a line for each file, those of one pattern with one number, and its key in the form that is shown. */
 function tableOf() {
   const numbers = new Map(groupsIn(form).flatMap((group, index) => group.map(file => [file, index + 1])));
   // A text that begins as a formula is none to a reader of tables.
@@ -391,10 +457,12 @@ function tableOf() {
   const lines = files.map(file => {
     const { rule, generation, population, box } = file.summary ?? {};
     const place = box ? [box.left, box.top, box.width, box.height] : ["", "", "", ""];
-    return [numbers.get(file) ?? "", quoted(file.name), quoted(rule ?? ""), generation ?? "", population ?? "", ...place, file.keys?.placed ?? "",
-      quoted(file.failed?.message ?? "")].join(",");
+    const key = file.keys?.[form] ?? "";
+    const notes = [file.warning ?? "", file.failed === undefined && key === "" ? whyNoKey(file, form) : ""].filter(it => it !== "").join(" ");
+    return [numbers.get(file) ?? "", quoted(file.name), quoted(rule ?? ""), generation ?? "", population ?? "", ...place, form, key,
+      quoted(file.failed?.message ?? ""), quoted(notes)].join(",");
   });
-  return ["group,file,rule,generation,population,left,top,width,height,key,refused", ...lines].join("\r\n") + "\r\n";
+  return ["group,file,rule,generation,population,left,top,width,height,form,key,refused,note", ...lines].join("\r\n") + "\r\n";
 }
 
 // ---- showing a file
@@ -402,18 +470,21 @@ function tableOf() {
 async function choose(file) {
   if (file.failed !== undefined) {
     showRefused(file);
+    say(spoken(file));
     return;
   }
   const mine = turn;
+  const doing = `Reading ${shownName(file.name)}`;
   running(false);
-  working(`Reading ${file.name}`, 0);
+  working(doing, 0);
   try {
-    const found = await jobs.ask("read", { source: sourceOf(file), isShown: true }, bytes => working(`Reading ${file.name}`, bytes / file.size));
+    const found = await jobs.ask("read", { source: sourceOf(file), isShown: true }, bytes => working(doing, bytes / file.size));
     show(file, found);
     showCompared();
+    say(spoken(file));
   } catch (why) {
     if (why instanceof Failed) {
-      say(`${file.name} can't be read any more: ${why.message}.`);
+      say(`${shownName(file.name)} can't be read any more: ${why.message}.`);
     }
   } finally {
     if (mine === turn) {
@@ -426,12 +497,12 @@ function showRefused(file) {
   const { refused, unreadable } = file.failed;
   $("shown").hidden = true;
   $("refused").hidden = false;
-  $("refused-name").textContent = `${file.name} is refused`;
+  $("refused-name").textContent = `${shownName(file.name)} is refused`;
   if (refused === undefined) {
-    $("refused-told").textContent = unreadable === undefined ? "Fault" : "Unreadable";
+    $("refused-reason").textContent = unreadable === undefined ? "Fault" : "Unreadable";
     $("refused-why").textContent = unreadable ?? `The library stopped (${file.failed.fault}); it was loaded anew. Nothing is said of the file.`;
   } else {
-    $("refused-told").textContent = refused.told;
+    $("refused-reason").textContent = refused.reason;
     $("refused-why").textContent = sentenceOf(refused.kind);
   }
   const line = refused?.found ?? "";
@@ -441,10 +512,12 @@ function showRefused(file) {
 
 /** Shows a file with what was read of it. */
 function show(file, { text, summary, tree }) {
-  shown = { file, text, summary, tree, first: { text, summary, tree }, isRle: false, rle: null };
+  shown = { file, text, summary, tree, first: { text, summary, tree }, before: [], isRle: false, rle: null };
   $("refused").hidden = true;
   $("shown").hidden = false;
-  $("name").textContent = file.name;
+  $("name").textContent = shownName(file.name);
+  $("warning").hidden = !file.warning;
+  $("warning").textContent = file.warning ? `Warning: ${file.warning}` : "";
   showPattern(true);
 }
 
@@ -452,28 +525,28 @@ function show(file, { text, summary, tree }) {
 function showPattern(isNew) {
   const { summary, tree } = shown;
   $("picture").ariaLabel = `Picture of the pattern: ${counted(summary.population, "cell", "cells")}, generation ${summary.generation}`;
-  picture.show(tree, summary.box, isNew);
+  picture.show(tree, summary.box, isNew, colours.get(summary.rule));
   $("back").hidden = isOfFile();
   showSummary();
   showSteps();
   showText();
 }
 
-/** Whether what is shown is the pattern of the file, and none behind steps. */
+/** Whether what is shown is the pattern of the file, and not one after steps. */
 const isOfFile = () => shown.text === shown.first.text;
 
 function showSummary() {
   const { summary, file } = shown;
   const rows = [["Rule", summary.rule], ["Generation", grouped(summary.generation)], ["Cells", grouped(summary.population)], ["Box", boxOf(summary)],
-    ["Squares", grouped(summary.nodes)]];
+    ["Squares in the text", grouped(summary.nodes)]];
   if (isOfFile()) {
     rows.push(["Key", file.keys.placed]);
-    for (const it of Object.keys(file.keys).filter(it => it !== "placed")) {
-      rows.push([`Key, ${it}`, file.keys[it]]);
+    for (const it of ["moved", "turned"]) {
+      rows.push(file.keys[it] === undefined ? [`No key, ${it}`, whyNoKey(file, it)] : [`Key, ${it}`, file.keys[it]]);
     }
   }
-  const cellOf = ([name, value]) => [made("dt", name), made("dd", value, { className: name.startsWith("Key") ? "key" : "" })];
-  $("summary").replaceChildren(...rows.flatMap(cellOf));
+  const termOf = ([name, value]) => [made("dt", name), made("dd", value, { className: name.startsWith("Key") ? "key" : "" })];
+  $("summary").replaceChildren(...rows.flatMap(termOf));
 }
 
 // ---- its text
@@ -551,8 +624,9 @@ function showSteps() {
   for (const id of ["step", "run"]) {
     $(id).disabled = lacks || isLarge;
   }
+  $("step-back").disabled = shown.before.length === 0;
   $("no-step").textContent = lacks
-    ? `For a step drop the rule table of ${shown.summary.rule}, a .rule file.`
+    ? `To step this pattern, drop the rule file of ${shown.summary.rule}, a .rule file with a @TABLE.`
     : isLarge ? `A step and RLE are for up to ${powerOf(20)} cells.` : "";
 }
 
@@ -566,6 +640,8 @@ async function step() {
     if (of !== shown || of.text !== text) {
       return false;
     }
+    const { summary, tree } = shown;
+    keepBefore({ text, summary, tree });
     Object.assign(shown, found, { rle: null });
     showPattern(false);
     say("");
@@ -573,10 +649,29 @@ async function step() {
   } catch (why) {
     if (why instanceof Failed) {
       const { refused, fault } = why;
-      const told = refused ? `There is no next generation: ${refused.told}. ${sentenceOf(refused.kind)}` : "";
-      say(told || `The library stopped (${fault}); it was loaded anew.`);
+      const reason = refused ? `There is no next generation: ${refused.reason}. ${sentenceOf(refused.kind)}` : "";
+      say(reason || `The library stopped (${fault}); it was loaded anew.`);
     }
     return false;
+  }
+}
+
+/** Keeps a generation for going back, and drops the oldest ones where they come to too much. */
+function keepBefore(generation) {
+  const { before } = shown;
+  before.push(generation);
+  let bytes = before.reduce((sum, it) => sum + it.text.length, 0);
+  while (before.length > MOST_BACK || (bytes > MOST_BACK_BYTES && before.length > 1)) {
+    bytes -= before.shift().text.length;
+  }
+}
+
+/** Shows the generation before, where it is kept. */
+function stepBack() {
+  running(false);
+  if (shown.before.length > 0) {
+    Object.assign(shown, shown.before.pop(), { rle: null });
+    showPattern(false);
   }
 }
 
@@ -598,14 +693,14 @@ async function run() {
     if (!(await step())) {
       break;
     }
-    await new Promise(resolve => setTimeout(resolve, Math.max(0, PACE - (performance.now() - begun))));
+    await new Promise(resolve => setTimeout(resolve, Math.max(0, Number($("speed").value) - (performance.now() - begun))));
   }
   running(false);
 }
 
 function back() {
   running(false);
-  Object.assign(shown, shown.first, { rle: null });
+  Object.assign(shown, shown.first, { before: [], rle: null });
   showPattern(false);
 }
 
@@ -625,10 +720,11 @@ function addListeners() {
     "open-folder": () => $("folder").click(),
     clear,
     stop,
-    nearer: () => picture.zoom(1),
-    farther: () => picture.zoom(-1),
-    whole: () => picture.whole(),
+    "zoom-in": () => picture.zoom(1),
+    "zoom-out": () => picture.zoom(-1),
+    fit: () => picture.fit(),
     plane: () => picture.plane(),
+    "step-back": stepBack,
     step: () => step(),
     run,
     back,

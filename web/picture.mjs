@@ -28,6 +28,35 @@ function ofHue(hue, light) {
   return pixelOf(channel(0), channel(8), channel(4));
 }
 
+/**
+ * The colours that a rule file gives its states below @COLORS, by their numbers, each as the number of a pixel: a line has a state and its colour, or
+ * the first and the last colour of a gradient over the states that aren't 0. There are none without that section.
+ */
+export function coloursOfRule(bytes) {
+  const lines = new TextDecoder("latin1").decode(bytes).split(/\r\n|\r|\n/);
+  const colours = new Map();
+  const count = Number(/^(?:n_states|num_states)[ \t]*[:=][ \t]*(\d+)/m.exec(lines.join("\n"))?.[1] ?? 256);
+  const isColour = channel => channel >= 0 && channel <= 255;
+  let isIn = false;
+  for (const line of lines) {
+    if (line.startsWith("@")) {
+      isIn = line.startsWith("@COLORS");
+    } else if (isIn) {
+      const found = /^\s*(\d+(?:\s+\d+){3,5})(?!\S)/.exec(line)?.[1].trim().split(/\s+/).map(Number) ?? [];
+      const [state, ...channels] = found;
+      if (found.length === 6 && found.every(isColour)) {
+        for (let it = 1; it < count && it < 256; it++) {
+          const share = count > 2 ? (it - 1) / (count - 2) : 0;
+          colours.set(it, pixelOf(...[0, 1, 2].map(at => found[at] + (found[at + 3] - found[at]) * share)));
+        }
+      } else if (found.length >= 4 && state < 256 && channels.slice(0, 3).every(isColour)) {
+        colours.set(state, pixelOf(...channels.slice(0, 3)));
+      }
+    }
+  }
+  return colours;
+}
+
 const floorTo = (value, k) => (k > 0 ? value >> BigInt(k) : value);
 
 export class Picture {
@@ -36,6 +65,7 @@ export class Picture {
   #box = null;
   #isAsked = false;
   #colours;
+  #ofRule = new Map();
   #dots = document.createElement("canvas");
   #pointers = new Map();
   #spread = 0;
@@ -72,18 +102,20 @@ export class Picture {
     canvas.addEventListener("keydown", event => this.#key(event));
   }
 
-  /** Shows a tree, with the least box of its cells. The place stays, unless the pattern is a new one. */
-  show(tree, box, isNew) {
+  /** Shows a tree, with the least box of its cells. The place stays, unless the pattern is a new one. `ofRule` has the colours of its rule. */
+  show(tree, box, isNew, ofRule = new Map()) {
     this.#tree = tree;
     this.#box = box;
+    this.#ofRule = ofRule;
+    this.#readColours();
     if (isNew) {
-      this.whole();
+      this.fit();
     }
     this.ask();
   }
 
   /** Shows the whole pattern. */
-  whole() {
+  fit() {
     const { left, top, width, height } = this.#box ?? { left: -8n, top: -8n, width: 16n, height: 16n };
     this.#x = left + width / 2n;
     this.#y = top + height / 2n;
@@ -207,7 +239,7 @@ export class Picture {
       "+": () => this.zoom(1),
       "=": () => this.zoom(1),
       "-": () => this.zoom(-1),
-      0: () => this.whole(),
+      0: () => this.fit(),
     };
     if (!event.ctrlKey && !event.metaKey && !event.altKey && Object.hasOwn(acts, event.key)) {
       event.preventDefault();
@@ -221,10 +253,15 @@ export class Picture {
     const style = getComputedStyle(document.documentElement);
     const [sky, cell, line] = ["--sky", "--cell", "--line"].map(it => channels(style.getPropertyValue(it).trim()));
     const isDark = sky[0] < 128;
-    const mixed = share => pixelOf(...sky.map((it, index) => it + (cell[index] - it) * share));
+    const channelsOf = pixel => [pixel & 255, (pixel >>> 8) & 255, (pixel >>> 16) & 255];
+    const mixed = share => {
+      const [none, one] = [channelsOf(states[0]), channelsOf(states[1])];
+      return pixelOf(...none.map((it, index) => it + (one[index] - it) * share));
+    };
     const states = new Uint32Array(256);
     for (let state = 0; state < 256; state++) {
-      states[state] = state === 0 ? pixelOf(...sky) : state === 1 ? pixelOf(...cell) : ofHue((state * 137.5) % 360, isDark ? 0.62 : 0.42);
+      const own = state === 0 ? pixelOf(...sky) : state === 1 ? pixelOf(...cell) : ofHue((state * 137.5) % 360, isDark ? 0.62 : 0.42);
+      states[state] = this.#ofRule.get(state) ?? own;
     }
     const shades = Uint32Array.from({ length: SHADES }, (_, index) => (index === 0 ? states[0] : mixed(0.5 + (0.5 * index) / (SHADES - 1))));
     this.#colours = { states, shades, line: `rgb(${line.join(" ")} / 60%)` };

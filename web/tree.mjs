@@ -17,7 +17,7 @@ function ones(bits) {
 
 /**
  * Reads a canonical text. Node n, from 1, has level `levels[n]` and the population `populations[n]`. Its quarters are `parts[4 * n]` and the three
- * behind it: node numbers, 0 for a blank one, at level 1 states. A leaf, of level 3 where `hasLeaves`, has its rows there, a byte each from the lowest:
+ * after it: node numbers, 0 for a blank one, at level 1 states. A leaf, of level 3 where `hasLeaves`, has its rows there, a byte each from the lowest:
  * bit x is the cell of column x. The root is the last node.
  */
 export function treeOf(text) {
@@ -115,7 +115,7 @@ export function drawTree(tree, dots, columns, left, top, k, colours) {
             put(x + column, y + row, states[1]);
           }
         } else {
-          // The rows of a dot stand a byte apart in one number.
+          // The rows of a dot are a byte apart in one number.
           const live = ones((bits >>> column) & (size === 2 ? 0x0303 : 0x0f0f0f0f));
           if (live > 0) {
             put(x + (column >> k), y + (row >> k), shade(live / (size * size)));
@@ -174,7 +174,7 @@ export function drawTree(tree, dots, columns, left, top, k, colours) {
     drawWide(root, -half - left, -half - top);
     return;
   }
-  // The root lies about the corner of four dots.
+  // The middle of the root is the corner of four dots.
   for (let part = 0; part < 4; part++) {
     const next = parts[4 * root + part];
     let live = level === 1 ? (next > 0 ? 1 : 0) : populations[next];

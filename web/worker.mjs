@@ -2,7 +2,7 @@
 
 import { FORMS, Refused, load } from "./golly_canon.mjs";
 import { sha256 } from "./sha256.mjs";
-import { Unreadable, checkSource, chunksOfSource, lineOf } from "./source.mjs";
+import { Watch, Unreadable, checkSource, chunksOfSource, lineOf } from "./source.mjs";
 import { treeOf } from "./tree.mjs";
 
 /** The most different squares: a store of so many takes some 2.5 GB. */
@@ -14,9 +14,9 @@ let golly = null;
 /** The text of the file that was read last, where its other keys are lacking. */
 let last = null;
 
-/** The keys of a pattern in the other forms, but for those that take too much. */
+/** The keys of a pattern in the other forms, and of those that it has not the kind of fault that says why. */
 function otherKeys(text) {
-  const keys = {};
+  const [keys, lacking] = [{}, {}];
   for (const form of FORMS.slice(1)) {
     try {
       keys[form] = sha256(golly.canon(text, { form, limit: LIMIT }));
@@ -24,9 +24,20 @@ function otherKeys(text) {
       if (!(why instanceof Refused)) {
         throw why;
       }
+      lacking[form] = why.kind;
     }
   }
-  return keys;
+  return { keys, lacking };
+}
+
+/** Why a pattern of too many cells has no other keys. */
+const TOO_MANY = Object.fromEntries(FORMS.slice(1).map(form => [form, "TooManyCells"]));
+
+/** The chunks of a file, which `watch` sees too. */
+async function* watched(chunks, watch) {
+  for await (const chunk of chunks) {
+    yield watch.take(chunk);
+  }
 }
 
 /** A canonical text, with what there is to see of it. */
@@ -43,9 +54,10 @@ const acts = {
 
   /** Reads a file: its summary and its keys, or where it is to be shown its key as it is placed, its text and its tree. */
   async read({ source, isShown }, tell) {
+    const watch = new Watch();
     let text;
     try {
-      text = await golly.read(chunksOfSource(source, tell), { limit: LIMIT });
+      text = await golly.read(watched(chunksOfSource(source, tell), watch), { limit: LIMIT });
     } catch (why) {
       if (why instanceof Refused) {
         await checkSource(source); // a file that is damaged is no file that is refused
@@ -56,7 +68,9 @@ const acts = {
     const found = isShown ? opened(text) : { summary: golly.show(text, { limit: LIMIT }) };
     const hasForms = found.summary.population <= MOST_CELLS;
     last = isShown && hasForms ? text.slice() : null;
-    return { ...found, keys: { placed: sha256(text), ...(hasForms && !isShown ? otherKeys(text) : {}) }, lacksKeys: last !== null };
+    const others = !hasForms ? { keys: {}, lacking: TOO_MANY } : isShown ? { keys: {}, lacking: {} } : otherKeys(text);
+    const keys = { placed: sha256(text), ...others.keys };
+    return { ...found, keys, lacking: others.lacking, warning: watch.warning, lacksKeys: last !== null };
   },
 
   /** The other keys of the file that was read last, so that it is shown before they are there. */
@@ -76,7 +90,7 @@ const acts = {
 /** What the page is told of an error. */
 function toldOf(why) {
   if (why instanceof Refused) {
-    return { refused: { told: why.message, kind: why.kind, line: why.line, inTable: why.inTable, found: why.found ?? "" } };
+    return { refused: { reason: why.message, kind: why.kind, line: why.line, inTable: why.inTable, found: why.found ?? "" } };
   }
   if (why instanceof Unreadable) {
     return { unreadable: why.message };

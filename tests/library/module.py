@@ -8,6 +8,7 @@ import doctest
 import hashlib
 import io
 import os
+import pathlib
 import random
 import re
 import subprocess
@@ -15,11 +16,12 @@ import sys
 import tempfile
 import textwrap
 import threading
+import warnings
 
 sys.path.insert(0, os.path.dirname(os.path.dirname(os.path.abspath(__file__))))
 
 import golly_canon  # noqa: E402
-from golly_canon import Box, Refused, Shown, Stream  # noqa: E402
+from golly_canon import Box, PatternWarning, Refused, Shown, Stream  # noqa: E402
 from independent.fuzz import random_files  # noqa: E402
 from shared import processes  # noqa: E402
 from shared.counting import check, ended  # noqa: E402
@@ -29,6 +31,7 @@ PAGE = os.path.join(os.path.dirname(os.path.abspath(__file__)), "../../docs/LIBR
 RANDOM_FILES = 200
 GLIDER = b"x = 3, y = 3, rule = 23/3\nbo$2bo$3o!\n"
 GLIDER_TEXT = LIFE + b"$$$$.....*$......*$....***$$\n"
+GLIDER_KEY = "6d49a09978fd167769af106a97e3186cee07cf07e2e4481424797f7ae40b5459"  # by sha256sum
 ELSEWHERE = b"#CXRLE Pos=-12345,777\n" + GLIDER
 # The glider, turned: of its eight images the one whose first row ends behind one cell.
 TURNED_TEXT = LIFE + b"$$$$....*$....*.*$....**$$\n"
@@ -80,7 +83,30 @@ def twice():
 def refused_again():
     """A stream that has refused tells the same again."""
     with Stream() as it:
-        return outcome_of(it.feed, CHILD), outcome_of(it.feed, b"$\n"), outcome_of(it.finish)
+        return outcome_of(it.feed, CHILD), outcome_of(it.feed, b"$\n"), outcome_of(it.finish), outcome_of(it.finish_key)
+
+
+def keyed(chunks, gives="canon", form="placed"):
+    """The key that a stream gives, which is fed one chunk after another; then its text, and the key again, which is the digest of the text; and that it
+    takes no chunk then."""
+    with Stream(gives, form=form) as it:
+        for chunk in chunks:
+            it.feed(chunk)
+        first, text = it.finish_key(), it.finish()
+        return first.hex(), first == it.finish_key() == hashlib.sha256(text).digest(), outcome_of(it.feed, b"x")
+
+
+def key_after_closing():
+    it = Stream()
+    it.close()
+    return it.finish_key()
+
+
+def sentence_of_refusal():
+    try:
+        golly_canon.canon(CHILD)
+    except Refused as why:
+        return why.sentence
 
 
 NO_CHILD = ("BadChild", 4, False, "line 4: BadChild")
@@ -99,6 +125,20 @@ ROWS = [
     ("key", outcome_of(golly_canon.key, GLIDER), hashlib.sha256(GLIDER_TEXT).digest()),
     ("key, moved", outcome_of(golly_canon.key, ELSEWHERE, "moved"), hashlib.sha256(GLIDER_TEXT).digest()),
     ("key, turned", outcome_of(golly_canon.key, bytearray(MIRRORED), form="turned"), hashlib.sha256(TURNED_TEXT).digest()),
+    ("the key of a stream of bytes", outcome_of(keyed, (GLIDER[at:at + 1] for at in range(len(GLIDER)))), (GLIDER_KEY, True, SPENT)),
+    ("the key of a moved stream", outcome_of(keyed, [ELSEWHERE[:9], ELSEWHERE[9:]], form="moved"), (GLIDER_KEY, True, SPENT)),
+    ("the key of a stream to RLE", outcome_of(keyed, [FILES["pair.mc"]], "to_rle"), (hashlib.sha256(PAIR_RLE).hexdigest(), True, SPENT)),
+    ("the key of an open file", outcome_of(golly_canon.stream_key, io.BytesIO(ELSEWHERE), "moved"), bytes.fromhex(GLIDER_KEY)),
+    ("the key of chunks, turned", outcome_of(golly_canon.stream_key, [MIRRORED, b""], form="turned"), hashlib.sha256(TURNED_TEXT).digest()),
+    ("the key of chunks that are refused", outcome_of(golly_canon.stream_key, [CHILD]), NO_CHILD),
+    ("the key of chunks, too many cells", outcome_of(golly_canon.stream_key, [FILES["many.rle"]], "moved"), ("TooManyCells", None, False, "TooManyCells")),
+    ("the key of chunks, a limit of 0", outcome_of(golly_canon.stream_key, [GLIDER], limit=0), ("Full", None, False, "Full")),
+    ("the key of chunks in another form", outcome_of(golly_canon.stream_key, [GLIDER], "shifted"), "ValueError"),
+    ("the key of a closed stream", outcome_of(key_after_closing), SPENT),
+    ("the sentence of a refusal", sentence_of_refusal(), "A child number doesn't refer to an earlier square one level down."),
+    ("the sentence of a kind", outcome_of(golly_canon.sentence_of, "ZeroCount"), "A count is 0."),
+    ("the sentence of no kind", outcome_of(golly_canon.sentence_of, "zero"), "ValueError"),
+    ("the sentence of no name", outcome_of(golly_canon.sentence_of, ""), "ValueError"),
     ("to_rle", outcome_of(golly_canon.to_rle, FILES["pair.mc"]), PAIR_RLE),
     ("show", outcome_of(golly_canon.show, FILES["pair.rle"]), Shown("B3/S23", 0, 2, Box(-4, 0, 9, 1), 2)),
     ("show of a blank plane", outcome_of(golly_canon.show, FILES["input"]), Shown("B3/S23", 0, 0, None, 0)),
@@ -143,7 +183,7 @@ ROWS = [
     ("a refused table", outcome_of(golly_canon.step, GLIDER, FILES["bad.rule"]), ("NoTable", 2, True, "table line 2: NoTable")),
     ("a refused file behind a table", outcome_of(golly_canon.step, CHILD, FILES["spread.rule"]), NO_CHILD),
     ("two states for a cell", outcome_of(golly_canon.step, FILES["two.rle"], FILES["two.rule"]), ("Ambiguous", 8, True, "table line 8: Ambiguous")),
-    ("a stream that refuses", outcome_of(refused_again), (NO_CHILD,) * 3),
+    ("a stream that refuses", outcome_of(refused_again), (NO_CHILD,) * 4),
     ("an open file that is refused", outcome_of(golly_canon.stream, io.BytesIO(CHILD)), NO_CHILD),
     ("a limit of 0", outcome_of(golly_canon.canon, GLIDER, limit=0), ("Full", None, False, "Full")),
     ("a limit below 0", outcome_of(golly_canon.canon, GLIDER, limit=-1), "ValueError"),
@@ -214,7 +254,73 @@ def names_of_page():
             it.write(GLIDER)
         names = {}
         exec(textwrap.dedent(example).replace('open("glider.rle", "rb").read()', f"open({path!r}, 'rb').read()"), names)
-    return names["text"], names["population"], names["is_double"], names["key"]
+    return names["text"], names["population"], names["is_duplicate"], names["key"]
+
+
+# Macrocell files that seem to have lost their line ends: all of them, those of the first line, and the squares; and files that have not.
+LOST = b"[M2] (golly 4.2)\r#R B3/S23\r$$..*$...*$.***$\r"
+SOME_LOST = b"[M2]\r#R B3/S23\n$$..*$\n"
+NO_SQUARES = b"[M2] (golly 4.2)\n#R B3/S23\n\n#C none\r\n  \n"
+COMMENTED = [b"[M2] (golly 4.2)\n#RB36/S23\n$$..*$\n", b"[M2]\n#C a\n#G7\r\n#R B3/S23\n$$..*$\n", b"[M2]\n#R23/3\n#C no squares\n"]
+WHOLE = [b"[M2]\n#Reflector\n#Generation\n#R B36/S23\n#G 7\n$$..*$\n", b"#CXRLE Gen=1\n#G7\nx = 1, y = 1\no!\n", GLIDER, FILES["pair.mc"], FILES["pair.mc"].replace(b"\n", b"\r\n"), b"[M2]\r\r\n$$..*$", b"[M2]\n\n \t$$..*$\n", b"x = 0, y = 0\n!\n"]
+
+
+def warned(call, *arguments):
+    """The warnings of a call, and whether they are issued for this file."""
+    with warnings.catch_warnings(record=True) as found:
+        warnings.simplefilter("always")
+        outcome_of(call, *arguments)
+    return [(it.category, str(it.message).split(":")[0].split(",")[0], os.path.basename(it.filename)) for it in found]
+
+
+def of_line_ends():
+    """Each call warns of a file that seems to have lost its line ends, or has a comment that Golly reads, and of no other, and answers what it would
+    without."""
+    own = os.path.basename(__file__)
+    told = "line 1 has a carriage return inside it", "the file has no line of squares", "a line such as `#RB36/S23` or `#G7`"
+    returned, squares, comment = [(PatternWarning, it, own) for it in told]
+    for name in ("canon", "key", "to_rle", "show", "step"):
+        call = getattr(golly_canon, name)
+        for data, wanted in ((LOST, returned), (SOME_LOST, returned), (NO_SQUARES, squares), *((it, comment) for it in COMMENTED)):
+            check(warned(call, data) == [wanted], f"{name} of {data!r} warns: {warned(call, data)}")
+        check(not any(warned(call, it) for it in WHOLE), f"{name} doesn't warn of files with line ends")
+    check(warned(golly_canon.same, GLIDER, LOST) == warned(golly_canon.same, LOST, GLIDER) == [returned], "same warns of either file")
+    odd = [(LOST, returned), (SOME_LOST, returned), (NO_SQUARES, squares), *((it, comment) for it in COMMENTED)]
+    for data, wanted in [*((data, [wanted]) for data, wanted in odd), *((data, []) for data in WHOLE)]:
+        for size in (1, 3, 1000):
+            pieces = [data[at:at + size] for at in range(0, len(data), size)]
+            found, found_of_key = warned(golly_canon.stream, pieces), warned(golly_canon.stream_key, pieces)
+            check(found == found_of_key == wanted, f"a stream of {data!r} in pieces of {size} warns: {found}, {found_of_key}")
+    check(warned(golly_canon.canon, CHILD) == [], "a file that is refused has no warning")
+    check(golly_canon.canon(LOST.split(b"\r")[0]) == LIFE, "what is read of it is the blank pattern")
+    check(golly_canon.warning_of(GLIDER) is None and "line ends" in golly_canon.warning_of(bytearray(LOST)), "the warning of a file")
+
+
+def of_keys(program):
+    """The keys of files by their paths, beside those that the program writes, and why a file has none."""
+    files = {"a glider.rle": GLIDER, "-x": MIRRORED, "two\nlines": ELSEWHERE, "refused.mc": CHILD, "lost.mc": LOST, "pair.mc": FILES["pair.mc"], "empty": b""}
+    with tempfile.TemporaryDirectory() as folder:
+        for name, data in files.items():
+            with open(os.path.join(folder, name), "wb") as it:
+                it.write(data)
+        paths = [os.path.join(folder, it) for it in files]
+        paths += [os.path.join(folder, "absent"), folder, pathlib.Path(paths[0]), os.fsencode(paths[0])]
+        for form in ("placed", "moved", "turned"):
+            with warnings.catch_warnings(record=True) as issued:
+                warnings.simplefilter("always")
+                found = list(golly_canon.keys(iter(paths), form))
+            words = ["keys", "--zero", "--form", form, "--", *paths[:len(files)]]
+            wanted = {name[66:]: bytes.fromhex(name[:64].decode()) for name in processes.run([program, *words]).output.split(b"\0") if name}
+            check([it.path for it in found] == paths and not issued, f"each path in its order, {form}")
+            of_program = {os.fsencode(it.path): it.key for it in found[:len(files)] if it.key}
+            check(of_program == wanted and len(wanted) == 5, f"the keys of the program, {form}: {found}")
+            whys = [it.why and (str(it.why) if isinstance(it.why, Refused) else type(it.why).__name__) for it in found]
+            check(whys == [None, None, None, "line 4: BadChild", None, None, "line 1: NoHeader", "FileNotFoundError", "IsADirectoryError", None, None],
+                  f"why a file has no key, {form}: {whys}")
+            check([it.warning is not None for it in found] == [it.path == paths[4] for it in found], f"the warning of a file, {form}")
+            check(all((it.key is None) != (it.why is None) for it in found) and found[-1].key == found[-2].key == found[0].key, f"a key or a reason, {form}")
+    check(outcome_of(golly_canon.keys, ["absent"], "shifted") == "ValueError", "keys in another form")
+    check([it.why.kind for it in golly_canon.keys([__file__, __file__], limit=0)] == ["NoHeader", "NoHeader"], "keys within a limit")
 
 
 def without_library(path):
@@ -226,12 +332,15 @@ def without_library(path):
 
 def main(program):
     program = processes.program_of(program)
+    warnings.simplefilter("ignore", PatternWarning)  # but where they are looked for
     results = doctest.testmod(golly_canon)
     check(results.attempted == 4 and results.failed == 0, f"the example of the module: {results}")
     found = outcome_of(names_of_page)
     check(found == (GLIDER_TEXT, 5, True, hashlib.sha256(TURNED_TEXT).digest()), f"the example of docs/LIBRARY.md: {found}")
     for name, found, wanted in ROWS:
         check(found == wanted, f"{name}: {found!r} and not {wanted!r}")
+    of_line_ends()
+    of_keys(program)
     wrong = [number for number in range(RANDOM_FILES) if not as_the_program(program, *random_triple(number))]
     check(not wrong, f"{RANDOM_FILES} random files as the program has them: {wrong[:5]}")
     version = processes.run([program, "--version"]).output.decode().split()[-1]

@@ -1,4 +1,5 @@
-"""A headless Chromium, driven by chromedriver in the words of the WebDriver protocol, and a headless Firefox, in its own words for the same, Marionette.
+"""A headless Chromium and WebKit (the engine of Safari), driven by their drivers in the words of the WebDriver protocol; a headless Firefox, in its own
+words for the same, Marionette; and Node, which runs the scripts of tests too, but has no page.
 
 Each has a new profile and ports that the system gave it, and with it ends all that it started. A browser that doesn't come up or that dies lies with the
 machine, and not with the page: it is started again, three times in all, and a line says so."""
@@ -6,6 +7,7 @@ machine, and not with the page: it is started again, three times in all, and a l
 import base64
 import contextlib
 import functools
+import glob
 import http.client
 import http.server
 import json
@@ -24,7 +26,9 @@ import urllib.request
 
 from shared import counting
 
-CHROMIUM, DRIVER, FIREFOX = "chromium", "chromedriver", "firefox-esr"
+CHROMIUM, DRIVER, FIREFOX, NODE = "chromium", "chromedriver", "firefox-esr", "node"
+# WebKit needs a display, which Xvfb is. Its browser isn't on the PATH.
+WEBKIT_DRIVER, XVFB, WEBKIT = "WebKitWebDriver", "Xvfb", "/usr/lib/*/webkit2gtk-4.*/MiniBrowser"
 ELEMENT = "element-6066-11e4-a52e-4f735466cecf"
 # The most seconds of a script, of a condition that is waited for, until a browser is up, and until it has ended.
 SECONDS, PATIENCE, STARTING, ENDING = 600, 120, 120, 30
@@ -39,6 +43,11 @@ DIRECT = urllib.request.build_opener(urllib.request.ProxyHandler({}))
 def is_there():
     """Whether both are installed."""
     return bool(shutil.which(CHROMIUM) and shutil.which(DRIVER))
+
+
+def has_webkit():
+    """Whether WebKit's browser, its driver and a display for it are installed."""
+    return bool(glob.glob(WEBKIT) and shutil.which(WEBKIT_DRIVER) and shutil.which(XVFB))
 
 
 class Failed(Exception):
@@ -70,10 +79,10 @@ def tested(name, start, tests):
 # ---- the processes of a browser
 
 
-def started(words, home):
+def started(words, home, name="said", **more):
     """Starts a process in a session of its own, whose home is a folder, and whose output goes into the file `said` there."""
-    environment = {**os.environ, "HOME": home, "TMPDIR": home}
-    with open(os.path.join(home, "said"), "wb") as said:
+    environment = {**os.environ, "HOME": home, "TMPDIR": home, **more}
+    with open(os.path.join(home, name), "wb") as said:
         return subprocess.Popen(words, stdin=subprocess.DEVNULL, stdout=said, stderr=subprocess.STDOUT, env=environment, start_new_session=True)
 
 
@@ -117,12 +126,29 @@ def awaited(what, process, found):
     raise Died(f"{what} is not up" if process.poll() is None else f"{what} has ended with status {process.returncode}")
 
 
-def number_in(path, pattern):
-    """The number behind a pattern in a file, which may not be there yet."""
+def text_in(path):
+    """The text of a file, which may not be there yet."""
     with contextlib.suppress(OSError):
         with open(path, encoding="utf-8", errors="replace") as it:
-            found = re.search(pattern, it.read())
-            return found and int(found[1])
+            return it.read()
+    return ""
+
+
+def number_in(path, pattern):
+    """The number behind a pattern in a file, which may not be there yet."""
+    found = re.search(pattern, text_in(path))
+    return found and int(found[1])
+
+
+def port_of(process):
+    """The port at which a process listens, if it does yet."""
+    with contextlib.suppress(OSError):
+        folder = f"/proc/{process.pid}/fd"
+        sockets = {os.readlink(os.path.join(folder, it)) for it in os.listdir(folder)}
+        with open(f"/proc/{process.pid}/net/tcp", encoding="ascii") as it:
+            for words in map(str.split, it.readlines()[1:]):
+                if words[3] == "0A" and f"socket:[{words[9]}]" in sockets:  # the state of a socket that listens
+                    return int(words[1].split(":")[1], 16)
     return None
 
 
@@ -192,22 +218,13 @@ class Scripted:
         self.close()
 
 
-class Browser(Scripted):
-    """A window of Chromium, of this many pixels."""
+class Driven(Scripted):
+    """A window that is driven in the words of the WebDriver protocol."""
 
-    def __init__(self, width=1200, height=900):
-        self.size = f"{width},{height}"
-        super().__init__()
+    address = None
 
-    def start(self):
-        self.address = None
-        self.process = started([DRIVER, "--port=0"], self.profile.name)
-        said = os.path.join(self.profile.name, "said")
-        port = awaited(DRIVER, self.process, lambda: number_in(said, r"successfully on port (\d+)"))
-        words = ["--headless=new", "--no-sandbox", "--disable-gpu", "--hide-scrollbars", f"--window-size={self.size}",
-                 f"--user-data-dir={self.profile.name}/profile", "--disable-background-networking", "--disable-dev-shm-usage", "--no-first-run"]
-        options = {"args": words, "binary": shutil.which(CHROMIUM)}
-        wanted = {"goog:chromeOptions": options, "goog:loggingPrefs": {"browser": "ALL", "performance": "ALL"}}
+    def connect(self, port, wanted):
+        """Opens a window by the driver at a port."""
         sessions = f"http://127.0.0.1:{port}/session"
         self.address = f"{sessions}/{self.answer(sessions, 'POST', {'capabilities': {'alwaysMatch': wanted}}, STARTING)['sessionId']}"
         self.asked("POST", "/timeouts", {"script": SECONDS * 1000})
@@ -229,7 +246,7 @@ class Browser(Scripted):
             said = value["message"].split("\n", maxsplit=1)[0]
             raise (Died if DEATH.search(f"{value['error']} {said}") else Failed)(said) from None
         except (OSError, http.client.HTTPException, ValueError) as why:
-            raise Died(f"{DRIVER} does not answer: {why!r}") from None
+            raise Died(f"the driver does not answer: {why!r}") from None
 
     def asked(self, method, path, body=None):
         """What the driver answers to a command to the window."""
@@ -245,6 +262,24 @@ class Browser(Scripted):
         """Hands files to an input of the page, as its dialog does."""
         found = self.asked("POST", "/element", {"using": "css selector", "value": f"#{name}"})[ELEMENT]
         self.asked("POST", f"/element/{found}/value", {"text": "\n".join(paths)})
+
+
+class Browser(Driven):
+    """A window of Chromium, of this many pixels."""
+
+    def __init__(self, width=1200, height=900):
+        self.size = f"{width},{height}"
+        super().__init__()
+
+    def start(self):
+        self.address = None
+        self.process = started([DRIVER, "--port=0"], self.profile.name)
+        said = os.path.join(self.profile.name, "said")
+        port = awaited(DRIVER, self.process, lambda: number_in(said, r"successfully on port (\d+)"))
+        words = ["--headless=new", "--no-sandbox", "--disable-gpu", "--hide-scrollbars", f"--window-size={self.size}",
+                 f"--user-data-dir={self.profile.name}/profile", "--disable-background-networking", "--disable-dev-shm-usage", "--no-first-run"]
+        options = {"args": words, "binary": shutil.which(CHROMIUM)}
+        self.connect(port, {"goog:chromeOptions": options, "goog:loggingPrefs": {"browser": "ALL", "performance": "ALL"}})
 
     def command(self, name, **parameters):
         """A command of the browser's own protocol."""
@@ -329,6 +364,55 @@ class Firefox(Scripted):
 
     def evaluated(self, body, arguments):
         return self.asked("WebDriver:ExecuteAsyncScript", {"script": body, "args": arguments})["value"]
+
+
+class WebKit(Driven):
+    """A window of WebKit, on a display that is seen nowhere."""
+
+    def start(self):
+        self.address = None
+        home = self.profile.name
+        # What ends the driver ends the display too, whose home is the same (see `end`).
+        display = started([XVFB, "-displayfd", "1", "-screen", "0", "1200x900x24"], home, "display")
+        number = awaited(XVFB, display, lambda: re.search(r"(?m)^\d+$", text_in(os.path.join(home, "display"))))
+        self.process = started([WEBKIT_DRIVER, "--port=0"], home, DISPLAY=f":{number[0]}")
+        port = awaited(WEBKIT_DRIVER, self.process, lambda: port_of(self.process))
+        self.connect(port, {"webkitgtk:browserOptions": {"binary": glob.glob(WEBKIT)[-1], "args": ["--automation"]}})
+
+
+# Runs each script that comes in a line, and writes its value in a line.
+IN_NODE = """
+Object.assign(globalThis, { window: globalThis, require });
+require("readline").createInterface({ input: process.stdin }).on("line", line => {
+  const [body, given] = JSON.parse(line);
+  new Function(body)(...given, value => process.stdout.write(JSON.stringify(value) + "\\n"));
+});
+"""
+
+
+class Node(Scripted):
+    """Node, which runs the scripts of a window without a page."""
+
+    def start(self):
+        with open(os.path.join(self.profile.name, "scripts.cjs"), "w", encoding="ascii") as it:
+            it.write(IN_NODE)
+        self.process = subprocess.Popen([NODE, it.name], stdin=subprocess.PIPE, stdout=subprocess.PIPE, text=True, start_new_session=True,
+                                        env={**os.environ, "HOME": self.profile.name})
+
+    def stop(self):
+        self.process.stdin.close()
+        self.process.stdout.close()
+
+    def open(self, address):
+        pass
+
+    def evaluated(self, body, arguments):
+        try:
+            self.process.stdin.write(json.dumps([body, arguments]) + "\n")
+            self.process.stdin.flush()
+            return json.loads(self.process.stdout.readline())
+        except (OSError, ValueError) as why:
+            raise Died(f"{NODE} does not answer: {why!r}") from None
 
 
 class Server:

@@ -1,4 +1,4 @@
-"""What the module answers in a browser: the same as the program, byte by byte."""
+"""What the module answers in a browser, and in Node: the same as the program, byte by byte."""
 
 import base64
 import contextlib
@@ -88,8 +88,8 @@ def cases_of(seed, count):
 def opened(browser, address, where):
     """A page with the module, and `golly` in it or in its worker, behind the function `asked`."""
     browser.open(f"{address}/blank.html")
-    if where == "page":
-        browser.run(f"""const it = await import("{address}/golly_canon.mjs"); const Refused = it.Refused; {ANSWERING}
+    if where in ("page", "Node"):
+        browser.run(f"""const it = await import("{address}/{'node' if where == 'Node' else 'golly_canon'}.mjs"); const Refused = it.Refused; {ANSWERING}
             const golly = await it.load(); window.golly = golly; window.asked = async cases => cases.map(one => answersOf(golly, one));""")
     else:
         program = f"""import {{ load, Refused }} from "{address}/golly_canon.mjs"; {ANSWERING}
@@ -105,13 +105,14 @@ def opened(browser, address, where):
                     program)
 
 
-def compares(browser, address, path, seed, count, least=20):
-    """The page and a worker answer what the program answers: of half of the files each."""
+def compares(browser, address, path, seed, count, least=20, places=("page", "worker")):
+    """The page and a worker, or what is named instead, answer what the program answers: each of its share of the files."""
     cases = list(cases_of(seed, count))
     kinds, answers = set(), 0
     with tempfile.TemporaryDirectory() as folder, contextlib.chdir(folder):
         program = Program(path)
-        for where, some in (("page", cases[::2]), ("worker", cases[1::2])):
+        for index, where in enumerate(places):
+            some = cases[index::len(places)]
             opened(browser, address, where)
             problems, texts = [], set()
             for at in range(0, len(some), BATCH):
@@ -124,9 +125,28 @@ def compares(browser, address, path, seed, count, least=20):
                     problems += [f"{case.name}: {name} is {found.get(name)!r:.200} and not {wanted[name]!r:.200}" for name in wanted
                                  if found.get(name) != wanted[name]]
             problems += [] if len(texts) > len(some) / 3 else [f"there are only {len(texts)} different answers"]
-            counting.row(f"{len(some)} files in a {where} are answered as by the program", problems)
+            counting.row(f"{len(some)} files in {where if where == 'Node' else 'a ' + where} are answered as by the program", problems)
     print(f"{answers} answers, {len(kinds)} kinds of refusal: {' '.join(sorted(kinds))}", flush=True)
     counting.check(len(kinds) >= least, f"only {len(kinds)} kinds of refusal came up")
+
+
+# What a call says of an argument that it can't take: its name, what it has to be, and what it is.
+FILE = "is a file: bytes (an ArrayBuffer or a view of one) or a string, and not"
+ERRORS = {
+    "memory": ("await (await import(`${location.origin}/golly_canon.mjs`)).load(undefined, { memory: 1e6 })",
+               "RangeError: memory is a number of bytes, 2097152 or more, and not 1000000"),
+    "memory, a text": ("await (await import(`${location.origin}/golly_canon.mjs`)).load(undefined, { memory: '4 GB' })",
+                       "TypeError: memory is a number of bytes, and not string"),
+    "data": ("golly.canon(7)", f"TypeError: data {FILE} 7"),
+    "first": ("golly.same(null, '')", f"TypeError: first {FILE} null"),
+    "second": ("golly.same('', undefined)", f"TypeError: second {FILE} undefined"),
+    "table": ("golly.step('', { table: 7 })", f"TypeError: table {FILE} 7"),
+    "chunk": ("golly.stream().feed({})", f"TypeError: chunk {FILE} object"),
+    "source": ("await golly.read(7)", "TypeError: source is a stream, a blob, a response, bytes, a string or chunks, and not 7"),
+    "limit": ("golly.canon('', { limit: 1.5 })", "RangeError: limit is a whole number of squares, 0 or more, and not 1.5"),
+    "limit, below 0": ("golly.key('', { limit: -1n })", "RangeError: limit is a whole number of squares, 0 or more, and not -1"),
+    "limit, a text": ("golly.key('', { limit: 'all' })", "TypeError: limit is a number of squares, and not string"),
+}
 
 
 def calls(browser, address):
@@ -142,33 +162,53 @@ def calls(browser, address):
         "a response that is compiled": (f"const it = await import('{address}/golly_canon.mjs'); "
                                         f"return text((await it.load(fetch('{address}/golly_canon.wasm'))).canon(given[0]));", None),
         "a buffer of an array": ("return text(golly.canon(new TextEncoder().encode('x' + given[0]).subarray(1)));", None),
-        "no memory of 64 bits": (f"const it = await import('{address}/golly_canon.mjs'); const real = WebAssembly.validate; "
-                                 "WebAssembly.validate = () => false; "
-                                 "try { await it.load(); } catch (why) { return why.message.split(':')[0]; } "
-                                 "finally { WebAssembly.validate = real; }", "this browser has no WebAssembly memory of 64 bits"),
+        "what the module needs is there": (f"return (await import('{address}/golly_canon.mjs')).isSupported();", True),
+        "what the module needs is lacking": (f"const it = await import('{address}/golly_canon.mjs'); const real = WebAssembly.Module; "
+                                             "WebAssembly.Module = function () { throw new WebAssembly.CompileError(); }; "
+                                             "try { await it.load(); } catch (why) { return why.message.split(':')[0]; } "
+                                             "finally { WebAssembly.Module = real; }", "the library can't run here"),
         "a module that isn't there": (f"try {{ await (await import('{address}/golly_canon.mjs')).load('{address}/no.wasm'); }} "
                                       "catch (why) { return why.message.split('/').at(-1); }", "no.wasm can't be read: 404"),
         "what is no file": ("try { golly.canon(7); } catch (why) { return why.constructor.name; }", "TypeError"),
         "what is no form": ("try { golly.canon(given[0], { form: 'here' }); } catch (why) { return why.constructor.name; }", "RangeError"),
+        **{f"an error names its argument: {name}": (f"try {{ {script}; }} catch (why) {{ return `${{why.name}}: ${{why.message}}`; }}", wanted)
+           for name, (script, wanted) in ERRORS.items()},
         "a closed stream": ("const it = golly.stream(); it.close(); it.close(); "
                             "try { it.feed(given[0]); } catch (why) { return why.message; }", "Spent"),
         "a text that is asked for twice": ("const it = golly.stream(); it.feed(given[0]); it.finish(); const found = it.finish(); it.close(); "
                                            "return text(found);", None),
-        "progress": ("let last; await golly.read(new Blob([given[0]]), { onProgress: it => last = it }); return last;", None),
+        "the key of chunks": ("return hex(await golly.readKey([given[0].slice(0, 5), given[0].slice(5)]));", "key"),
+        "the key of a blob, moved": ("return hex(await golly.readKey(new Blob([given[0]]), { form: 'moved' })) === "
+                                     "hex(golly.key(given[0], { form: 'moved' }));", True),
+        "the key of what is refused": ("try { await golly.readKey(['x=1,y=1\\n', '0o!']); } catch (why) { return why.message; }", "line 2: ZeroCount"),
+        "a key within a limit": ("try { await golly.readKey(given[0], { limit: 1 }); } catch (why) { return why.message; }", "Full"),
+        "a key before the text and after it": ("const it = golly.stream(); it.feed(given[0]); const key = hex(it.finishKey()); it.finish(); "
+                                               "const found = hex(it.finishKey()) === key; try { it.feed('x'); } catch (why) { it.close(); "
+                                               "return found ? `${key} ${why.message}` : found; }", "key Spent"),
+        "the key of a closed stream": ("const it = golly.stream(); it.close(); try { it.finishKey(); } catch (why) { return why.message; }", "Spent"),
+        "a sentence": ("return golly.sentenceOf('BadChild');", "A child number doesn't refer to an earlier square one level down."),
+        "a sentence of no kind": ("return ['NoRoom', 'zero', ''].map(it => { try { return golly.sentenceOf(it); } "
+                                  "catch (why) { return why.constructor.name; } }).join(' ');", "RangeError RangeError RangeError"),
+        "progress of a key": ("let last; await golly.readKey(new Blob([given[0]]), { onProgress: it => last = it }); return last;", "length"),
+        "progress": ("let last; await golly.read(new Blob([given[0]]), { onProgress: it => last = it }); return last;", "length"),
     }
     glider = fixtures.FILES["line.rle"].decode()
     text = commands.canon(commands.File(glider.encode())).output.decode()
+    key = hashlib.sha256(text.encode()).hexdigest()
+    known = {None: text, "key": key, "key Spent": f"{key} Spent", "length": len(glider)}
+    given = "const text = it => new TextDecoder().decode(it); " \
+            "const hex = it => Array.from(it, byte => byte.toString(16).padStart(2, '0')).join(''); const golly = window.golly; "
     for name, (script, wanted) in rows.items():
-        wanted = {None: text}.get(wanted, wanted) if name != "progress" else len(glider)
-        found = browser.run("const text = it => new TextDecoder().decode(it); const golly = window.golly; " + script, glider)
+        wanted = known.get(wanted, wanted)
+        found = browser.run(given + script, glider)
         counting.row(name, [] if found == wanted else [f"{found!r} and not {wanted!r}"])
     forms(browser)
 
 
 def version():
-    """The version that the crate names."""
-    with open(os.path.join(TOP, "crates", "golly_canon_c", "src", "names.rt"), encoding="utf-8") as it:
-        return it.read().split('= b"')[1].split('"')[0]
+    """The version of this repository."""
+    with open(os.path.join(TOP, "VERSION"), encoding="ascii") as it:
+        return it.read().strip()
 
 
 # A glider, the same elsewhere, the same reflected, and another pattern.
@@ -194,6 +234,37 @@ def memory(browser, address):
     for name, (script, wanted) in rows.items():
         found = browser.run(small + "const golly_ = window.golly;" + soup + script)
         counting.row(name, [] if found == wanted else [f"{found!r} and not {wanted!r}"])
+
+
+# Takes blocks of memory from the module until there is none. Returns the bytes of memory then, and how many blocks of what length there were.
+TAKING = """const [address, most, lengths] = given;
+    const memory = new WebAssembly.Memory({ initial: 32, maximum: most });
+    const bytes = address.startsWith("file:") ? require("fs").readFileSync(new URL(address)) : await (await fetch(address)).arrayBuffer();
+    const { malloc, free } = (await WebAssembly.instantiate(bytes, { env: { memory } })).instance.exports;
+    const found = lengths.map(length => { let count = 0; while (malloc(BigInt(length)) !== 0n) count++; return count; });
+    const last = malloc(1n);
+    free(last);
+    return [memory.buffer.byteLength, found, last !== 0n && malloc(1n) === last];"""
+PAGE = 1 << 16
+# Lengths whose addresses have no place in 32 bits: the lower half of each number is a length that has.
+TOO_LONG = [str(it) for it in (2 ** 32 - 2 ** 20, 2 ** 32, 2 ** 32 + 1, 2 ** 32 + 2 ** 17, 2 ** 40, 2 ** 48 + 2 ** 16, 2 ** 63, 2 ** 64 - 1)]
+
+
+def heap(browser, wasm):
+    """The heap takes the memory that there may be, 1 MB at once, and refuses what is beyond it."""
+    size, counts, is_sound = browser.run(TAKING, wasm, 64, [str(PAGE)])
+    problems = [] if 48 * PAGE < size <= 64 * PAGE and is_sound and counts[0] * PAGE > size / 2 else [f"{counts} blocks in {size} bytes of memory"]
+    counting.row("the heap takes memory up to its maximum, and no more", problems)
+    size, counts, is_sound = browser.run(TAKING, wasm, 65536, TOO_LONG)
+    problems = [] if size <= 48 * PAGE and is_sound and set(counts) == {0} else [f"{counts} blocks in {size} bytes of memory"]
+    counting.row("the heap refuses lengths beyond 4 GB", problems)
+
+
+def whole_memory(browser, wasm):
+    """The heap fills 4 GB but for the length of the stack, which stays free so that a stack that overflows traps."""
+    size, counts, is_sound = browser.run(TAKING, wasm, 65536, [str(2 ** 30), str(2 ** 26), str(2 ** 20)])
+    problems = [] if 0 <= 2 ** 32 - 2 ** 20 - size < 2 ** 20 and is_sound and counts[0] == 3 else [f"{counts} blocks in {size} bytes of memory"]
+    counting.row("the heap takes 4 GB, but for the length of the stack", problems)
 
 
 def patched(wasm, stack):

@@ -10,6 +10,7 @@ import os
 import random
 import re
 import tempfile
+import time
 import zipfile
 
 import browser as browsers
@@ -21,6 +22,8 @@ MOVED = b"#CXRLE Pos=-70,5\nx = 3, y = 3\nbo$2bo$3o!\n"
 SPELLED = b"[M2] (golly 4.2)\n#R s23/b3\n.*$..*$***$\n4 0 0 0 1\n"
 TURNED = b"x = 3, y = 3\nbo$o$3o!\n"
 REFUSED = b"x = 3, y = 3\nbo$2bo$\n3oz!\n"
+# A macrocell file that lost its line ends: it is one line, and so the blank pattern.
+LOST = b"[M2] (golly 4.2)\r#R B3/S23\r$$..*$...*$.***$\r"
 # The longest time for which the page may not answer while it reads 100 MB: in seconds, or as a share of the whole time, on a machine with other work to
 # do; and how often that is measured, where it takes longer. A page that reads by itself doesn't answer at all meanwhile.
 LONGEST_PAUSE, PAUSING_SHARE, MEASURED = 0.5, 1 / 8, 3
@@ -140,7 +143,7 @@ def comparing(page, folder):
     counting.row("two files of one pattern that is moved", differing(
         {"answer": page.text("answer"), "why": page.text("why")},
         {"answer": "Both files are one pattern, at different places.",
-         "why": "The second one lies 70 columns to the west and 5 rows to the south of the first."}))
+         "why": "The second one is 70 columns to the west and 5 rows to the south of the first."}))
     page.dropped([one, *put(folder, turned_rle=TURNED)])
     counting.row("two files of one pattern that is reflected", differing({"answer": page.text("answer")},
                                                                         {"answer": "Both files are one pattern, turned or reflected."}))
@@ -186,7 +189,7 @@ def showing(page, folder, answers):
     counting.row("what a file holds", differing(page.summary(), {
         **keys,
         "Rule": lines["rule"], "Generation": lines["generation"], "Cells": lines["population"], "Box": f"{width} \u00d7 {height} at ({left}, {top})",
-        "Squares": lines["nodes"], "Key": hashlib.sha256(canonical.encode()).hexdigest()}))
+        "Squares in the text": lines["nodes"], "Key": hashlib.sha256(canonical.encode()).hexdigest()}))
     seen_text = page.browser.run("return document.getElementById('written').value;")
     counting.row("the canonical text", differing({"text": page.saved("save"), "seen": seen_text}, {"text": [canonical, "soup.mc"], "seen": canonical}))
     page.click("as-rle")
@@ -195,14 +198,14 @@ def showing(page, folder, answers):
     refused = put(folder, refused_rle=REFUSED)[0]
     page.dropped([refused])
     counting.row("a file that is refused", differing(
-        {"told": page.text("refused-told"), "why": page.text("refused-why"), "line": page.text("refused-line")},
+        {"told": page.text("refused-reason"), "why": page.text("refused-why"), "line": page.text("refused-line")},
         {"told": "line 3: BadItem", "why": page.sentence("BadItem"), "line": "3: 3oz!"}))
     page.dropped([refused, soup])
     counting.row("a refused file in a list", differing({"rows": [it[2:] for it in page.list()][-1:]}, {"rows": [["line 3: BadItem"]]}))
 
 
 def packing(page, folder):
-    """Folders, zips and gzip, with doubles; zips that are broken."""
+    """Folders, zips and gzip, with duplicates; zips that are broken."""
     below = os.path.join(folder, "collection")
     put(below, a_rle=GLIDER, b_mc=SPELLED, c_rle=b"x=1,y=1\no!\n", d_txt=b"no pattern\n")
     put(os.path.join(below, "deeper"), e_rle=b"#C the same\nx=3,y=3\nbob$2bo$3o!\n", f_rle=b"x=2,y=1\n2o!\n", _formula_rle=b"x=2,y=1\noo!\n")
@@ -213,15 +216,15 @@ def packing(page, folder):
         by_group.setdefault(group, set()).add(name)
     wanted_groups = {frozenset(f"collection/{it}" for it in some)
                      for some in (["a.rle", "b.mc", "deeper/e.rle"], ["deeper/.formula.rle", "deeper/f.rle"])}
-    holds("a folder with doubles", {frozenset(it) for group, it in by_group.items() if group} == wanted_groups and len(groups) == 7, groups)
+    holds("a folder with duplicates", {frozenset(it) for group, it in by_group.items() if group} == wanted_groups and len(groups) == 7, groups)
     text, name = page.saved("save-table")
     table = list(csv.DictReader(io.StringIO(text, newline="")))
     by_key = {}
     for row in table:
         by_key.setdefault(row["key"], set()).add(row["file"])
     refused = [row for row in table if row["refused"]]
-    doubles = {frozenset(it) for it in by_key.values() if len(it) > 1}
-    holds("its doubles as a table", name == "patterns.csv" and len(table) == 7 and doubles == wanted_groups, text)
+    duplicates = {frozenset(it) for it in by_key.values() if len(it) > 1}
+    holds("its duplicates as a table", name == "patterns.csv" and len(table) == 7 and duplicates == wanted_groups, text)
     holds("what is refused in it", [(it["file"], it["refused"]) for it in refused] == [("collection/d.txt", "line 1: NoHeader")], refused)
     packed = os.path.join(folder, "packed.zip")
     with zipfile.ZipFile(packed, "w") as it:
@@ -231,7 +234,7 @@ def packing(page, folder):
         it.writestr("inner/ä.rle", b"x=1,y=1\no!\n" + b"#" * 3000, zipfile.ZIP_DEFLATED)
         it.writestr("inner/c.rle.gz", gzip.compress(b"x=1,y=1\no!\n"), zipfile.ZIP_STORED)
     page.dropped([packed], "document.querySelectorAll('#list tbody tr').length === 4")
-    counting.row("a zip with doubles", differing({"rows": sorted((it[1], it[0]) for it in page.list())}, {"rows": [
+    counting.row("a zip with duplicates", differing({"rows": sorted((it[1], it[0]) for it in page.list())}, {"rows": [
         ("packed.zip/a.rle", "1"), ("packed.zip/inner/b.mc", "1"), ("packed.zip/inner/c.rle.gz", ""), ("packed.zip/inner/ä.rle", "")]}))
     packed_alone = put(folder, glider_rle_gz=gzip.compress(GLIDER), other_mc=SPELLED)
     page.dropped(packed_alone, "document.querySelectorAll('#list tbody tr').length === 2")
@@ -253,12 +256,131 @@ def examples(browser, address, where):
     """What the examples of the page show."""
     page = Page(browser, address)
     seen = []
-    for index, name in enumerate(("answer", "answer", "summary", "refused-told")):
+    for index, name in enumerate(("answer", "answer", "summary", "refused-reason")):
         page.example(index)
         seen.append(page.summary()["Box"] if name == "summary" else page.text(name))
     wanted = ["All 4 files are one pattern.", "Both files are one pattern, at different places.",
               f"{2 ** 40} \u00d7 {2 ** 40} at ({-2 ** 39}, {-2 ** 39})", "line 4: StateRange"]
     counting.row(f"the examples {where}", [] if seen == wanted else [str(seen)])
+
+
+# ---- what is said and saved
+
+
+# Notes what is said to who doesn't see the page.
+HEARING = """window.heard = [];
+    for (const it of document.querySelectorAll("[aria-live]")) {
+      new MutationObserver(() => window.heard.push(it.textContent)).observe(it, { childList: true, subtree: true, characterData: true });
+    }"""
+
+
+def speaking(page, folder):
+    """A live region says what one file is, good or refused, and what two are."""
+    page.cleared()
+    page.browser.run(HEARING)
+    glider, refused, moved_one = put(folder, glider_rle=GLIDER, refused_rle=REFUSED, moved_rle=MOVED)
+    wanted = {glider: "glider.rle: 5 cells, B3/S23, generation 0.", refused: f"refused.rle is refused: line 3: BadItem. {page.sentence('BadItem')}"}
+    for path, said in wanted.items():
+        page.dropped([path])
+        page.until("document.getElementById('said').textContent !== ''", 5)
+        heard = page.browser.run("return window.heard.splice(0);")
+        holds(f"one file is said: {os.path.basename(path)}", said in heard, heard)
+    page.dropped([glider, moved_one])
+    heard = page.browser.run("return window.heard.splice(0);")
+    holds("two files are said", any("Both files are one pattern" in it for it in heard), heard)
+    page.browser.run("document.querySelectorAll('#list button')[1].click();")
+    page.rests()
+    page.until("document.getElementById('said').textContent !== ''", 5)
+    counting.row("a file that is chosen is said", differing({"said": page.text("said")}, {"said": "moved.rle: 5 cells, B3/S23, generation 0."}))
+    page.dropped([refused, *put(os.path.join(folder, "more"), other_rle=REFUSED)])
+    counting.row("two refused files", differing({"answer": page.text("answer")}, {"answer": "None of the files is a pattern: all were refused."}))
+    turning = put(folder, **{"\u202egnp_rle": GLIDER})
+    page.dropped(turning)
+    counting.row("a name that turns the direction of text", differing({"name": page.text("name")}, {"name": "\\u202egnp.rle"}))
+
+
+def large():
+    """A square of 2^11 cells a side, all of them live: more cells than a moved pattern may have."""
+    return ("[M2]\n" + "********$" * 8 + "\n" + "".join(f"{level} {level - 3} {level - 3} {level - 3} {level - 3}\n" for level in range(4, 12))).encode()
+
+
+def table(page):
+    """The rows of the table that is saved, by the names of their files."""
+    return {it["file"]: it for it in csv.DictReader(io.StringIO(page.saved("save-table")[0], newline=""))}
+
+
+def saving(page, folder, answers):
+    """The saved table has the keys of the form that is shown, as the program writes them, and says why one is missing."""
+    paths = put(folder, one_rle=GLIDER, two_rle=MOVED, three_rle=TURNED, large_mc=large())
+    page.dropped(paths[:2])
+    holds("the form of two files at different places", {it["form"] for it in table(page).values()} == {"moved"}, table(page))
+    page.dropped(paths)
+    for index, form in enumerate(("placed", "moved", "turned")):
+        page.browser.run("document.querySelectorAll('#forms button')[given[0]].click();", index)
+        rows = table(page)
+        keys = {os.path.basename(path): answers.of("keys", path, "--form", form)[:64] for path in paths}
+        found = {name: row["key"] for name, row in rows.items()}
+        groups = {name: row["group"] for name, row in rows.items()}
+        named = {row["form"] for row in rows.values()}
+        shared = {name: [other for other in keys if keys[name] and keys[other] == keys[name]] for name in keys}
+        in_groups = {name: [other for other in groups if groups[name] and groups[other] == groups[name]] or shared[name][:1] for name in groups}
+        problems = differing({"keys": found, "form": named, "groups": in_groups}, {"keys": keys, "form": {form}, "groups": shared})
+        counting.row(f"the table of files that are compared as {form}", problems)
+        lacks = form != "placed"
+        holds(f"why a key is missing, {form}", ("more than 2\u00b2\u2070 cells" in rows["large.mc"]["note"]) == lacks, rows["large.mc"])
+        said = page.text("why")
+        holds(f"files that can't be compared, {form}", ("1 file has no key of this form" in said) == lacks, said)
+    page.dropped(paths[-1:])
+    counting.row("why a file has no key", differing(page.summary(), {f"No key, {form}": "There is none for a pattern of more than 2\u00b2\u2070 cells."
+                                                                    for form in ("moved", "turned")}))
+
+
+def warning(page, folder):
+    """A macrocell file that seems to have lost its line ends, or has a comment that Golly reads, is read, with a warning; others have none."""
+    one, two = put(folder, one_mc=LOST, two_mc=LOST.replace(b"..*", b"***"))
+    page.dropped([one])
+    page.until("document.getElementById('said').textContent !== ''", 5)
+    holds("a file that lost its line ends", "lost its line ends" in page.text("warning") and "Warning" in page.text("said") and page.summary()["Cells"] == "0",
+          [page.text("warning"), page.text("said")])
+    page.dropped([one, two])
+    said = [page.text("answer"), page.text("why"), *[it[1] for it in page.list()], *[it["note"] for it in table(page).values()]]
+    holds("two files that lost their line ends", said[0] == "Both files are one pattern." and said[1].endswith("Warning: 2 files seem to be meant as "
+          "another pattern, see the list.") and all("lost its line ends" in it for it in said[2:]), said)
+    for data in (b"[M2]\n#RB36/S23\n$$..*$\n", b"[M2]\n#C a\n#G7\r\n#R B3/S23\n$$..*$\n", b"[M2]\n#R23/3\n"):
+        page.dropped(put(folder, comment_mc=data))
+        holds(f"a comment that is meant as a rule or a generation: {data}", "a comment here" in page.text("warning"), page.text("warning"))
+    page.dropped(put(folder, blank_mc=b"[M2] (golly 4.2)\n#R B3/S23\n\n#C no squares\r\n"))
+    holds("a file without squares", "no line of squares" in page.text("warning"), page.text("warning"))
+    for name, data in {"cr_lf": b"[M2] (golly 4.2)\r\n#R B3/S23\r\n$$..*$...*$.***$\r\n", "cr_cr_lf": b"[M2]\r\r\n$$..*$\n",
+                       "blank_rle": b"x = 0, y = 0\n!\n", "blanks": b"[M2]\n\n \t$$..*$\n",
+                       "comments": b"[M2]\n#Reflector\n#Generation\n#R B36/S23\n#G 7\n$$..*$\n", "late": b"[M2]\n$$..*$\n#G7\n"}.items():
+        page.dropped(put(folder, **{f"{name}_mc": data}))
+        holds(f"no warning: {name}", page.hides("warning") or page.hides("shown"), page.text("warning"))
+
+
+# The most seconds for 3,000 files, on a machine with other work to do: they take some 4 seconds on one that is idle.
+MANY = 60
+
+
+def many(page, folder):
+    """3,000 files are read and listed in seconds: the list is made once, when all of them are read."""
+    os.makedirs(folder, exist_ok=True)
+    packed = os.path.join(folder, "many.zip")
+    with zipfile.ZipFile(packed, "w") as it:
+        for number in range(3000):
+            it.writestr(f"{number}.rle", b"x=9,y=9\n%do$%db%do$o!\n" % (number % 60 + 1, number % 7 + 1, number % 11 + 1))
+    page.cleared()
+    page.browser.run("""window.lists = 0;
+        new MutationObserver(() => window.lists++).observe(document.querySelector("#list tbody"), { childList: true });""")
+    begun = time.monotonic()
+    page.browser.drop([packed])
+    page.until("document.querySelectorAll('#list tbody tr').length === 500", LONG_WORK)
+    page.rests(LONG_WORK)
+    took = time.monotonic() - begun
+    counting.row(f"3,000 files in {took:.1f} s", differing(
+        {"more": page.text("more").replace("\u202f", ""), "lists": page.browser.run("return window.lists;"), "soon": took < MANY},
+        {"more": "And 2500 more, which the saved table has.", "lists": 1, "soon": True}))
+    page.cleared()
 
 
 # ---- steps
@@ -275,6 +397,26 @@ def stepping(page, folder, answers):
             it.write(answers.of("step", wanted))
         wanted = it.name
     counting.row("five steps", differing({"text": page.saved("save")}, {"text": [answers.of("canon", wanted), "rpentomino at 5.mc"]}))
+    for number in (4, 3):
+        page.click("step-back")
+        page.until(f"document.getElementById('summary').children[3].textContent === '{number}'", 5)
+    with open(os.path.join(folder, "step3"), encoding="ascii") as it:
+        counting.row("two steps back", differing({"text": page.saved("save")}, {"text": [it.read(), "rpentomino at 3.mc"]}))
+    page.browser.run("for (let it = 0; it < 9; it++) document.getElementById('step-back').click();")
+    counting.row("back to the first generation by steps", differing(
+        {"generation": page.summary()["Generation"], "off": page.browser.run("return document.getElementById('step-back').disabled;")},
+        {"generation": "0", "off": True}))
+    page.browser.run("const it = document.getElementById('speed'); it.value = '1000';")
+    page.click("run")
+    page.until("document.getElementById('summary').children[3].textContent === '1'")
+    page.browser.run("await new Promise(it => setTimeout(it, 500));")
+    slow = page.summary()["Generation"]
+    page.browser.run("document.getElementById('speed').value = '0';")
+    page.until("Number(document.getElementById('summary').children[3].textContent) > 20")
+    page.click("run")
+    counting.row("slow and fast", [] if slow == "1" else [slow])
+    page.browser.run("document.getElementById('speed').value = '60'; await new Promise(it => setTimeout(it, 200));")
+    page.click("back")
     page.click("run")
     page.until("Number(document.getElementById('summary').children[3].textContent) > 30")
     page.click("run")
@@ -301,6 +443,38 @@ def stepping(page, folder, answers):
     page.until("document.getElementById('summary').children[3].textContent === '1'")
     counting.row("a step by a table", differing({"text": page.saved("save")[0]}, {"text": fixtures.SPREAD_STEPPED.decode()}))
     page.cleared()
+    colouring(page, folder)
+
+
+# Golly's colours of WireWorld, and a gradient from red to green over the states 1 to 3.
+COLOURS = {
+    "colours": (b"0  48  48  48   dark grey\n# a comment\n1   0 128 255   light blue\n2 255 255 255   white\n3 255 128   0   orange\n\n@ICONS\n1 9 9 9\n",
+                ["48,48,48", "0,128,255", "255,255,255", "255,128,0"]),
+    "a gradient": (b"255 0 0  0 255 0\n", [None, "255,0,0", "128,128,0", "0,255,0"]),
+    "none": (b"", [None, None, None, None]),
+}
+
+
+def colouring(page, folder):
+    """The picture has the colours of a rule file, dropped before or after the pattern."""
+    with open(os.path.join(of_module.TOP, "examples", "WireWorld.rule"), "rb") as it:
+        rule = it.read()
+    pattern = put(folder, wire_rle=b"x=4,y=1,rule=WireWorld\n.ABC!\n")[0]
+    for name, (lines, wanted) in COLOURS.items():
+        for order in ("after", "before"):
+            coloured = put(folder, WireWorld_rule=rule + b"\n@COLORS\n" + lines)[0]
+            page.cleared()
+            for path in [pattern, coloured] if order == "after" else [coloured, pattern]:
+                page.browser.drop([path])
+                page.until("!document.getElementById('shown').hidden" if path == pattern else
+                           "document.getElementById('said').textContent.includes('table of WireWorld')")
+                page.rests()
+            *found, sky = pixels(page, [[x, 0] for x in range(4)])
+            problems = [f"{one} and not {other}" for one, other in zip(found, wanted) if other is not None and one != other]
+            problems += [f"a blank cell is {found[0]}"] if wanted[0] is None and found[0] != sky else []
+            problems += [] if len(set(found)) == 4 else [f"the states are {found}"]
+            counting.row(f"{name} of a rule file that comes {order} the pattern", problems)
+    page.cleared()
 
 
 # ---- the picture
@@ -308,6 +482,12 @@ def stepping(page, folder, answers):
 
 def seen(page, cells):
     """Whether the middles of cells about the cell in the middle of the canvas are drawn as live, at so many pixels a cell."""
+    *found, sky = pixels(page, cells)
+    return [it != sky for it in found]
+
+
+def pixels(page, cells):
+    """The colours of the middles of cells, and that of a blank one in the page's own style, each as three numbers in a text."""
     return page.browser.run("""
         const canvas = document.getElementById("picture");
         const place = document.getElementById("place").textContent.replaceAll("\\u202f", "");
@@ -318,10 +498,10 @@ def seen(page, cells):
         await new Promise(requestAnimationFrame);
         const style = getComputedStyle(document.documentElement).getPropertyValue("--sky");
         const sky = style.trim().slice(1).match(/../g).map(it => parseInt(it, 16)).join();
-        return given[0].map(([column, row]) => {
+        return [...given[0].map(([column, row]) => {
           const at = [(column - Number(x) + 0.5) * size + canvas.width / 2, (row - Number(y) + 0.5) * size + canvas.height / 2].map(Math.floor);
-          return context.getImageData(...at, 1, 1).data.slice(0, 3).join() !== sky;
-        });""", cells)
+          return context.getImageData(...at, 1, 1).data.slice(0, 3).join();
+        }), sky];""", cells)
 
 
 def moved(page, place):
@@ -339,7 +519,7 @@ def drawing(page, folder):
     for _ in range(4):
         wrong = [cell for cell, found in zip(area, seen(page, area)) if found != (tuple(cell) in live)]
         problems += [f"{page.text('place')} {wrong[:5]}"] if wrong else []
-        page.click("farther")
+        page.click("zoom-out")
     counting.row("the cells of the picture", problems)
     states = put(folder, states_rle=b"x=1,y=1,rule=Foo\nABC.yO$!\n")[0]
     page.dropped([states])
@@ -371,7 +551,7 @@ def drawing(page, folder):
     moved(page, dragged)
     turned = page.text("place")
     counting.row("drag and wheel", [] if len({place, dragged, turned}) == 3 else [f"{place}, {dragged} and {turned}"])
-    page.click("whole")
+    page.click("fit")
     page.browser.run("document.getElementById('picture').scrollIntoView();")
     place = page.text("place")
     for kind, apart in (("touchStart", 20), ("touchMove", 40), ("touchMove", 90), ("touchEnd", 0)):
@@ -452,7 +632,7 @@ def faults(browser, folder, work, address):
     large, small = put(work, large_rle=soup, small_rle=GLIDER)
     page = Page(browser, f"{address}/golly_canon.html#memory=4")
     page.dropped([large])
-    counting.row("memory that is refused", differing({"told": page.text("refused-told"), "why": page.text("refused-why")},
+    counting.row("memory that is refused", differing({"told": page.text("refused-reason"), "why": page.text("refused-why")},
                                                     {"told": "Memory", "why": page.sentence("Memory")}))
     page.dropped([small])
     counting.row("a file behind that", differing(page.summary(), {"Cells": "5"}))
@@ -474,7 +654,7 @@ def faults(browser, folder, work, address):
             it.write(re.sub(r'(?<=id="module">)[^<]*', packed, html))
         page = Page(browser, f"file://{low}")
         page.dropped([deep])
-        told = page.text("refused-told"), page.text("refused-why")
+        told = page.text("refused-reason"), page.text("refused-why")
         page.dropped([shallow])
         found[stack] = [told[0], "loaded anew" in told[1], page.summary().get("Cells")]
     holds("a stack that is too low is told as a fault, and the next file is read", ["Fault", True, "1"] in found.values(), found)
@@ -503,15 +683,36 @@ def looks(browser, folder, pictures, name, width, height, scheme):
         page.example(index)
         wide = browser.run("return document.documentElement.scrollWidth - innerWidth;")
         problems += [f"{shown} is {wide} pixels too wide"] if wide > 0 else []
+        problems += rows_of_list(browser, width) if shown in ("glider", "golly") else []
         if pictures:
             tall = browser.run("return document.documentElement.scrollHeight;")
             browser.command("Emulation.setDeviceMetricsOverride", width=width, height=tall, deviceScaleFactor=1, mobile=width < 600)
             browser.run("await new Promise(it => setTimeout(it, 300));")
             browser.picture(os.path.join(pictures, f"{name}-{shown}.png"))
             browser.command("Emulation.setDeviceMetricsOverride", width=width, height=height, deviceScaleFactor=1, mobile=width < 600)
+    names = browser.run("return ['zoom-in', 'zoom-out', 'fit', 'step-back', 'step', 'run'].map(it => document.getElementById(it)?.textContent);")
+    problems += [] if names == ["Zoom in", "Zoom out", "Fit", "Step back", "Step", "Run"] else [f"buttons {names}"]
     problems += browser.run("""return [...document.querySelectorAll("button, input, textarea, canvas, progress")].filter(it => !it.hidden &&
         !(it.innerText.trim() || it.ariaLabel || it.labels?.length)).map(it => it.outerHTML);""")
     counting.row(f"the page, {name}", problems)
+
+
+def rows_of_list(browser, width):
+    """The list is a table with a name, whose rows have headings; on a narrow window each cell is seen, with the name of its column."""
+    nodes = browser.command("Accessibility.getFullAXTree")["nodes"]
+    named = [(it["role"]["value"], it.get("name", {}).get("value", "")) for it in nodes if not it["ignored"]]
+    problems = [] if [name for role, name in named if role == "table"] == ["The files, those of one pattern with one group number"] else ["no table"]
+    rows = browser.run("return document.querySelectorAll('#list tbody tr').length;")
+    problems += [] if sum(role == "rowheader" for role, _ in named) == rows > 1 else ["rows without headings"]
+    columns = [name for role, name in named if role == "columnheader"]
+    problems += [] if columns == ["Group", "File", "Rule", "Generation", "Cells", "Box"] else [f"columns {columns}"]
+    if width < 600:
+        problems += browser.run("""return [...document.querySelectorAll("#list tbody :is(td, th)")].flatMap(it => {
+            const { left, right, height } = it.getBoundingClientRect();
+            const label = getComputedStyle(it, "::before").content;
+            return left >= 0 && right <= innerWidth && height > 0 && label === `"${it.dataset.column}"` ? [] : [`${it.innerText}: ${left} ${right} ${label}`];
+          });""")
+    return problems
 
 
 def sentence_of(script):
@@ -531,6 +732,10 @@ def working(browser, folder, work, answers, server):
     pasting(page)
     showing(page, os.path.join(work, "showing"), answers)
     packing(page, os.path.join(work, "packing"))
+    speaking(page, os.path.join(work, "speaking"))
+    saving(page, os.path.join(work, "saving"), answers)
+    warning(page, os.path.join(work, "warning"))
+    many(page, os.path.join(work, "many"))
     stepping(page, os.path.join(work, "stepping"), answers)
     drawing(page, os.path.join(work, "drawing"))
     long_work(page, work)
@@ -540,6 +745,26 @@ def working(browser, folder, work, answers, server):
     counting.row("the page from a web server", differing({"answer": page.text("answer")}, {"answer": "All 4 files are one pattern."}))
 
 
+def opening(browser, address, program, where):
+    """Three files are opened by the page's dialog, and one is stepped: by what every driver can do."""
+    page = Page(browser, address)
+    with tempfile.TemporaryDirectory() as work:
+        answers = Answers(program, work)
+        one, other, pentomino = put(work, one_rle=GLIDER, other_mc=SPELLED, pentomino_rle=b"x=3,y=3\nb2o$2o$bo!\n")
+        browser.give("files", [one, other, pentomino])
+        page.until("document.querySelectorAll('#list tbody tr').length === 3")
+        page.rests()
+        counting.row(f"three files are opened {where}", differing({"answer": page.text("answer"), "groups": [it[0] for it in page.list()]},
+                                                                 {"answer": "2 of 3 files share a pattern with another: 1 group.", "groups": ["1", "1", ""]}))
+        page.cleared()
+        browser.give("files", [pentomino])
+        page.until("!document.getElementById('clear').hidden")
+        page.rests()
+        page.click("step")
+        page.until("document.getElementById('summary').children[3].textContent === '1'")
+        counting.row(f"a step {where}", differing({"text": page.saved("save")[0]}, {"text": answers.of("step", pentomino)}))
+
+
 def rows(folder, program, pictures):
     """All of it."""
     Page.sentence = sentence_of(of_module.page_script())
@@ -547,6 +772,6 @@ def rows(folder, program, pictures):
         answers = Answers(program, work)
         browsers.tested("the page", browsers.Browser, lambda it: working(it, folder, work, answers, server))
         browsers.tested("its faults", browsers.Browser, lambda it: faults(it, folder, os.path.join(work, "faults"), server.address))
-        for name, width, height, scheme in (("light", 1200, 900, "light"), ("dark", 1200, 900, "dark"), ("narrow", 360, 740, "light")):
+        for name, width, height, scheme in (("light", 1200, 900, "light"), ("dark", 1200, 900, "dark"), ("narrow", 390, 844, "light")):
             browsers.tested(f"the page, {name}", lambda: browsers.Browser(width, height),
                             lambda it: looks(it, folder, pictures, name, width, height, scheme))

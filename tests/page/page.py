@@ -1,11 +1,13 @@
 #!/usr/bin/env python3
 """The page and the module for browsers, which scripts/page builds here over what `rt ci` has proved: what they are made of, and in a headless Chromium
-that the module answers as PROGRAM does, and what the page does with files. Where there is no Chromium or no chromedriver, or what scripts/page needs
-beside the toolchain isn't there, a line says that this is skipped. A browser that dies is started again (browser.py).
+that the module answers as PROGRAM does, and what the page does with files. A part of that is tried in WebKit (the engine of Safari), in Firefox and in
+Node too. Where a browser, its driver, Node, or what scripts/page needs beside the toolchain isn't there, a line says what is skipped. A browser that
+dies is started again (browser.py).
 
-usage: tests/page/page.py PROGRAM [--cases N] [--seed SEED] [--built FOLDER] [--pictures FOLDER]
+usage: tests/page/page.py PROGRAM [--cases N] [--seed SEED] [--built FOLDER] [--keep FOLDER] [--pictures FOLDER]
 
-With `--built` the page of that folder is tested in place of a new one, and with `--pictures` the windows are saved there as pictures.
+With `--built` the page of that folder is tested in place of a new one, with `--keep` the new one is left in a folder for other checks, and with
+`--pictures` the windows are saved there as pictures.
 """
 
 import argparse
@@ -51,7 +53,7 @@ def types():
     counting.row("types for what the module exports", [] if exported == typed else [f"{sorted(exported ^ typed)}"])
     calls = set(re.findall(r"(?m)^  (?:async )?(\w+)\(.*\{$", texts[0].split("class Library")[1])) - {"constructor"}
     typed = set(re.findall(r"(?m)^  (\w+)\(", texts[1].split("interface Library")[1].split("\n}")[0]))
-    counting.row("types for the calls of the library", [] if calls == typed and len(calls) == 8 else [f"{sorted(calls)} and {sorted(typed)}"])
+    counting.row("types for the calls of the library", [] if calls == typed and len(calls) == 10 else [f"{sorted(calls)} and {sorted(typed)}"])
 
 
 def made_of(folder):
@@ -73,6 +75,7 @@ def in_chromium(folder, program, options):
     def calls(browser):
         of_module.calls(browser, server.address)
         of_module.memory(browser, server.address)
+        of_module.heap(browser, f"{server.address}/golly_canon.wasm")
         of_module.stacks(browser, server.address, folder)
 
     with browsers.Server(folder) as server:
@@ -82,18 +85,55 @@ def in_chromium(folder, program, options):
     of_page.rows(folder, program, options.pictures)
 
 
+def in_webkit(folder, program, options):
+    """A part of that in WebKit, where it is installed."""
+    if not browsers.has_webkit():
+        print(f"skipped: the same in WebKit, since there is no {browsers.WEBKIT_DRIVER} with its browser, or no {browsers.XVFB}", flush=True)
+        return
+
+    def some(browser):
+        of_module.compares(browser, server.address, program, f"{options.seed} in WebKit", options.cases // 5, 10)
+        of_module.calls(browser, server.address)
+        of_module.memory(browser, server.address)
+        of_module.heap(browser, f"{server.address}/golly_canon.wasm")
+        of_module.stacks(browser, server.address, folder)
+        of_page.examples(browser, f"file://{folder}/golly_canon.html", "in WebKit")
+        of_page.opening(browser, f"{server.address}/golly_canon.html", program, "in WebKit")
+
+    with browsers.Server(folder) as server:
+        browsers.tested("WebKit", browsers.WebKit, some)
+
+
 def in_firefox(folder, program, options):
-    """A part of that in Firefox, where it is installed."""
+    """A smaller part in Firefox, where it is installed."""
     if not shutil.which(browsers.FIREFOX):
         print(f"skipped: the same in Firefox, since there is no {browsers.FIREFOX}", flush=True)
         return
 
     def some(browser):
         of_module.compares(browser, server.address, program, f"{options.seed} in Firefox", options.cases // 5, 10)
+        of_module.memory(browser, server.address)
+        of_module.heap(browser, f"{server.address}/golly_canon.wasm")
         of_page.examples(browser, f"file://{folder}/golly_canon.html", "in Firefox")
 
     with browsers.Server(folder) as server:
         browsers.tested("Firefox", browsers.Firefox, some)
+
+
+def in_node(folder, program, options):
+    """What the module answers in Node, where it is installed."""
+    if not processes.has_node():
+        print(f"skipped: the module in Node, since there is no Node {processes.NODE}", flush=True)
+        return
+    shutil.copy(os.path.join(TOP, "packages", "npm", "node.mjs"), folder)
+
+    def some(node):
+        of_module.compares(node, f"file://{folder}", program, f"{options.seed} in Node", options.cases // 5, 10, ["Node"])
+        of_module.forms(node)
+        of_module.heap(node, f"file://{folder}/golly_canon.wasm")
+        of_module.whole_memory(node, f"file://{folder}/golly_canon.wasm")
+
+    browsers.tested("Node", browsers.Node, some)
 
 
 def main():
@@ -102,6 +142,7 @@ def main():
     parser.add_argument("--cases", type=int, default=500)
     parser.add_argument("--seed", default="1")
     parser.add_argument("--built")
+    parser.add_argument("--keep")
     parser.add_argument("--pictures")
     options = parser.parse_args()
     signal.signal(signal.SIGTERM, lambda *_: sys.exit(1))  # so that a browser ends with the test
@@ -114,15 +155,20 @@ def main():
             shutil.copytree(options.built, folder)
         else:
             lacks = built(folder)
-        if lacks is None:
-            made_of(folder)
-        if lacks is None and not browsers.is_there():
-            lacks = f"there is no {browsers.CHROMIUM} with its {browsers.DRIVER}"
-        if lacks is None:
-            in_chromium(folder, program, options)
-            in_firefox(folder, program, options)
-        else:
+        if lacks is not None:
             print(f"skipped: {lacks}", flush=True)
+            return counting.ended()
+        if options.keep:
+            shutil.rmtree(options.keep, ignore_errors=True)
+            shutil.copytree(folder, options.keep)
+        made_of(folder)
+        in_node(folder, program, options)
+        if browsers.is_there():
+            in_chromium(folder, program, options)
+        else:
+            print(f"skipped: the page in Chromium, since there is no {browsers.CHROMIUM} with its {browsers.DRIVER}", flush=True)
+        in_webkit(folder, program, options)
+        in_firefox(folder, program, options)
     return counting.ended()
 
 
