@@ -1,7 +1,7 @@
 # Completion of golly_canon's words in bash.
 
 _golly_canon() {
-    local commands="canon convert same show step keys help"
+    local commands="canon convert same show step keys duplicates help"
     local formats="rle mc" forms="placed moved turned"
     local word=${COMP_WORDS[COMP_CWORD]} previous=${COMP_WORDS[COMP_CWORD - 1]} front=
     COMPREPLY=()
@@ -25,18 +25,18 @@ _golly_canon() {
         COMPREPLY=($(compgen -P "$front" -W "$formats" -- "$word"))
         return
     fi
-    if [[ ${COMP_WORDS[1]} =~ ^(canon|same|keys)$ ]] && [ "$previous" = --form ]; then
+    if [[ ${COMP_WORDS[1]} =~ ^(canon|same|keys|duplicates)$ ]] && [ "$previous" = --form ]; then
         COMPREPLY=($(compgen -P "$front" -W "$forms" -- "$word"))
         return
     fi
     case $word in
         -*)
             case ${COMP_WORDS[1]} in
-                convert) COMPREPLY=($(compgen -W "--to --help -h" -- "$word")) ;;
-                step) COMPREPLY=($(compgen -W "--table --help -h" -- "$word")) ;;
-                canon | same) COMPREPLY=($(compgen -W "--form --help -h" -- "$word")) ;;
-                keys) COMPREPLY=($(compgen -W "--form --zero --from --help -h" -- "$word")) ;;
-                show) COMPREPLY=($(compgen -W "--help -h" -- "$word")) ;;
+                convert) COMPREPLY=($(compgen -W "--to --explain --help -h" -- "$word")) ;;
+                step) COMPREPLY=($(compgen -W "--table --explain --help -h" -- "$word")) ;;
+                canon | same) COMPREPLY=($(compgen -W "--form --explain --help -h" -- "$word")) ;;
+                keys | duplicates) COMPREPLY=($(compgen -W "--form --zero --from --recursive -r --help -h" -- "$word")) ;;
+                show) COMPREPLY=($(compgen -W "--explain --help -h" -- "$word")) ;;
             esac
             ;;
         *)

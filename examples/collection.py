@@ -1,11 +1,11 @@
 #!/usr/bin/env python3
-"""The keys of a collection of pattern files, by the processes of a machine or by a cluster, in one table with its doubles.
+"""The keys of a collection of pattern files, by the processes of a machine or by a cluster, in one table with its duplicates.
 
 usage: collection.py --table OUT.sqlite [--form placed|moved|turned] [--archive] [--workers N | --scheduler ADDRESS] FILE.. | --from LIST
 
 The list is cut into shares. A worker turns a share into rows and keeps nothing; this process alone writes, and a share's rows come into the table
 all or none, with the mark that it is done. So a worker that dies, a share that is done twice and a scheduler that starts again change nothing, and a
-run that was cut off goes on when it is started again with the same words. docs/COLLECTIONS.md says more.
+run that was cut off continues when the same command is started again. docs/COLLECTIONS.md says more.
 """
 
 from __future__ import annotations
@@ -18,10 +18,13 @@ import logging
 import lzma
 import os
 import pickle
+import re
+import signal
 import sqlite3
 import sys
 import tarfile
 import time
+import warnings
 import zipfile
 import zlib
 from typing import Any, BinaryIO, Callable, Dict, Iterable, Iterator, List, Optional, Sequence, Tuple, Union
@@ -34,9 +37,9 @@ Work = Callable[[Sequence[Share]], Iterator[Done]]
 
 SIZE = 1000  # of a share, in files; an archive is a share by itself
 TRIES = 3  # of a share that raises
-MOST_FAILED = 10  # shares, behind which a run stops
+MOST_FAILED = 10  # shares, after which a run stops
 PATIENCE = 300.0  # the most seconds without a scheduler
-SPOKEN = 10.0  # the seconds between two lines that tell how far the run is
+SPOKEN = 10.0  # the seconds between two lines that say how far the run is
 UNSETTLED = ("Memory", "ReadFault")  # kinds that lie with the machine, so that the next run tries again
 UNREAD = (OSError, EOFError, zlib.error, lzma.LZMAError, zipfile.BadZipFile, tarfile.TarError, RuntimeError)
 
@@ -67,12 +70,17 @@ def contents(path: str) -> bytes:
 
 
 def row_of(path: str, member: Optional[str], read: Callable[[], bytes], form: str) -> Row:
-    """The row of a file: its key, or why it has none. A file that gzip packed is unpacked."""
+    """The row of a file: its key, with a warning where the file seems to have lost its line ends, or why it has none. A file that gzip packed is
+    unpacked."""
     import golly_canon  # the process that starts the run needs no library
 
     try:
         data = read()
-        return path, member, golly_canon.key(gzip.decompress(data) if data[:2] == b"\x1f\x8b" else data, form), None, None, None
+        data = gzip.decompress(data) if data[:2] == b"\x1f\x8b" else data
+        with warnings.catch_warnings():  # the row has the warning
+            warnings.simplefilter("ignore", golly_canon.PatternWarning)
+            key = golly_canon.key(data, form)
+        return path, member, key, None, None, golly_canon.warning_of(data)
     except golly_canon.Refused as why:
         return path, member, None, why.kind, why.line, str(why)
     except MemoryError:
@@ -102,7 +110,7 @@ def rows_of(share: Share) -> List[Row]:
             continue
         try:
             rows.extend(row_of(name, text_of(member), read, form) for member, read in members_of(place))
-        except UNREAD as why:  # behind the members that could be read
+        except UNREAD as why:  # after the members that could be read
             rows.append((name, None, None, "ReadFault", None, words_of_fault(why)))
     return rows
 
@@ -188,7 +196,14 @@ def dask_on(address: Optional[str], workers: int) -> Work:
     if address is not None:
         return by_dask(lambda: distributed.Client(address, timeout=5))
     how = {"n_workers": workers, "threads_per_worker": 1, "dashboard_address": None, "silence_logs": logging.CRITICAL}
-    cluster = distributed.LocalCluster(**how)
+    # An interrupt from a terminal goes to the workers too, which end with this process: they, and what Python starts to count their semaphores, leave it
+    # to this one to say so.
+    os.environ["PYTHONWARNINGS"] = ",".join(filter(None, [os.environ.get("PYTHONWARNINGS"), "ignore:resource_tracker"]))
+    before = signal.signal(signal.SIGINT, signal.SIG_IGN)
+    try:
+        cluster = distributed.LocalCluster(**how)
+    finally:
+        signal.signal(signal.SIGINT, before)
     return by_dask(lambda: distributed.Client(cluster))
 
 
@@ -242,7 +257,7 @@ class Table:
             it.execute("INSERT OR REPLACE INTO share VALUES (?, ?, ?)", (number, len(rows), unread))
 
     def counted(self) -> Dict[str, int]:
-        """How many files there are, how many of them have a key, are refused or could not be read, and how many patterns and groups of doubles."""
+        """How many files there are, how many of them have a key, are refused or could not be read, and how many patterns and groups of duplicates."""
         self.database.execute("CREATE INDEX IF NOT EXISTS file_by_key ON file (key)")
         marks = ", ".join(f"'{it}'" for it in UNSETTLED)
         row = self.database.execute(f"""SELECT count(*), count(key), coalesce(sum(kind NOT IN ({marks})), 0), coalesce(sum(kind IN ({marks})), 0),
@@ -250,7 +265,7 @@ class Table:
         return dict(zip(("files", "keys", "refused", "unread", "patterns", "groups"), row))
 
     def doubles(self) -> Iterator[Tuple[str, str]]:
-        """Each file that is the same pattern as an earlier one, behind the first such one."""
+        """Each file that is the same pattern as an earlier one, after the first such one."""
         first = ""
         for number, own, path, member in self.database.execute("SELECT first, id, path, member FROM doubles"):
             name = path if member is None else f"{path}/{member}"
@@ -277,7 +292,7 @@ class Table:
 
 
 def digest_of(shares: Sequence[Share]) -> bytes:
-    """What tells two lists of shares apart, by their whole paths."""
+    """What is different for two different lists of shares, by their whole paths."""
     found = hashlib.sha256()
     for number, folder, paths, is_archive, form in shares:
         found.update(f"{number} {is_archive} {form}\0".encode())
@@ -292,9 +307,14 @@ def shares_of(paths: Sequence[str], form: str, is_archive: bool, size: int = SIZ
 
 
 def listed(file: BinaryIO) -> List[str]:
-    """The paths of a list: one on each line, or with a NUL behind each, as `find -print0` writes them."""
+    """The paths of a list: one on each line, or with a NUL after each, as `find -print0` writes them."""
     data = file.read()
     return [os.fsdecode(it) for it in data.split(b"\0" if b"\0" in data else b"\n") if it]
+
+
+def shown(name: str) -> str:
+    """A name as a terminal may show it: a control character, or one that turns the direction of text, as its number."""
+    return re.sub("[\\x00-\\x1f\\x7f-\\x9f\\u200e\\u200f\\u202a-\\u202e\\u2066-\\u2069]", lambda it: f"\\u{ord(it[0]):04x}", name)
 
 
 def tell(what: str) -> None:
@@ -302,7 +322,7 @@ def tell(what: str) -> None:
 
 
 def run(table: Table, shares: Sequence[Share], work: Work) -> List[int]:
-    """Does the shares that are left, and returns the numbers of those that failed, of which a run stands MOST_FAILED."""
+    """Does the shares that are left, and returns the numbers of those that failed, of which a run tolerates MOST_FAILED."""
     failed: List[int] = []
     start = spoken = time.monotonic()
     files = 0
@@ -315,6 +335,9 @@ def run(table: Table, shares: Sequence[Share], work: Work) -> List[int]:
         else:
             table.take(number, found)
             files += len(found)
+            for path, member, key, _, _, why in found:
+                if key is not None and why is not None:
+                    tell(f"warning: {shown(path if member is None else f'{path}/{member}')}: {why}")
         if time.monotonic() - spoken > SPOKEN:
             spoken = time.monotonic()
             tell(f"{count} of {len(shares)} shares, {files} files, {files / (spoken - start):.0f} in a second")
@@ -328,11 +351,11 @@ def shares_text(shares: Sequence[Share], number: int) -> str:
 
 
 def words_of(arguments: Optional[Sequence[str]]) -> argparse.Namespace:
-    """The words of the command line."""
+    """The arguments."""
     parser = argparse.ArgumentParser(
-        prog="collection.py", description="The keys and the doubles of a collection of pattern files, in one SQLite table. Each double is written as "
-        "`FIRST = OTHER`.", epilog="The status is 0; 1 where a share isn't done or a file can't be read, which the same words try again; 2 for words "
-        "that can't be followed.")
+        prog="collection.py", description="The keys and the duplicates of a collection of pattern files, in one SQLite table. Each duplicate is written as "
+        "`FIRST = OTHER`.", epilog="The status is 0; 1 where a share isn't done or a file can't be read, which the same command tries again; 2 for arguments "
+        "that can't be followed; 130 after Ctrl-C. A file that seems to have lost its line ends has a warning, here and in the column `why`.")
     parser.add_argument("files", nargs="*", metavar="FILE", help="a pattern file, which gzip may have packed; with --archive an archive of them")
     parser.add_argument("--from", dest="list", metavar="LIST", help="takes the paths from a file: one on a line, or a NUL behind each; - is standard "
                         "input")
@@ -380,7 +403,8 @@ def main(arguments: Optional[Sequence[str]] = None) -> int:
         if left:  # else no worker is wanted
             failed = run(table, left, by_this_process if workers == 0 and words.scheduler is None else dask_on(words.scheduler, workers))
     except (ImportError, OSError, sqlite3.Error) as why:  # no library, no scheduler for long, or a disk that is full
-        tell(f"{why}; the same words go on")
+        where = " (docs/LIBRARY.md says where it is looked for)" if isinstance(why, ImportError) else ""
+        tell(f"{why}{where}; the same command continues where it was")
         return 1
     counted = table.counted()
     for first, other in table.doubles():
@@ -395,5 +419,5 @@ if __name__ == "__main__":
     try:
         sys.exit(main())
     except KeyboardInterrupt:
-        tell("interrupted: the same words go on")
-        sys.exit(1)
+        tell("interrupted; the same command continues where it was")
+        os._exit(130)  # at once: what Dask would say of its end helps nobody, and its workers end with this process

@@ -1,7 +1,7 @@
--- For Golly (File, Run Script): tells the key of the open pattern, and which files of a table of keys are that pattern.
+-- For Golly (File, Run Script): shows the key of the open pattern, and which files of a table of keys are that pattern.
 --
 -- It needs the program golly_canon, and a table that it has made, say by
---     golly_canon keys --form turned ~/patterns/* > ~/keys
+--     golly_canon keys --form turned -r ~/patterns > ~/keys
 -- These may be set before Golly is started: GOLLY_CANON, the program (if none is named, golly_canon on the PATH); GOLLY_CANON_KEYS, the table (the
 -- file keys in the home folder); and GOLLY_CANON_FORM, the form of its keys (turned: in any place and direction). A key says the generation too, so a
 -- pattern that has run on is another one.

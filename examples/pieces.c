@@ -20,7 +20,7 @@ int main(void)
         return fputs("the file can't be read\n", stderr), 3;
     if (status == GOLLY_CANON_OK)
         status = golly_canon_finish(&stream, piece, 0, &needed, &line);
-    if (status == GOLLY_CANON_NO_ROOM) /* with the room that the text needs */
+    if (status == GOLLY_CANON_NO_ROOM) /* with as many bytes as the text needs */
         status = (text = calloc(needed, 1)) ? golly_canon_finish(&stream, text, needed, &needed, &line) : GOLLY_CANON_MEMORY;
     golly_canon_close(&stream);
     if (status == GOLLY_CANON_OK)

@@ -1,15 +1,16 @@
 #!/usr/bin/env python3
-"""Refuses each request for memory in turn, alone and together with all behind it: first those of the built program, PROGRAM, then those of CALLS,
-the built program of crates/check_allocations, which makes each call that takes memory of the libraries. What meets a refusal answers `Memory`, or
-does without that memory, and all else is as ever. A join of a square that is stored makes no request. The last line is 'N passed, M failed'. It
-needs a C compiler, for tests/devices/refuse_allocation.c.
+"""Refuses each request for memory in turn, alone and together with all after it: first those of the built program, PROGRAM, then those of CALLS and SQUARES,
+the built programs of crates/call_rows and crates/square_rows, which are given the rows that come after the line `# Memory:` of their files `stdin`. Together
+these make each call of the libraries that takes memory. What meets a refusal answers `Memory`, or does without that memory, and all else is as ever. A join of
+a square that is stored makes no request. The last line is 'N passed, M failed'. It needs a C compiler, for tests/devices/refuse_allocation.c.
 
-usage: tests/devices/allocations.py PROGRAM CALLS
+usage: tests/devices/allocations.py PROGRAM CALLS SQUARES
 """
 
 import hashlib
 import itertools
 import os
+import re
 import subprocess
 import sys
 import tempfile
@@ -19,6 +20,7 @@ from typing import NamedTuple
 sys.dont_write_bytecode = True  # nothing is left in tests/
 sys.path.insert(0, os.path.dirname(os.path.dirname(os.path.abspath(__file__))))
 
+from independent.commands import File  # noqa: E402
 from shared import counting, processes  # noqa: E402
 from shared.fixtures import FILES, LIFE, LINE_STEPPED, PAIR_RLE, PAIR_SHOWN, PAIR_TEXT, ROWS, SPREAD_STEPPED, canonical  # noqa: E402
 from shared.processes import Answer  # noqa: E402
@@ -27,7 +29,7 @@ ALWAYS = 1_000_000_000
 SECONDS = 10
 HERE = os.path.dirname(os.path.abspath(__file__))
 SOURCE = os.path.join(HERE, "refuse_allocation.c")
-ANSWERS = os.path.join(HERE, "../../crates/check_allocations/stdout")
+CRATES = os.path.join(HERE, "../../crates")
 
 
 class Run(NamedTuple):
@@ -51,8 +53,16 @@ def many_leaves():
     return b"[M2]\n" + leaves + b"#\n" * 2**20 + b"....*$$$$$$$$\n"
 
 
+def spread_row():
+    """A row of 80 cells, one in each 8 columns and not in the same one: its squares of level 4 and 5 are joined many at once."""
+    columns = [8 * number + number * 5 % 8 for number in range(80)]
+    gaps = [column - last - 1 for last, column in zip([-1, *columns], columns)]
+    return b"x = 640, y = 1, rule = B3/S23\n%s!\n" % b"".join(b"%db" % gap * bool(gap) + b"o" for gap in gaps)
+
+
 GIVEN = {
     **FILES,
+    "row.rle": spread_row(),
     "seven.mc": b"[M2] (golly 4.2)\n#R B3/S23\n" + SEVEN,
     "leaves.mc": many_leaves(),
     "child.mc": b"[M2]\n#R B3/S23\n....*$$$$$$$$\n4 0 0 0 9\n",
@@ -62,6 +72,7 @@ TWO_CELLS = b"[M2]\n#R WireWorld\n#G 7\n1 1 25 0 0"
 PROGRAM_RUNS = [
     Run("canon FILE", ["canon", "seven.mc"], Answer(0, LIFE + b"....*$$$$$$$$\n4 0 0 0 1\n")),
     Run("canon of RLE", ["canon", "pair.rle"], Answer(0, PAIR_TEXT)),
+    Run("canon of a row", ["canon", "row.rle"], Answer(0, File(GIVEN["row.rle"]).text)),
     Run("same A B", ["same", "pair.rle", "pair.mc"], Answer(0, b"same\n")),
     Run("canon FILE --form moved", ["canon", "pair.rle", "--form", "moved"], Answer(0, LIFE + b"*$$$$$$$$\n4 1 1 0 0\n5 0 0 0 2\n")),
     Run("canon FILE --form turned", ["canon", "pair.mc", "--form", "turned"], Answer(0, LIFE + b"*$$$$$$$$\n4 1 0 1 0\n5 0 0 0 2\n")),
@@ -79,7 +90,7 @@ PROGRAM_RUNS = [
 ]
 
 
-BAD_CHILD = b"child.mc: line 4: BadChild: A quarter of a square is no earlier square of the level below.\n"
+BAD_CHILD = b"child.mc: line 4: BadChild: A child number doesn't refer to an earlier square one level down.\n"
 
 
 def keys_run(name, words, texts):
@@ -101,6 +112,29 @@ def keys_run(name, words, texts):
     return Run(name, [*words, *named, "--from", "-"], answer(()), last.encode() + b"\n", others)
 
 
+def duplicates_run(name, words, groups):
+    """A run of `duplicates` over files that are these groups, of which a list names the last and words the others. One for which there is no memory is
+    told by its name, and is in no group."""
+    files = [(number, file) for number, group in enumerate(groups) for file in group]
+
+    def answer(without):
+        """The answer where there is no memory for the files at these places."""
+        kept = [[file for place, (number, file) in enumerate(files) if number == group and place not in without] for group in range(len(groups))]
+        kept = [group for group in kept if len(group) > 1]
+        told = b"".join(files[place][1] + b": Memory: Memory was refused.\n" for place in without)
+        text = b"\n".join(b"".join(file + b"\n" for file in group) for group in kept)
+        return Answer(4 if without else 0 if kept else 1, text, told)
+
+    counts = range(1, len(files) + 1)
+    others = tuple(answer(without) for count in counts for without in itertools.combinations(range(len(files)), count))
+    *named, last = (file.decode() for _, file in files)
+    return Run(name, [*words, *named, "--from", "-"], answer(()), last.encode() + b"\n", others)
+
+
+DUPLICATES_RUNS = [
+    duplicates_run("duplicates FILE.. --from -", ["duplicates"], [[b"pair.rle", b"pair.mc", b"pair.rle"], [b"seven.mc", b"seven.mc"]]),
+    duplicates_run("duplicates FILE.. --form placed --from -", ["duplicates", "--form", "placed"], [[b"seven.mc"], [b"pair.rle", b"pair.mc"]]),
+]
 KEYS_RUNS = [
     keys_run("keys FILE.. --from -", ["keys"],
              {b"pair.rle": PAIR_TEXT, b"child.mc": b"", b"seven.mc": LIFE + b"....*$$$$$$$$\n4 0 0 0 1\n", b"pair.mc": PAIR_TEXT}),
@@ -117,6 +151,7 @@ def program_runs(program):
         yield run._replace(answer=found._replace(status=run.answer.status))
     yield from PROGRAM_RUNS
     yield from KEYS_RUNS
+    yield from DUPLICATES_RUNS
 
 
 def program_problem(found, run):
@@ -124,26 +159,61 @@ def program_problem(found, run):
     return "" if found in (Answer(4, b"", b"Memory\n"), *run.others) else f"{found} and not {run.answer}"
 
 
-# ---- the calls: `Memory` where memory was refused, the right answer from each other one, before and after
+# ---- the rows: `Memory` where a call was refused memory, the right answer to each other one, before and after
+
+# What comes after the `Memory` of a part: that a reader is spent, or how many squares the store holds. A fault says its line, 0, before.
+OUT_OF_MEMORY = re.compile(rb"(.*?)(?:0 )?Memory(?: Spent)*(?:, \d+ of \d+ nodes)?")
+
+# A row that got no memory for its own input or answer.
+NO_MEMORY = b"no memory"
 
 
-def calls_run():
-    with open(ANSWERS, "rb") as it:
-        return Run("the calls of the libraries", [], Answer(0, it.read()))
+def rows_run(crate):
+    """The rows of a crate after the line `# Memory:`, and their answers, which are the last ones."""
+    with open(os.path.join(CRATES, crate, "stdin"), "rb") as it:
+        rows = [line for line in it.read().partition(b"\n# Memory:")[2].splitlines()[1:] if not line.startswith(b"#")]
+    with open(os.path.join(CRATES, crate, "stdout"), "rb") as it:
+        answers = it.read().splitlines()[:-1][-len(rows):]
+    return Run(f"the rows of {crate}", [], Answer(0, b"\n".join([*answers, b"%d rows\n" % len(rows)])), b"\n".join(rows))
 
 
-def refused_calls(found):
-    """The lines of the calls that answered `Memory`, each as if it had gone well."""
-    return {line.replace(b": Memory", b": ok") for line in found.output.splitlines() if line.endswith(b": Memory")}
+def parts_of(line):
+    """The answers of the calls of a row."""
+    return re.split(b" / | & ", line)
 
 
-def calls_problem(found, answer):
-    """What is wrong with a run of the calls."""
-    mended = found._replace(output=found.output.replace(b": Memory\n", b": ok\n"))
-    if mended == answer:
-        return ""
-    wrong = set(mended.output.splitlines()) ^ set(answer.output.splitlines())
-    return f"status {found.status}, {found.error!r}, {sorted(wrong)[:5]}"
+def is_refused(found, wanted):
+    """Whether a part says that it is out of memory. What it answered before is as ever."""
+    it = OUT_OF_MEMORY.fullmatch(found)
+    return bool(it) and found != wanted and wanted.startswith(it[1])
+
+
+def refused_parts(found, wanted):
+    """How many parts of a line were refused memory; nothing, where another part isn't as ever."""
+    if found == NO_MEMORY:
+        return 0
+    pairs = list(itertools.zip_longest(parts_of(found), parts_of(wanted), fillvalue=b""))
+    if not all(is_refused(*pair) or pair[0] == pair[1] for pair in pairs):
+        return None
+    return sum(is_refused(*pair) for pair in pairs)
+
+
+def refused_rows(found, run):
+    """For each row, how many of its parts were refused memory. No row is answered where the rows themselves weren't read."""
+    wanted = run.answer.output.splitlines()
+    lines = found.output.splitlines()
+    if found == Answer(1, b"", b""):
+        return [0] * len(wanted)
+    if len(lines) != len(wanted) or found._replace(output=b"") != run.answer._replace(output=b""):
+        return None
+    counts = [refused_parts(*pair) for pair in zip(lines, wanted)]
+    return None if None in counts else counts
+
+
+def rows_problem(found, run):
+    """What is wrong with a run of the rows."""
+    wrong = [pair for pair in zip(found.output.splitlines(), run.answer.output.splitlines()) if refused_parts(*pair) is None]
+    return f"status {found.status}, {found.error!r}, {wrong[:1]}"
 
 
 # ---- each request of a run refused in turn
@@ -170,8 +240,8 @@ class Requests:
 
     def by_line(self, run):
         """How many requests a run makes with ample memory for each line that it writes."""
-        found, (_, _, _, *ends) = self.reported(run, 0, 0)
-        return {line: end - start for line, start, end in zip(found.output.splitlines(), [0, *ends], ends)}
+        _, (_, _, _, *ends) = self.reported(run, 0, 0)
+        return [end - start for start, end in zip([0, *ends], ends)]
 
     def total(self, run):
         """How many requests a run makes, and what is wrong with it with ample memory."""
@@ -201,38 +271,35 @@ def program_checks(requests, pool, runs):
         yield f"{run.name}: each of {total} requests refused, {without} done without", problems
 
 
-# The joins of 64 squares that are stored, and the first join after them, of a new one.
-STORED, NEW = b"Shared 64 joins, again: ok", b"Shared a 65th join: ok"
-
-
 def stored_problems(requests, run):
-    """What is wrong with the requests of these joins. The new square shows that the list of levels is full when the others are joined again."""
-    made = requests.by_line(run)
-    if STORED not in made or NEW not in made:
-        return ["the joins, or the requests for their lines, were not seen"]
-    problems = [f"joins of stored squares make {made[STORED]} requests"] if made[STORED] else []
-    return problems if made[NEW] else [*problems, "the join of a new square makes no request"]
+    """What is wrong with the requests of the first three rows of squares: 64 joins, these twice on one store, and 65 joins. The last one shows that the list of
+    levels is full when the others are joined again. The rows take the memory for their answers and their lists of squares before."""
+    _, twice, more, *_ = requests.by_line(run)
+    row = run.source.splitlines()[0]
+    _, once, *_ = requests.by_line(run._replace(source=row + b"\n" + row))  # the first line's requests are those for the rows, too
+    problems = [f"joins of stored squares make {twice - once} requests"] if twice != once else []
+    return problems if more > once else [*problems, "the join of a new square makes no request"]
 
 
-def calls_checks(requests, pool, run):
-    """The same of the calls of the libraries. Each meets the refusal of one request, where it is made for the first time."""
+def rows_checks(requests, pool, run):
+    """The same of the rows. Each meets the refusal of one request, where it is made for the first time."""
     total, problems = requests.total(run)
     without, met = 0, set()
     for number, is_alone, found, refused in requests.refusals(pool, run, total):
-        meeting = refused_calls(found)
-        without += not meeting
+        counts = refused_rows(found, run)
         if refused == 0:
             problems.append(f"request {number} was not refused")
-        if problem := calls_problem(found, run.answer):
-            problems.append(f"request {number}: {problem}")
+        if counts is None:
+            problems.append(f"request {number}: {rows_problem(found, run)}")
+            continue
+        without += not any(counts)
         if is_alone:
-            met |= meeting
-            if len(meeting) > 1:
-                problems.append(f"request {number}: {len(meeting)} calls answered Memory")
+            met |= {place for place, count in enumerate(counts) if count}
+            if sum(counts) > 1:
+                problems.append(f"request {number}: {sum(counts)} calls answered Memory")
     yield f"{run.name}: each of {total} requests refused, {without} done without", problems
-    made = {line for line in run.answer.output.splitlines() if not line.endswith(b", again: ok")}
-    yield "each call meets a refusal", sorted(line.decode() for line in made - met)
-    yield "a join of a stored square makes no request", stored_problems(requests, run)
+    lines = run.source.splitlines()
+    yield f"{run.name}: each of {len(lines)} meets a refusal", [row.decode() for place, row in enumerate(lines) if place not in met]
 
 
 def put_files(folder):
@@ -241,14 +308,18 @@ def put_files(folder):
             file.write(text)
 
 
-def main(program, calls):
-    program, calls = map(processes.program_of, (program, calls))
+def main(program, calls, squares):
+    program, calls, squares = map(processes.program_of, (program, calls, squares))
     with tempfile.TemporaryDirectory() as folder, tempfile.TemporaryDirectory() as built, ThreadPoolExecutor(os.cpu_count()) as pool:
         refuse = processes.compiled(SOURCE, os.path.join(built, "refuse.so"), "-shared", "-fPIC")
         put_files(folder)
+        rows = rows_run("square_rows")
+        stored = Requests(squares, refuse, folder)
         checks = [
             program_checks(Requests(program, refuse, folder), pool, program_runs(program)),
-            calls_checks(Requests(calls, refuse, folder), pool, calls_run()),
+            rows_checks(Requests(calls, refuse, folder), pool, rows_run("call_rows")),
+            rows_checks(stored, pool, rows),
+            [("a join of a stored square makes no request", stored_problems(stored, rows))],
         ]
         for name, problems in (it for part in checks for it in part):
             counting.row(name, problems[:3])
@@ -256,6 +327,6 @@ def main(program, calls):
 
 
 if __name__ == "__main__":
-    if len(sys.argv) != 3:
-        sys.exit("usage: tests/devices/allocations.py PROGRAM CALLS")
+    if len(sys.argv) != 4:
+        sys.exit("usage: tests/devices/allocations.py PROGRAM CALLS SQUARES")
     sys.exit(main(*sys.argv[1:]))

@@ -1,9 +1,9 @@
 #!/usr/bin/env python3
 """Holds the documents against the repository: each file, heading and line of code that they link to, and each file that they name, is there; the table
-of sizes in docs/PROOFS.md is what scripts/sizes prints, and no clause is wider than 100 columns; each planted bug of its table is an edit that turns
-what the table says, and nothing else; no line of documents, definitions and proofs is too wide; the man page has a date and the version; and each place
-that names the kinds of fault has them all, with their numbers (scripts/kinds says which places). And each check in the folders of tests/ is run, by
-tests/all or by another one.
+of sizes in docs/PROOFS.md is what scripts/sizes prints, and no clause is wider than 100 columns; each deliberate bug of its table is an edit that changes
+what the table says, and nothing else; no line of documents, definitions and proofs is too wide; the man page has a date; each place that repeats the
+version has that of the file VERSION; and each place that names the kinds of fault has them all, with their numbers (scripts/kinds says which places).
+And each check in the folders of tests/ is run, by tests/all or by another one.
 
 usage: tests/documents/documents.py
 """
@@ -18,12 +18,13 @@ sys.path.insert(0, os.path.dirname(os.path.dirname(os.path.abspath(__file__))))
 from shared import counting  # noqa: E402
 
 TOP = os.path.dirname(os.path.dirname(os.path.dirname(os.path.abspath(__file__))))
-DOCUMENTS = ["README.md", "CHANGELOG.md", "tests/README.md", *sorted(f"docs/{it}" for it in os.listdir(os.path.join(TOP, "docs")) if it.endswith(".md"))]
+TOP_PAGES = ["README.md", "CHANGELOG.md", "CONTRIBUTING.md", "SECURITY.md", "tests/README.md"]
+DOCUMENTS = [*TOP_PAGES, *sorted(f"docs/{it}" for it in os.listdir(os.path.join(TOP, "docs")) if it.endswith(".md"))]
 SIZES = "docs/PROOFS.md"
 # A path in backticks: of a folder at the top, or of a crate, whose name may stand without `crates/`.
-NAMED = re.compile(r"`((?:docs|tests|scripts|bench|examples|include|completions|python|crates)/[\w./*-]+|(?:[a-z]+_)+[a-z]+/(?:src|specs|proofs)/[\w./+*-]+)`")
+NAMED = re.compile(r"`((?:docs|tests|scripts|bench|examples|include|completions|packages|python|crates)/[\w./*-]+|(?:[a-z]+_)+[a-z]+/(?:src|specs|proofs)/[\w./+*-]+)`")
 LINKED = re.compile(r"\]\(([^)#:\s]*)(?:#([^)\s]+))?\)")
-# A row of the table of planted bugs: the crate, the function, what is wrong, what is right, what is planted, and the edit.
+# A row of the table of deliberate bugs: the crate, the function, what is wrong, what is right, the bug, and the edit.
 PLANTED = re.compile(r"\| `(\w+)` \| `([\w:]+)` \| [^|]+ \| `([^`]+)` \| `([^`]+)` \| `(\w+)` \|")
 BUGS = 20
 # The most columns of a line, and what stands on one line however wide it is: a row of a table, a line of a program, and an import.
@@ -76,10 +77,28 @@ def widths():
 
 
 def of_page():
-    """Whether the man page has a date and the version of the library."""
-    version = re.search(r'^const VERSION: .* = b"([0-9.]+)";$', text_of("crates/golly_canon_c/src/names.rt"), re.MULTILINE)[1]
-    head = rf'\.TH GOLLY_CANON 1 "\d{{4}}-\d\d-\d\d" "golly_canon {re.escape(version)}" "User Commands"\n'
-    yield f"{PAGE}: a date and the version {version} in line 1", bool(re.match(head, text_of(PAGE)))
+    """Whether the man page has a date."""
+    yield f"{PAGE}: a date in line 1", bool(re.match(r'\.TH GOLLY_CANON 1 "\d{4}-\d\d-\d\d" ', text_of(PAGE)))
+
+
+# Where a file repeats the version that the file VERSION has.
+VERSIONED = {
+    "crates/life_cli/src/plans/commands.rt": r'\.version\("([^"]*)"\)',
+    "crates/golly_canon_c/src/names.rt": r'(?m)^const VERSION: .* = b"([^"]*)";$',
+    "python/golly_canon.py": r'(?m)^__version__ = "([^"]*)"$',
+    "include/golly_canon.h": r"which is that of the program, as `([^`]*)`",
+    PAGE: r'"golly_canon ([^"]*)" "User Commands"',
+    "CHANGELOG.md": r"(?m)^## (\S+)",
+}
+
+
+def of_version():
+    """Whether each place that repeats the version has that of the file VERSION."""
+    version = text_of("VERSION").strip()
+    yield f"VERSION: {version} is a version", bool(re.fullmatch(r"\d+\.\d+\.\d+", version))
+    for path, pattern in VERSIONED.items():
+        found = re.search(pattern, text_of(path))
+        yield f"{path}: the version {version}, and not {found and found[1]}", bool(found) and found[1] == version
 
 
 def of_kinds():
@@ -122,7 +141,7 @@ def findings():
             if not PATTERN.search(name):
                 yield f"{document}: {name}", is_there(name)
     planted = PLANTED.findall(text_of(SIZES))
-    yield f"{SIZES}: {BUGS} planted bugs, and not {len(planted)}", len(planted) == BUGS
+    yield f"{SIZES}: {BUGS} deliberate bugs, and not {len(planted)}", len(planted) == BUGS
     for crate, function, right, wrong, edit in planted:
         yield f"{SIZES}: {edit} of {function}", plants(crate, right, wrong, edit)
     printed = subprocess.run(["scripts/sizes"], cwd=TOP, stdout=subprocess.PIPE, text=True, check=True).stdout.splitlines()
@@ -131,6 +150,7 @@ def findings():
     for line in printed:
         yield f"{SIZES}: {line}", line in table
     yield from of_page()
+    yield from of_version()
     yield from of_kinds()
     yield from of_checks()
     yield from widths()

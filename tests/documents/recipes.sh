@@ -1,13 +1,14 @@
 #!/bin/sh
-# Runs the recipes of docs/RECIPES.md and docs/QUESTIONS.md as they stand there, in sh and in bash, with the program, $1, on the PATH, in a folder of their
-# own, and compares what they come to with what is known of the patterns in examples/ and of tables; and the examples and programs of both, of which
-# the examples say themselves what is written. It needs git, GNU parallel, rsync, sqlite3 and Python 3.
+# Runs the recipes of docs/RECIPES.md and docs/QUESTIONS.md as they stand there, in sh (which is dash in Debian), bash and zsh, with the program, $1, on the
+# PATH, in a folder of their own, and compares what they come to with what is known of the patterns in examples/ and of tables; and the examples and
+# programs of both, of which the examples say themselves what is written. It needs bgolly, git, GNU parallel, rsync, sqlite3 and Python 3.
 
 program=${1:?usage: tests/documents/recipes.sh PROGRAM}
 [ -x "$program" ] || { echo "there is no program $program"; exit 1; }
 for tool in git rsync sqlite3; do
     $tool --version > /dev/null 2>&1 || { echo "$tool is missing: apt-get install $tool"; exit 1; }
 done
+command -v bgolly > /dev/null || { echo "bgolly is missing: apt-get install golly"; exit 1; }
 parallel --version 2> /dev/null | grep -q '^GNU parallel' || { echo "GNU parallel is missing: apt-get install parallel"; exit 1; }
 top=$(cd "$(dirname "$0")/../.." && pwd)
 folder=$(mktemp -d) || exit 1
@@ -26,8 +27,8 @@ shift
 mkdir -p "$home" && cd "$home" && HOME=$home SHELL=/bin/sh exec sh -c "$*"
 END
 cp "$program" "$folder/bin/golly_canon" && chmod 755 "$folder/bin/golly_canon" || exit 1
-PATH=$folder/bin:$PATH
 HOME=$folder/home
+PATH=$folder/bin:$HOME/.local/bin:$PATH
 LC_ALL=C
 GIT_CONFIG_NOSYSTEM=1
 export PATH HOME LC_ALL GIT_CONFIG_NOSYSTEM
@@ -81,6 +82,11 @@ program_with() { # TEXT
 glider='[M2] (canonical 1)
 #R B3/S23
 $$..*$...*$.***$$$$'
+glider_for_golly='[M2]
+#R B3/S23
+$$$$$$......*$.......*$
+.....***$$$$$$$$
+4 1 0 2 0'
 glider_rle='#CXRLE Pos=-3,-2
 x = 3, y = 3, rule = B3/S23
 bo$2bo$3o!'
@@ -93,13 +99,14 @@ spellings() { # FOLDER
     printf '#C row by row\n#CXRLE Gen=0 Pos=-3,-2\nx=0,y=0\n.o.$\n..o$ooo' > "$1/other.rle"
 }
 
-# What the doubles of the folder `patterns` are, and which of its files have no key.
-told_doubles() {
-    wrote "$glider_key  patterns/a folder/\$(other) 'name'.mc
-$glider_key  patterns/a folder/of two
+# What the duplicates below the folder `patterns` are, and which of its files have no key. Each way of asking answers the same question.
+reported_duplicates() {
+    wrote "$turned_key  patterns/a folder/\$(other) 'name'.mc
+$turned_key  patterns/a folder/of two
 lines.rle
-$glider_key  patterns/glider.mc
-$glider_key  patterns/glider.rle"
+$turned_key  patterns/glider.mc
+$turned_key  patterns/glider.rle
+$turned_key  patterns/shifted.rle"
     equal "standard error" "$(grep '^patterns/' "$folder/err" | sort)" "$refused"
 }
 
@@ -130,27 +137,29 @@ lines.rle"
     : > patterns/empty
     echo "notes" > patterns/notes
     echo "notes" > patterns/more
-    recipe doubles
-    told_doubles
-    verdict "doubles, in $shell" "$problems"
+    turned_key=$(golly_canon canon --form turned glider.mc | sha256sum | cut -c 1-64)
+    recipe duplicates
+    reported_duplicates
+    verdict "duplicates, in $shell" "$problems"
 
     recipe processors
-    told_doubles
-    verdict "doubles by all processors, in $shell" "$problems"
+    reported_duplicates
+    verdict "duplicates by all processors, in $shell" "$problems"
 
-    # The files of the folder alone: two gliders, and one in another place.
-    turned_key=$(golly_canon canon --form turned glider.mc | sha256sum | cut -c 1-64)
-    recipe folder
-    wrote "$turned_key  patterns/glider.mc
-$turned_key  patterns/glider.rle
-$turned_key  patterns/shifted.rle"
-    equal "standard error" "$(cat "$folder/err")" "patterns/a folder: is a folder
-$refused"
-    verdict "doubles of the files of a folder, in $shell" "$problems"
+    # The same files, in the order of their names, in which a line end is escaped. The status is that of the refused files.
+    recipe folder 2
+    wrote "patterns/a folder/\$(other) 'name'.mc
+patterns/a folder/of two\\nlines.rle
+patterns/glider.mc
+patterns/glider.rle
+patterns/shifted.rle"
+    equal "standard error" "$(sort "$folder/err")" "$refused"
+    verdict "duplicates of a folder, in $shell" "$problems"
 
     # Golly's script, which no test runs, takes the lines of this table apart.
-    recipe golly 3 # one of the names is a folder
-    equal "the lines of a table" "$(grep -cxE '[0-9a-f]{64}  patterns/[a-z.]+' keys)" 5
+    recipe golly 2 # some files aren't patterns
+    equal "the lines of a table" "$(grep -cxE "[0-9a-f]{64}  $PWD/patterns/[a-z.]+" "$HOME/keys")" 5
+    equal "where the script looks for it" "$(sed -n 's/^local table_of_keys = .*"HOME".*"\(.*\)"$/\1/p' "$top/examples/golly_canon_key.lua")" /keys
     verdict "a table for Golly, in $shell" "$problems"
 
     recipe fill
@@ -169,8 +178,8 @@ patterns/shifted.rle
     for machines in : one,two; do
         export machines FAR="$PWD/far"
         recipe machines
-        told_doubles
-        verdict "doubles by the machines $machines, in $shell" "$problems"
+        reported_duplicates
+        verdict "duplicates by the machines $machines, in $shell" "$problems"
     done
     problems=
     equal "how many files the machines got" "$(find far/*/patterns -type f -exec echo one \; | wc -l)" "$(find patterns -type f -exec echo one \; | wc -l)"
@@ -192,7 +201,11 @@ x = 4, y = 4, rule = WireWorld
     verdict "generations by a table, in $shell" "$problems"
 
     table_recipes
-    stranger_recipe
+    recipe text
+    verdict "a script for one text that Golly opens, in $shell" "$problems"
+    text_recipe
+    untrusted_recipe
+    names_recipe
     git_recipes
 }
 
@@ -270,24 +283,109 @@ END
     done
 }
 
-# A file is replaced by its canonical text; one that is refused, and one whose text is too long, stay as they are, and nothing is left beside them.
-stranger_recipe() {
-    recipe stranger
-    cp glider.rle wanted.rle
-    ./in_place wanted.rle
-    equal "the status of a file" "$?" 0
-    equal "its text" "$(cat wanted.rle)" "$glider"
-    printf '[M2]\n4 0 0 0 9\n' > refused.mc
-    ./in_place refused.mc 2> told
+# How many cells Golly finds in a file.
+golly_cells() { # FILE
+    bgolly -a HashLife -m 0 "$1" 2>&1 | sed -n 's/^0: //p' | tr -d ,
+}
+
+# Golly opens the text of a pattern that lies in any of the four quarters about (0, 0), of which the canonical text is blank to it; each spelling has one
+# text, and nothing comes of a blank pattern, which a file that lost its line ends is too.
+text_recipe() {
+    problems=
+    equal "what Golly reads of the canonical text" "$(golly_canon canon glider.mc > leaf.mc && golly_cells leaf.mc)" 0
+    for at in -3,-2 0,0 -4,1 1,-4 3,3 -4,-4 0,-3 -1,-1 -20,7; do
+        printf '#CXRLE Pos=%s\nx = 3, y = 3\nbo$2bo$3o!\n' "$at" > at.rle
+        for format in mc rle; do
+            golly_text $format < at.rle > "at of.$format" || problems="$problems no $format of a glider at $at;"
+            equal "the pattern at $at as $format" "$(golly_canon same at.rle "at of.$format")" same
+            equal "the cells at $at as $format in Golly" "$(golly_cells "at of.$format")" 5
+        done
+        golly_canon canon at.rle | golly_text mc | cmp -s - "at of.mc" || problems="$problems the canonical text at $at has another text;"
+    done
+    equal "a large text" "$(golly_text mc < gun.mc | sha256sum)" "$(golly_canon canon gun.mc | sha256sum)"
+    equal "states" "$(golly_text mc < wire.rle | sha256sum)" "$(golly_canon canon wire.rle | sha256sum)"
+    for blank in '[M2]\n#R B3/S23\n' '[M2]\r#R B3/S23\r$$..*$...*$.***$\r' 'x = 0, y = 0\n!\n'; do
+        printf "$blank" > blank
+        for format in mc rle; do
+            golly_text $format < blank > told 2> "$folder/err" && problems="$problems a blank pattern has a text;"
+            equal "what a blank pattern has" "$(cat told "$folder/err")" "golly_text: the pattern is blank"
+        done
+    done
+    equal "a refused file" "$(printf '[M2]\n4 0 0 0 9\n' | golly_text mc 2>&1; echo $?)" "$(printf 'line 2: BadChild\n2')"
+    equal "no format" "$(golly_text 2>&1 < at.rle; echo $?)" "$(printf 'usage: golly_text rle|mc < FILE\n5')"
+    verdict "one text that Golly opens, in $shell" "$problems"
+}
+
+# A file is replaced by the one text of its pattern; one that is refused, and one whose text is too long, stay as they are, and nothing is left beside them.
+untrusted_recipe() {
+    recipe untrusted
+    mkdir own && cp glider.rle own/wanted.rle && cp glider.mc own/wanted.mc
+    for format in rle mc; do
+        ./in_place own/wanted.$format
+        equal "the status of a file" "$?" 0
+        equal "its text" "$(cat own/wanted.$format)" "$(golly_text $format < glider.$format)"
+        equal "what Golly reads of it" "$(golly_cells own/wanted.$format)" 5
+    done
+    printf '[M2]\n4 0 0 0 9\n' > own/refused.mc
+    ./in_place own/refused.mc 2> told
     equal "the status of a refused file" "$?" 2
-    equal "a refused file" "$(cat refused.mc)" "$(printf '[M2]\n4 0 0 0 9\n')"
+    equal "a refused file" "$(cat own/refused.mc)" "$(printf '[M2]\n4 0 0 0 9\n')"
     equal "the fault of a refused file" "$(cat told)" "line 2: BadChild"
-    sed 's/ulimit -f 2000000/ulimit -f 0/' in_place > tight
-    cp glider.rle long.rle
-    sh tight long.rle 2> told && problems="$problems a text that is too long was taken;"
-    equal "a file whose text is too long" "$(cat long.rle)" "$(cat glider.rle)"
-    [ "$(echo ./*.new)" = './*.new' ] || problems="$problems a file was left:$(echo ./*.new);"
-    verdict "the canonical text in the place of a file, in $shell" "$problems"
+    for long in rle mc; do
+        sed 's/ulimit -f 2000000/ulimit -f 0/' in_place > tight
+        cp glider.$long own/long.$long
+        sh tight own/long.$long 2> told && problems="$problems a text that is too long was taken;"
+        equal "a file whose text is too long" "$(cat own/long.$long)" "$(cat glider.$long)"
+    done
+    sed 's/timeout 60/timeout 0.01/; s/exec golly_text/sleep 9; exec golly_text/' in_place > late
+    sh late own/long.mc 2> told
+    equal "the status after too long a time" "$?" 124
+    equal "a file that takes too long" "$(cat own/long.mc)" "$(cat glider.mc)"
+    equal "the files" "$(ls -A own | tr '\n' ' ')" "long.mc long.rle refused.mc wanted.mc wanted.rle "
+    verdict "one text in the place of a file, in $shell" "$problems"
+}
+
+# What names may do: each file is replaced, keeps its mode, and no other file is made, changed or lost, also where one has the name of an older version of
+# the recipe's own. Links, and what they lead to, stay.
+names_recipe() {
+    problems=
+    mkdir names 'names/sub folder' && cp in_place "$folder/bin/in_place" && cd names || exit 1
+    for name in -x.rle -- -rf 'a b.rle' 'two
+lines.rle' 'end
+' '*.rle' '$(touch oops).rle' '`touch oops`.rle' "'quote\".rle" 'back\slash.rle' 'a=b.rle' '~.rle' 'sub folder/-y.rle' "$PWD/whole.rle"; do
+        case $name in /*) file=$name ;; *) file=./$name ;; esac
+        cp ../glider.rle "$file" && chmod 600 "$file"
+        timeout 20 in_place "$name" > told 2>&1 || problems="$problems '$name' isn't replaced: $(cat told);"
+        cmp -s "$file" ../own/wanted.rle || problems="$problems '$name' has another text;"
+        equal "the mode of '$name'" "$(stat -c %a "$file")" 600
+    done
+    rm told
+    equal "how many files there are" "$(find . -type f -exec echo one \; | wc -l)" 15
+    cd .. && mkdir beside && cd beside || exit 1
+    for file in y.rle WireWorld.rule; do
+        cp "$top/examples/WireWorld.rule" "$file" && echo "another upload" > "$file.new"
+    done
+    cp ../glider.rle y.rle && chmod 640 y.rle && echo "another upload" > .in_place.new
+    cp ../glider.rle real.rle && ln -s real.rle link.rle && ln -s nothing broken.rle
+    cp ../glider.rle one.rle && ln one.rle two.rle
+    mkdir folder.rle && mkfifo pipe.rle
+    printf '[M2]\r#R B3/S23\r$$..*$...*$.***$\r' > mac.mc && cp mac.mc ../mac.mc
+    in_place y.rle || problems="$problems y.rle isn't replaced;"
+    equal "y.rle" "$(cat y.rle)" "$(cat ../own/wanted.rle)"
+    equal "the mode of y.rle" "$(stat -c %a y.rle)" 640
+    for name in WireWorld.rule link.rle broken.rle one.rle two.rle folder.rle pipe.rle mac.mc absent.rle ''; do
+        timeout 20 in_place "$name" > told 2>&1 && problems="$problems '$name' is replaced;"
+        [ -s told ] || problems="$problems nothing is said of '$name';"
+    done
+    rm told
+    equal "files beside it" "$(cat y.rle.new WireWorld.rule.new .in_place.new | sort -u)" "another upload"
+    equal "where a link leads" "$(readlink link.rle) $(readlink broken.rle) $(stat -c %h one.rle two.rle | tr '\n' ' ')" "real.rle nothing 2 2 "
+    for name in real.rle one.rle two.rle; do cmp -s $name ../glider.rle || problems="$problems $name is another file;"; done
+    cmp -s mac.mc ../mac.mc || problems="$problems a file that lost its line ends is lost;"
+    equal "the files" "$(ls -A | tr '\n' ' ')" ".in_place.new WireWorld.rule WireWorld.rule.new broken.rle folder.rle link.rle mac.mc one.rle pipe.rle \
+real.rle two.rle y.rle y.rle.new "
+    cd ..
+    verdict "files of any names, with others beside them, in $shell" "$problems"
 }
 
 # Behind a commit of two gliders: their other spellings are no difference, and a cell more is one of canonical texts.
@@ -319,21 +417,33 @@ git_recipes() {
     recipe clean
     git add . && git commit -q -m gliders
     for format in mc rle; do
-        text=$glider
+        text=$glider_for_golly
         [ $format = mc ] || text=$glider_rle
         blob=$(printf '%s\n' "$text" | git hash-object --stdin)
         equal "the blobs of .$format" "$(git ls-files -s "*.$format" | cut -d ' ' -f 2 | tr '\n' ' ')" "$blob $blob "
         rm "other.$format" && git checkout -q -- "other.$format"
         equal "other.$format as it is checked out" "$(cat "other.$format")" "$text"
+        equal "what Golly reads of other.$format" "$(golly_cells "other.$format")" 5
     done
+    cp glider.mc -- '-x y
+z.mc' && chmod 600 ./-* && ln -s glider.rle link.rle && cp glider.mc kept.mc.new
+    git add . && git commit -q -m names
+    equal "a name of two lines" "$(git cat-file -p ':./-x y
+z.mc')" "$glider_for_golly"
+    equal "a link" "$(git cat-file -p :link.rle)" glider.rle
+    for blank in '[M2]\r#R B3/S23\r$$..*$...*$.***$\r' '[M2]\n'; do
+        printf "$blank" > mac.mc
+        git add mac.mc 2> "$folder/err" && problems="$problems a file that lost its line ends was added;"
+    done
+    rm mac.mc
     echo "notes" > notes.mc
     git add notes.mc 2> "$folder/err" && problems="$problems a file that is no pattern was added;"
-    equal "the files that are kept" "$(git ls-files | tr '\n' ' ')" ".gitattributes glider.mc glider.rle other.mc other.rle "
+    equal "the files that are kept" "$(git ls-files | tr '\n' ' ')" '"-x y\nz.mc" .gitattributes glider.mc glider.rle kept.mc.new link.rle other.mc other.rle '
     verdict "one text in git, in $shell" "$problems"
     cd .. || exit 1
 }
 
-for shell in sh bash; do
+for shell in sh bash zsh; do
     command -v $shell > /dev/null || { echo "skipped: the recipes in $shell, since it isn't installed"; continue; }
     mkdir "$folder/$shell" && cd "$folder/$shell" || exit 1
     each_recipe

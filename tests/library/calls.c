@@ -4,7 +4,9 @@
    calls moved FILE | turned FILE | same_moved A B | same_turned A B: the canonical text in a form, and the comparison
    calls key FILE | key_moved FILE | key_turned FILE: the 32 bytes of the key
    calls pieces N canon FILE | show FILE | rle FILE | step FILE | moved FILE | turned FILE: by a stream, which is fed N bytes at a time. Nothing is held at the end then,
-   also where memory is refused. */
+   also where memory is refused.
+   calls pieces N keys FILE | keys_moved FILE | keys_turned FILE: the same for the key, in the line that `keys` of the program writes; and if there is none, the line that
+   says why, with its sentence. */
 #include <golly_canon.h>
 #include <stdio.h>
 #include <stdlib.h>
@@ -60,6 +62,21 @@ static int refused(uint32_t status, uint64_t line, int in_table)
     if (line)
         fprintf(stderr, "%sline %llu: ", in_table || status == GOLLY_CANON_AMBIGUOUS ? "table " : "", (unsigned long long)line);
     fprintf(stderr, "%.*s\n", (int)needed, (const char *)name);
+    return status == GOLLY_CANON_FULL || status == GOLLY_CANON_MEMORY ? 4 : 2;
+}
+
+/* The same as `keys` of the program says it: with the name of the file before it, and the sentence of the fault after it. */
+static int refused_file(const char *file, uint32_t status, uint64_t line)
+{
+    unsigned char name[32] = {0}, sentence[256] = {0};
+    size_t needed;
+    if (golly_canon_status_name(status, name, sizeof name - 1, &needed) != GOLLY_CANON_OK
+        || golly_canon_sentence(status, sentence, sizeof sentence - 1, &needed) != GOLLY_CANON_OK)
+        return 99;
+    fprintf(stderr, "%s: ", file);
+    if (line)
+        fprintf(stderr, "line %llu: ", (unsigned long long)line);
+    fprintf(stderr, "%s: %s\n", (const char *)name, (const char *)sentence);
     return status == GOLLY_CANON_FULL || status == GOLLY_CANON_MEMORY ? 4 : 2;
 }
 
@@ -145,6 +162,7 @@ static uint32_t told(golly_canon_stream *stream, uint32_t status, uint64_t line)
     size_t needed = 12345;
     int stays = golly_canon_feed(stream, &byte, 1, &at) == status && at == line;
     stays = stays && golly_canon_finish(stream, &byte, 1, &needed, &at) == status && at == line && needed == 0;
+    stays = stays && golly_canon_finish_key(stream, &byte, 1, &needed, &at) == status && at == line && needed == 0;
     return stays ? status : 99;
 }
 
@@ -158,15 +176,17 @@ static uint32_t feed(golly_canon_stream *stream, FILE *source, unsigned char *pi
     return status == GOLLY_CANON_OK ? status : told(stream, status, *line);
 }
 
-/* Asks a stream for its text, with no more room than it needs. The caller frees the answer. */
-static uint32_t finish(golly_canon_stream *stream, struct bytes *answer, uint64_t *line)
+typedef uint32_t finish_call(golly_canon_stream *, unsigned char *, size_t, size_t *, uint64_t *);
+
+/* Asks a stream for its text or its key, with no more room than it needs. The caller frees the answer. */
+static uint32_t finish(finish_call *call, golly_canon_stream *stream, struct bytes *answer, uint64_t *line)
 {
     unsigned char none = 0;
-    uint32_t status = golly_canon_finish(stream, &none, 1, &answer->length, line);
+    uint32_t status = call(stream, &none, 1, &answer->length, line);
     if (status != GOLLY_CANON_NO_ROOM)
         return status == GOLLY_CANON_OK ? status : told(stream, status, *line);
     answer->at = calloc(answer->length, 1);
-    return answer->at ? golly_canon_finish(stream, answer->at, answer->length, &answer->length, line) : GOLLY_CANON_MEMORY;
+    return answer->at ? call(stream, answer->at, answer->length, &answer->length, line) : GOLLY_CANON_MEMORY;
 }
 
 static uint32_t open_moved(golly_canon_stream *stream, uint64_t limit, uint64_t seed)
@@ -182,12 +202,13 @@ static uint32_t open_turned(golly_canon_stream *stream, uint64_t limit, uint64_t
 static int stream(const char *word, const char *name, size_t size)
 {
     static char in[1 << 16];
-    open_call *open = !strcmp(word, "canon") ? golly_canon_open_canon
-        : !strcmp(word, "show")              ? golly_canon_open_show
-        : !strcmp(word, "rle")               ? golly_canon_open_to_rle
-        : !strcmp(word, "moved")             ? open_moved
-        : !strcmp(word, "turned")            ? open_turned
-                                             : golly_canon_open_step;
+    int is_key = !strncmp(word, "keys", 4);
+    open_call *open = !strcmp(word, "canon") || !strcmp(word, "keys") ? golly_canon_open_canon
+        : !strcmp(word, "show")                                      ? golly_canon_open_show
+        : !strcmp(word, "rle")                                       ? golly_canon_open_to_rle
+        : !strcmp(word, "moved") || !strcmp(word, "keys_moved")      ? open_moved
+        : !strcmp(word, "turned") || !strcmp(word, "keys_turned")    ? open_turned
+                                                                     : golly_canon_open_step;
     golly_canon_stream stream = {0};
     struct bytes answer = {NULL, 12345};
     unsigned char *piece = calloc(size, 1);
@@ -199,15 +220,17 @@ static int stream(const char *word, const char *name, size_t size)
     if (status == GOLLY_CANON_OK)
         status = feed(&stream, source, piece, size, &line);
     if (status == GOLLY_CANON_OK)
-        status = finish(&stream, &answer, &line);
+        status = finish(is_key ? golly_canon_finish_key : golly_canon_finish, &stream, &answer, &line);
     golly_canon_close(&stream);
     if (status == GOLLY_CANON_OK)
         fwrite(answer.at, 1, answer.length, stdout);
+    if (status == GOLLY_CANON_OK && is_key)
+        printf("  %s\n", name);
     if (source)
         fclose(source);
     free(piece);
     free(answer.at);
-    return status == GOLLY_CANON_OK ? 0 : refused(status, line, 0);
+    return status == GOLLY_CANON_OK ? 0 : is_key ? refused_file(name, status, line) : refused(status, line, 0);
 }
 
 int main(int count, char **words)

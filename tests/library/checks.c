@@ -292,24 +292,28 @@ static uint32_t open_turned(golly_canon_stream *stream, uint64_t limit, uint64_t
     return golly_canon_open_canon_form(stream, GOLLY_CANON_TURNED, limit, seed);
 }
 
-/* A file of a stream, and the text that its finish gives. */
+/* A file of a stream, the text that its finish gives, and the SHA-256 of that text, by sha256sum. */
 typedef uint32_t open_call(golly_canon_stream *, uint64_t, uint64_t);
 static const struct {
     const char *what;
     open_call *open;
     const unsigned char *file;
     size_t length;
-    const char *text;
+    const char *text, *key;
 } given[] = {
-    {"canon in pieces", golly_canon_open_canon, BYTES(GLIDER), GLIDER_TEXT},
-    {"canon of a macrocell in pieces", golly_canon_open_canon, BYTES("[M2]\r\n#C\r\n#R 23/3\r\n.*$..*$***$\r\n4 0 0 0 1\r\n"), GLIDER_TEXT},
-    {"a last line without a line feed", golly_canon_open_canon, BYTES("x = 1, y = 1\no!"), "[M2] (canonical 1)\n#R B3/S23\n$$$$....*$$$$\n"},
-    {"what stands behind the end of the pattern is free", golly_canon_open_canon, BYTES(GLIDER "0o!\nx\n\0\n"), GLIDER_TEXT},
-    {"to_rle in pieces", golly_canon_open_to_rle, BYTES(GLIDER_TEXT), "#CXRLE Pos=0,0\nx = 3, y = 3, rule = B3/S23\nbo$2bo$3o!\n"},
-    {"show in pieces", golly_canon_open_show, BYTES(GLIDER), "rule B3/S23\ngeneration 0\npopulation 5\nbox 0 0 3 3\nnodes 1\n"},
-    {"step in pieces", golly_canon_open_step, BYTES("x = 3, y = 1\n3o!\n"), "[M2] (canonical 1)\n#R B3/S23\n#G 1\n$$$.....*$.....*$.....*$$$\n"},
-    {"a moved text in pieces", open_moved, BYTES("#CXRLE Pos=-12345,777\n" GLIDER), GLIDER_TEXT},
-    {"a turned text in pieces", open_turned, BYTES("x = 3, y = 3\n3o$o$bo!\n"), TURNED_TEXT},
+    {"canon in pieces", golly_canon_open_canon, BYTES(GLIDER), GLIDER_TEXT, GLIDER_KEY},
+    {"canon of a macrocell in pieces", golly_canon_open_canon, BYTES("[M2]\r\n#C\r\n#R 23/3\r\n.*$..*$***$\r\n4 0 0 0 1\r\n"), GLIDER_TEXT, GLIDER_KEY},
+    {"a last line without a line feed", golly_canon_open_canon, BYTES("x = 1, y = 1\no!"), "[M2] (canonical 1)\n#R B3/S23\n$$$$....*$$$$\n",
+     "0ae02ec45960848c21765cc8906b6ff3262e85be8d0316df59221f436440ba45"},
+    {"what stands behind the end of the pattern is free", golly_canon_open_canon, BYTES(GLIDER "0o!\nx\n\0\n"), GLIDER_TEXT, GLIDER_KEY},
+    {"to_rle in pieces", golly_canon_open_to_rle, BYTES(GLIDER_TEXT), "#CXRLE Pos=0,0\nx = 3, y = 3, rule = B3/S23\nbo$2bo$3o!\n",
+     "8a5a90318e8ab72ff38582aa6739e27d446785e6467559a5d765f4b5fc8da379"},
+    {"show in pieces", golly_canon_open_show, BYTES(GLIDER), "rule B3/S23\ngeneration 0\npopulation 5\nbox 0 0 3 3\nnodes 1\n",
+     "5630dd2f9de013234d0b817beb4d6099fd1115459c6c9b479e4945c848d0383b"},
+    {"step in pieces", golly_canon_open_step, BYTES("x = 3, y = 1\n3o!\n"), "[M2] (canonical 1)\n#R B3/S23\n#G 1\n$$$.....*$.....*$.....*$$$\n",
+     "a14b50c2a4d63d6691747d0a193d3e2ce177de09830734e252fe405787b82840"},
+    {"a moved text in pieces", open_moved, BYTES("#CXRLE Pos=-12345,777\n" GLIDER), GLIDER_TEXT, GLIDER_KEY},
+    {"a turned text in pieces", open_turned, BYTES("x = 3, y = 3\n3o$o$bo!\n"), TURNED_TEXT, TURNED_KEY},
 };
 
 /* A file that is refused: the first byte of `refused` is the first that is fed with the fault, and where it has no byte, finish tells the fault. */
@@ -345,6 +349,11 @@ static uint32_t finish(golly_canon_stream *stream, size_t room)
     return golly_canon_finish(stream, fresh(), room, &needed, &line);
 }
 
+static uint32_t finish_key(golly_canon_stream *stream, size_t room)
+{
+    return golly_canon_finish_key(stream, fresh(), room, &needed, &line);
+}
+
 static int is_fed(golly_canon_stream *stream, const void *piece, size_t length)
 {
     return feed(stream, piece, length) == GOLLY_CANON_OK && line == 0;
@@ -367,17 +376,35 @@ static int is_finished(golly_canon_stream *stream, const char *text)
         && is_text(finish(stream, WIDE), text) && line == 0;
 }
 
-/* A stream that has told its fault tells it again and again. */
+/* A stream that has given its key gives it again and again, and takes no piece. */
+static int is_keyed(golly_canon_stream *stream, const char *key)
+{
+    return finish_key(stream, 0) == GOLLY_CANON_NO_ROOM && needed == 64 && line == 0 && untouched_from(0)
+        && is_told(stream, BYTES("x"), GOLLY_CANON_SPENT, 0)
+        && finish_key(stream, 63) == GOLLY_CANON_NO_ROOM && needed == 64 && line == 0 && untouched_from(0)
+        && is_text(finish_key(stream, 64), key) && line == 0
+        && is_told(stream, BYTES(""), GOLLY_CANON_SPENT, 0)
+        && is_text(finish_key(stream, WIDE), key) && line == 0;
+}
+
+/* A stream that has reported its fault reports it again and again, whether it is asked for the text first or for the key. */
 static int is_refused(golly_canon_stream *stream, uint32_t status, uint64_t at)
 {
     return is_fault(finish(stream, WIDE), status, at) && is_told(stream, BYTES(GLIDER), status, at) && is_told(stream, BYTES(""), status, at)
-        && is_fault(finish(stream, 0), status, at);
+        && is_fault(finish_key(stream, WIDE), status, at) && is_fault(finish(stream, 0), status, at);
+}
+
+static int has_no_key(golly_canon_stream *stream, uint32_t status, uint64_t at)
+{
+    return is_fault(finish_key(stream, WIDE), status, at) && is_told(stream, BYTES(GLIDER), status, at) && is_fault(finish_key(stream, 0), status, at)
+        && is_refused(stream, status, at);
 }
 
 static int is_spent(golly_canon_stream *stream)
 {
     return is_fault(finish(stream, WIDE), GOLLY_CANON_SPENT, 0) && is_told(stream, BYTES(GLIDER), GOLLY_CANON_SPENT, 0)
-        && is_told(stream, BYTES(""), GOLLY_CANON_SPENT, 0) && is_fault(finish(stream, 0), GOLLY_CANON_SPENT, 0);
+        && is_told(stream, BYTES(""), GOLLY_CANON_SPENT, 0) && is_fault(finish(stream, 0), GOLLY_CANON_SPENT, 0)
+        && is_fault(finish_key(stream, WIDE), GOLLY_CANON_SPENT, 0) && is_fault(finish_key(stream, 0), GOLLY_CANON_SPENT, 0);
 }
 
 /* Feeds a file in pieces of this size, the first of them shorter by `offset`. */
@@ -393,18 +420,18 @@ static int are_fed(golly_canon_stream *stream, const unsigned char *file, size_t
     return is_fed(stream, file + length, 0);
 }
 
-/* Each text by pieces of each size, which begin with a piece of each smaller size. */
+/* Each text and each key by pieces of each size, which begin with a piece of each smaller size. Every other stream is asked for its key first. */
 static void texts_in_pieces(void)
 {
     golly_canon_stream stream = {0};
     size_t i, size, offset;
     for (i = 0; i < sizeof given / sizeof *given; i++) {
-        int holds = 1;
+        int holds = 1, turn = 0;
         for (size = 1; size <= given[i].length + 1; size++)
             for (offset = 0; offset < size; offset++)
                 holds = holds && given[i].open(&stream, LIMIT, SEED) == GOLLY_CANON_OK && are_fed(&stream, given[i].file, given[i].length, size, offset)
-                    && is_finished(&stream, given[i].text);
-        check(holds && size > 1, given[i].what);
+                    && (turn++ % 2 || is_keyed(&stream, given[i].key)) && is_finished(&stream, given[i].text) && is_keyed(&stream, given[i].key);
+        check(holds && size > 1 && turn > 1, given[i].what);
     }
     golly_canon_close(&stream);
 }
@@ -430,7 +457,7 @@ static void refusals_in_pieces(void)
             holds = holds && (at <= taken ? is_fed(&stream, file, at) : is_told(&stream, file, at, status, where));
             holds = holds && (length == taken ? is_fed(&stream, file + at, length - at)
                                               : is_told(&stream, file + at, length - at, status, where));
-            holds = holds && is_refused(&stream, status, where);
+            holds = holds && (at % 2 ? is_refused(&stream, status, where) : has_no_key(&stream, status, where));
         }
         check(holds && at > 0, refusals[i].what);
     }
@@ -469,7 +496,7 @@ static void closed_streams(void)
         holds = holds && given[row].open(&stream, LIMIT, SEED) == GOLLY_CANON_OK;
         holds = holds && (stop < 1 || is_fed(&stream, given[row].file, given[row].length / 2));
         holds = holds && (stop < 2 || is_fed(&stream, given[row].file + given[row].length / 2, given[row].length - given[row].length / 2));
-        holds = holds && (stop < 3 || is_finished(&stream, given[row].text));
+        holds = holds && (stop < 3 || (turn % 2 ? is_finished(&stream, given[row].text) : is_keyed(&stream, given[row].key)));
         holds = holds && (stop < 4 || given[row].open(&stream, LIMIT, SEED) == GOLLY_CANON_OK);
         golly_canon_close(&stream);
         holds = holds && is_spent(&stream);
@@ -486,6 +513,9 @@ static void open_streams(void)
               && is_finished(&stream, given[5].text), "an open stream is opened");
     check(golly_canon_open_canon(&stream, LIMIT, SEED) == GOLLY_CANON_OK && is_fed(&stream, BYTES(GLIDER)) && is_finished(&stream, GLIDER_TEXT),
           "a finished stream is opened");
+    check(golly_canon_open_canon(&stream, LIMIT, SEED) == GOLLY_CANON_OK && is_fed(&stream, BYTES("x = 1, y = 1\no!")) && is_keyed(&stream, given[2].key)
+              && open_turned(&stream, LIMIT, SEED) == GOLLY_CANON_OK && is_fed(&stream, BYTES(GLIDER)) && is_keyed(&stream, TURNED_KEY),
+          "a stream that has given its key is opened");
     check(golly_canon_open_step(&stream, LIMIT, SEED) == GOLLY_CANON_OK && is_told(&stream, BYTES("x\n"), GOLLY_CANON_BAD_HEADER, 1)
               && golly_canon_open_canon(&stream, LIMIT, SEED) == GOLLY_CANON_OK && is_fed(&stream, BYTES(GLIDER)) && is_finished(&stream, GLIDER_TEXT),
           "a refused stream is opened");
@@ -503,6 +533,9 @@ static void limited_streams(void)
     check(golly_canon_open_canon(&stream, 0, SEED) == GOLLY_CANON_OK, "a limit of 0 may be asked for");
     status = feed(&stream, BYTES(GLIDER));
     check((status == GOLLY_CANON_OK || status == GOLLY_CANON_FULL) && line == 0 && is_refused(&stream, GOLLY_CANON_FULL, 0), "a limit of 0 is full");
+    check(golly_canon_open_canon(&stream, 0, SEED) == GOLLY_CANON_OK, "a limit of 0 may be asked for again");
+    status = feed(&stream, BYTES(GLIDER));
+    check((status == GOLLY_CANON_OK || status == GOLLY_CANON_FULL) && line == 0 && has_no_key(&stream, GOLLY_CANON_FULL, 0), "and is full for a key");
     check(golly_canon_open_canon(&stream, UINT64_MAX, SEED) == GOLLY_CANON_OK && is_fed(&stream, BYTES(GLIDER)) && is_finished(&stream, GLIDER_TEXT),
           "a stream takes any limit");
     golly_canon_close(&stream);
@@ -567,6 +600,35 @@ static void names(void)
     check(golly_canon_version(fresh(), 1, &needed) == GOLLY_CANON_NO_ROOM && untouched_from(0), "the version may lack room");
 }
 
+static int is_sentence(uint32_t status, const char *sentence)
+{
+    return is_text(golly_canon_sentence(status, fresh(), WIDE, &needed), sentence);
+}
+
+/* Some sentences; scripts/kinds compares all of them with those of the program and of the man page. */
+static void sentences(void)
+{
+    static const char child[] = "A child number doesn't refer to an earlier square one level down.";
+    uint32_t status;
+    int holds = 1;
+    check(is_sentence(GOLLY_CANON_BAD_CHILD, child), "the sentence of a kind");
+    check(is_sentence(GOLLY_CANON_NO_HEADER, "The file begins with no header, neither [M2] nor x = .., or it ends before one."), "that of the first kind");
+    check(is_sentence(53, "A file has more than 2^30 bytes."), "that of the last kind");
+    check(is_sentence(GOLLY_CANON_SPENT, "A reader that has refused was used again."), "that of a stream that is spent");
+    check(is_sentence(GOLLY_CANON_NO_ROOM, "The text has more bytes than the memory that was given for it."), "that of a text that doesn't fit");
+    check(is_sentence(GOLLY_CANON_NO_FORM, "The number isn't that of a form of a pattern."), "that of no form");
+    check(is_sentence(GOLLY_CANON_OK, "") && is_sentence(24, "") && is_sentence(66, "") && is_sentence(UINT32_MAX, ""), "no fault has no sentence");
+    check(golly_canon_sentence(GOLLY_CANON_BAD_CHILD, fresh(), sizeof child - 2, &needed) == GOLLY_CANON_NO_ROOM && needed == sizeof child - 1
+              && untouched_from(0), "a sentence may lack room");
+    for (status = 0; status < 600; status++) {
+        size_t name;
+        holds = holds && golly_canon_status_name(status, fresh(), WIDE, &name) == GOLLY_CANON_OK
+            && golly_canon_sentence(status, fresh(), 200, &needed) == GOLLY_CANON_OK && (needed > 0) == (name > 0 && status != GOLLY_CANON_OK)
+            && (needed == 0 || memory[needed - 1] == '.');
+    }
+    check(holds, "each status with a name has a sentence, of 200 bytes at most");
+}
+
 /* Two threads, each on data and streams of its own. */
 static void *thread(void *given_count)
 {
@@ -588,7 +650,8 @@ static void *thread(void *given_count)
         for (at_byte = 0; at_byte < sizeof GLIDER - 1 && status == GOLLY_CANON_OK; at_byte++)
             status = golly_canon_feed(&stream, (const unsigned char *)GLIDER + at_byte, 1, &at);
         if (status != GOLLY_CANON_OK || golly_canon_finish(&stream, own, sizeof own, &length, &at) != GOLLY_CANON_OK
-            || length != sizeof GLIDER_TEXT - 1 || memcmp(own, GLIDER_TEXT, length))
+            || length != sizeof GLIDER_TEXT - 1 || memcmp(own, GLIDER_TEXT, length)
+            || golly_canon_finish_key(&stream, own, sizeof own, &length, &at) != GOLLY_CANON_OK || length != 64 || memcmp(own, GLIDER_KEY, length))
             ++*wrong;
     }
     golly_canon_close(&stream);
@@ -638,9 +701,86 @@ static void *deep_calls(void *given_count)
     status = golly_canon_open_step(&stream, LIMIT, SEED);
     if (status == GOLLY_CANON_OK)
         status = golly_canon_feed(&stream, BYTES(CORNERS), &at);
-    *wrong += status != GOLLY_CANON_OK || golly_canon_finish(&stream, own, sizeof own, &length, &at) != GOLLY_CANON_OK;
+    *wrong += status != GOLLY_CANON_OK || golly_canon_finish_key(&stream, own, sizeof own, &length, &at) != GOLLY_CANON_OK;
+    *wrong += golly_canon_finish(&stream, own, sizeof own, &length, &at) != GOLLY_CANON_OK;
     golly_canon_close(&stream);
     return NULL;
+}
+
+/* Where there are no bytes, NULL is an address as any other: each call answers as it does of an address of this program. */
+static void no_bytes(void)
+{
+    static unsigned char nothing[1];
+    uint64_t at[2];
+    size_t needed[2];
+    uint32_t status[2], same[2], in_table[2], form;
+    int turn;
+    golly_canon_stream stream = {0};
+    /* Twice: with an address, and with NULL. Of no bytes, and of a file whose text has no room. */
+#define TWICE(name, call)                                                                                        \
+    do {                                                                                                         \
+        for (turn = 0; turn < 2; turn++) {                                                                       \
+            unsigned char *none = turn ? NULL : nothing;                                                         \
+            at[turn] = needed[turn] = 77;                                                                        \
+            same[turn] = in_table[turn] = 77;                                                                    \
+            status[turn] = call;                                                                                 \
+        }                                                                                                        \
+        check(status[0] == status[1] && at[0] == at[1] && needed[0] == needed[1] && same[0] == same[1]           \
+              && in_table[0] == in_table[1] && status[1] == (none_wanted), "NULL for no bytes: " name);          \
+    } while (0)
+    uint32_t none_wanted = GOLLY_CANON_NO_HEADER;
+    TWICE("canon", golly_canon_canon(none, 0, LIMIT, SEED, none, 0, &needed[turn], &at[turn]));
+    TWICE("to_rle", golly_canon_to_rle(none, 0, LIMIT, SEED, none, 0, &needed[turn], &at[turn]));
+    TWICE("show", golly_canon_show(none, 0, LIMIT, SEED, none, 0, &needed[turn], &at[turn]));
+    TWICE("step", golly_canon_step(none, 0, LIMIT, SEED, none, 0, &needed[turn], &at[turn]));
+    TWICE("step_by_table, no pattern",
+          golly_canon_step_by_table(none, 0, BYTES(SPREAD), LIMIT, SEED, none, 0, &needed[turn], &at[turn], &in_table[turn]));
+    TWICE("same", golly_canon_same(none, 0, none, 0, LIMIT, SEED, &same[turn], &at[turn]));
+    TWICE("same, the first", golly_canon_same(none, 0, BYTES(CORNERS), LIMIT, SEED, &same[turn], &at[turn]));
+    TWICE("same, the second", golly_canon_same(BYTES(CORNERS), none, 0, LIMIT, SEED, &same[turn], &at[turn]));
+    for (form = GOLLY_CANON_PLACED; form <= GOLLY_CANON_TURNED; form++) {
+        TWICE("canon_form", golly_canon_canon_form(none, 0, form, LIMIT, SEED, none, 0, &needed[turn], &at[turn]));
+        TWICE("key", golly_canon_key(none, 0, form, LIMIT, SEED, none, 0, &needed[turn], &at[turn]));
+        TWICE("same_form", golly_canon_same_form(none, 0, none, 0, form, LIMIT, SEED, &same[turn], &at[turn]));
+        TWICE("same_form, the first", golly_canon_same_form(none, 0, BYTES(CORNERS), form, LIMIT, SEED, &same[turn], &at[turn]));
+        TWICE("same_form, the second", golly_canon_same_form(BYTES(CORNERS), none, 0, form, LIMIT, SEED, &same[turn], &at[turn]));
+    }
+    none_wanted = GOLLY_CANON_NO_RULE_LINE;
+    TWICE("step_by_table, no table",
+          golly_canon_step_by_table(BYTES(NAMED_CORNERS), none, 0, LIMIT, SEED, none, 0, &needed[turn], &at[turn], &in_table[turn]));
+    none_wanted = GOLLY_CANON_NO_ROOM;
+    TWICE("the length of a text", golly_canon_canon(BYTES(CORNERS), LIMIT, SEED, none, 0, &needed[turn], &at[turn]));
+    TWICE("the length of RLE", golly_canon_to_rle(BYTES(CORNERS), LIMIT, SEED, none, 0, &needed[turn], &at[turn]));
+    TWICE("the length of five lines", golly_canon_show(BYTES(CORNERS), LIMIT, SEED, none, 0, &needed[turn], &at[turn]));
+    TWICE("the length of a step", golly_canon_step(BYTES(GLIDER), LIMIT, SEED, none, 0, &needed[turn], &at[turn]));
+    TWICE("the length of a step by a table",
+          golly_canon_step_by_table(BYTES(WIRE), BYTES(SPREAD), LIMIT, SEED, none, 0, &needed[turn], &at[turn], &in_table[turn]));
+    TWICE("the length of a moved text",
+          golly_canon_canon_form(BYTES(CORNERS), GOLLY_CANON_MOVED, LIMIT, SEED, none, 0, &needed[turn], &at[turn]));
+    TWICE("the length of a key", golly_canon_key(BYTES(CORNERS), GOLLY_CANON_MOVED, LIMIT, SEED, none, 0, &needed[turn], &at[turn]));
+    TWICE("the length of a name", golly_canon_status_name(GOLLY_CANON_FULL, none, 0, &needed[turn]));
+    TWICE("the length of a sentence", golly_canon_sentence(GOLLY_CANON_FULL, none, 0, &needed[turn]));
+    TWICE("the length of the version", golly_canon_version(none, 0, &needed[turn]));
+    none_wanted = GOLLY_CANON_OK;
+    TWICE("no sentence", golly_canon_sentence(GOLLY_CANON_OK, none, 0, &needed[turn]));
+    TWICE("no name", golly_canon_status_name(66, none, 0, &needed[turn]));
+    TWICE("a piece", (golly_canon_open_canon(&stream, LIMIT, SEED), golly_canon_feed(&stream, none, 0, &at[turn])));
+    none_wanted = GOLLY_CANON_NO_HEADER;
+    TWICE("a stream of no bytes", (golly_canon_open_canon(&stream, LIMIT, SEED), golly_canon_feed(&stream, none, 0, &at[turn]),
+                                   golly_canon_finish(&stream, none, 0, &needed[turn], &at[turn])));
+    TWICE("the key of a stream of no bytes", (golly_canon_open_canon(&stream, LIMIT, SEED), golly_canon_feed(&stream, none, 0, &at[turn]),
+                                              golly_canon_finish_key(&stream, none, 0, &needed[turn], &at[turn])));
+    none_wanted = GOLLY_CANON_NO_ROOM;
+    TWICE("the length of a stream's text", (golly_canon_open_canon(&stream, LIMIT, SEED), golly_canon_feed(&stream, BYTES(CORNERS), &at[turn]),
+                                            golly_canon_finish(&stream, none, 0, &needed[turn], &at[turn])));
+    TWICE("the length of a stream's key", (golly_canon_open_canon(&stream, LIMIT, SEED), golly_canon_feed(&stream, BYTES(CORNERS), &at[turn]),
+                                           golly_canon_finish_key(&stream, none, 0, &needed[turn], &at[turn])));
+    none_wanted = GOLLY_CANON_SPENT;
+    TWICE("a piece after the key", golly_canon_feed(&stream, none, 0, &at[turn]));
+    golly_canon_close(&stream);
+    TWICE("a closed stream", golly_canon_finish(&stream, none, 0, &needed[turn], &at[turn]));
+    TWICE("the key of a closed stream", golly_canon_finish_key(&stream, none, 0, &needed[turn], &at[turn]));
+#undef TWICE
 }
 
 /* The stack that the header names suffices. */
@@ -665,7 +805,9 @@ int main(void)
     forms();
     streams();
     names();
+    sentences();
     threads();
+    no_bytes();
     small_stack();
     printf("%d passed, %d failed\n", passed, failed);
     return failed != 0;

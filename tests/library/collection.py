@@ -1,7 +1,7 @@
 #!/usr/bin/env python3
-"""examples/collection.py: its table, doubles and refusals, of files and of archives; the same table from a cluster of this machine where a worker is
+"""examples/collection.py: its table, duplicates and refusals, of files and of archives; the same table from a cluster of this machine where a worker is
 killed in the middle of a share, and where the scheduler is killed and another one starts; a share that is done twice, and one that kills each worker;
-and a run that is cut off and goes on. A named pipe in the list holds a worker until the test writes the pattern into it, so nothing hangs on how fast
+and a run that is cut off or interrupted, and goes on. A named pipe in the list holds a worker until the test writes the pattern into it, so nothing hangs on how fast
 the machine is. Where no Python here has Dask, what takes it is skipped. The library is linked from ARCHIVE, which tests/library/library.sh leaves;
 without one PYTHONPATH names the module golly_canon, and that finds the library. The last line is 'N passed, M failed'.
 
@@ -198,7 +198,7 @@ def of_one_process(paths):
     refused = [it[1:] for it in found if it[0].endswith(".mc")]
     check(refused == [(None, None, "BadChild", 4, "line 4: BadChild")] * 4, f"refusals: {refused}")
     wanted = ["glider.rle = held.rle"] + [f"{number:03}a.rle = {number:03}b.rle" for number in range(PATTERNS)]
-    check(output.splitlines() == wanted, f"the doubles: {output[:200]}")
+    check(output.splitlines() == wanted, f"the duplicates: {output[:200]}")
     counts = "collection: 306 files, 302 keys, 4 refused, 0 unread, 201 patterns, 101 groups\n"
     check(errors == counts, f"the counts: {errors}")
     return found
@@ -258,6 +258,67 @@ def of_unread():
     names = os.fsdecode(b"names/a\nb.rle\0names/\xff.rle\0")
     status, _, errors = ran("--table", "names.sqlite", "--from", "-", *WITHOUT_DASK, given=names)
     check(status == 0 and [it[0] for it in rows("names.sqlite")] == ["names/a\nb.rle", "names/\\xff.rle"], f"names: {errors}")
+
+
+LOST = b"[M2] (golly 4.2)\r#R B3/S23\r$$..*$...*$.***$\r"
+
+
+def of_line_ends():
+    """A macrocell file that seems to have lost its line ends has its key and a warning, in the table and on standard error, in an archive too."""
+    names = ["lost\x1b[2J.mc", "whole.mc"]
+    for name, data in zip(names, (LOST, LOST.replace(b"\r", b"\n"))):
+        with open(name, "wb") as it:
+            it.write(data)
+    with zipfile.ZipFile("lost.zip", "w") as it:
+        it.write(names[0], "inner.mc")
+    for table, words, name in (("lost.sqlite", names, "lost\\u001b[2J.mc"), ("lost_zip.sqlite", ["--archive", "lost.zip"], "lost.zip/inner.mc")):
+        status, _, errors = ran("--table", table, "--workers", "0", *words)
+        found = rows(table)
+        why = found[0][5] or ""
+        check(status == 0 and found[0][2] is not None and "line ends" in why and "\x1b" not in errors, f"lost line ends: {found[0]}, {errors!r}")
+        check(errors.splitlines()[0] == f"collection: warning: {name}: {why}", f"its warning: {errors!r}")
+        check(len(found) == 1 or found[1][2:] == (hashlib.sha256(LIFE + b"$$..*$...*$.***$$$$\n").digest(), None, None, None), f"a file with line ends: {found[1:]}")
+
+
+def interrupted(python, table, *words):
+    """Interrupts a run as a terminal does by Ctrl-C, with all that it started, while a worker reads the pipe. Returns its status, its errors, and
+    whether all that it started has ended too."""
+    run = started(python, table, *words)
+    with reading(HELD):
+        os.killpg(run.pid, signal.SIGINT)
+        try:
+            _, errors = run.communicate(timeout=PATIENCE)
+        except subprocess.TimeoutExpired:
+            killed(run)
+            errors = f"it goes on: {run.communicate()}"
+    try:
+        until(lambda: not any(session_of(it) == run.pid for it in filter(str.isdigit, os.listdir("/proc"))))
+        is_over = True
+    except TimeoutError:
+        is_over = False
+    killed(run)
+    return run.returncode, errors, is_over
+
+
+def session_of(process):
+    """The session of a process, or None where there is none."""
+    try:
+        with open(f"/proc/{process}/stat", encoding="utf-8", errors="replace") as it:
+            state, _, _, session = it.read().rpartition(") ")[2].split()[:4]
+            return None if state == "Z" else int(session)
+    except OSError:
+        return None
+
+
+def of_interrupt(python, wanted, *words):
+    """Ctrl-C ends a run with one line and status 130, and the same command goes on."""
+    table = f"interrupted{len(words)}.sqlite"
+    status, errors, is_over = interrupted(python, table, *words)
+    said = "collection: interrupted; the same command continues where it was\n"
+    check(status == 130 and errors == said, f"Ctrl-C, {words}: status {status}, {errors!r}")
+    check(is_over, f"what was started ends with it, {words}")
+    status, _, errors = end_of(started(python, table, *words), HELD)
+    check(status == 0 and rows(table) == wanted, f"the same command after Ctrl-C, {words}: status {status}, {errors}")
 
 
 def of_words():
@@ -514,7 +575,9 @@ def all_of(paths):
     of_archives(paths)
     of_page()
     of_unread()
+    of_line_ends()
     of_words()
+    of_interrupt(sys.executable, wanted, *WITHOUT_DASK)
     of_shares(paths)
     of_futures()
     of_two_runs(wanted)
@@ -523,6 +586,7 @@ def all_of(paths):
     if python:
         of_cluster(python, wanted)
         of_local_workers(python, wanted)
+        of_interrupt(python, wanted, "--workers", "2", "--share", SHARE)
     else:
         print("skipped: a cluster, since no Python here has Dask (apt-get install python3-distributed)")
 

@@ -1,13 +1,15 @@
 #!/usr/bin/env python3
 """Calls the shared library by ctypes, beside the program, on each file of a folder and on files that are refused, by each limit of a store in turn
 beside the independent reader, with the limit that suffices for the bytes of a file, and from two threads at once; streams, fed in random pieces,
-beside the calls on whole files; and the forms of small and random files, their keys too, beside the independent reader. The last line is
-'N passed, M failed'.
+beside the calls on whole files, with their keys; the sentence of each kind of fault, beside the man page; and the forms of small and random files, their
+keys too, beside the independent reader. The last line is 'N passed, M failed'.
 
 usage: tests/library/library.py PROGRAM FOLDER"""
 
 import ctypes
 import hashlib
+import importlib.machinery
+import importlib.util
 import os
 import pathlib
 import random
@@ -15,7 +17,8 @@ import sys
 import threading
 from typing import NamedTuple
 
-sys.path.insert(0, os.path.dirname(os.path.dirname(os.path.abspath(__file__))))
+TOP = os.path.dirname(os.path.dirname(os.path.dirname(os.path.abspath(__file__))))
+sys.path.insert(0, os.path.join(TOP, "tests"))
 
 from independent import commands, forms, rle, rules  # noqa: E402
 from independent.fuzz import random_files, small_files  # noqa: E402
@@ -68,14 +71,15 @@ STEPPED = {
     "no header": (b"o!\n", small_files.SPREAD_TABLE, 0),
 }
 
-# Files with their least limits for a moved text, and for a comparison with the first of them, moved: of each file what reading it takes, then the squares
-# of the plane of the moved pattern, and its root.
+# Files with their least limits for a moved text, and for a comparison with the first of them, moved, counted with the squares of the independent reader:
+# of each file what reading it takes; then the square of the moved plane that begins at (0, 0) and has the level of the file's root, with its parts, or
+# those of the whole moved plane where the root is the whole plane; and the root of the moved pattern.
 MOVED = {
     "a glider": (small_files.LIFE_FILES["a glider"], 66, 66),
-    "a glider far away": (b"#CXRLE Pos=-12345,777\nx = 3, y = 3\nbo$2bo$3o!\n", 132, 132),
-    "the example glider.mc": (small_files.LIFE_FILES["the example glider.mc"], 70, 70),
+    "a glider far away": (b"#CXRLE Pos=-12345,777\nx = 3, y = 3\nbo$2bo$3o!\n", 85, 132),
+    "the example glider.mc": (small_files.LIFE_FILES["the example glider.mc"], 11, 70),
     "a blank plane": (b"x = 0, y = 0, rule = 23/3\n!\n", 0, 66),
-    "two states at the corner": (small_files.NAMED_FILES["two states at the corner"][0], 186, 252),
+    "two states at the corner": (small_files.NAMED_FILES["two states at the corner"][0], 125, 191),
     "cells at the ends of the plane": (b"#CXRLE Pos=-2305843009213693952,777\nx = 1, y = 1\no4611686018427387902bo!\n", 246, 309),
     "no header": (b"o!\n", 0, 66),
 }
@@ -156,9 +160,17 @@ def pieces_of(file, cutting):
         at += size
 
 
+def keyed(stream):
+    """The key that a stream gives at its end, or no bytes, with the status and the line."""
+    out, needed, line = ctypes.create_string_buffer(b"\xaa" * 64, 64), ctypes.c_size_t(7), ctypes.c_uint64(7)
+    status = library.golly_canon_finish_key(stream, out, ctypes.c_size_t(64), ctypes.byref(needed), ctypes.byref(line))
+    assert needed.value == (0 if status else 64) and (status == 0 or out.raw == b"\xaa" * 64)
+    return out.raw[: needed.value], status, line.value
+
+
 def by_stream(open_stream, cutting):
     """The call that feeds a stream a file in random pieces, with the arguments of the others. The fault of a line comes with its line feed, or at
-    the end where it has none, and then again and again."""
+    the end where it has none, and then again and again. The key is that of the text, also where it is asked for first."""
     def call(file, _, limit, seed, out, room, needed, line):
         stream = Stream()
         it, told, at = ctypes.byref(stream), (0, 0), 0
@@ -173,10 +185,15 @@ def by_stream(open_stream, cutting):
             else:
                 assert answer[0] == LINE_TOO_LONG or before < answer[1] <= file[:at].count(b"\n")
             told = answer
+        key = keyed(it) if cutting % 2 else None
         for _ in range(2):
             status = library.golly_canon_finish(it, out, room, needed, line)
             assert told == (status, line._obj.value) if told != (0, 0) else line._obj.value == 0 or line._obj.value > file.count(b"\n")
             told = status, line._obj.value
+        assert key in (None, keyed(it))
+        key = keyed(it)
+        assert key[1:] == ((0, 0) if status == NO_ROOM else told)
+        assert status or key[0] == hashlib.sha256(out.raw[: needed._obj.value]).hexdigest().encode()
         if status in (0, NO_ROOM):
             assert library.golly_canon_feed(it, b"x", ctypes.c_size_t(1), line) == SPENT
         library.golly_canon_close(it)
@@ -381,6 +398,24 @@ def same_in_form(first, second, form):
     return (0, b"same\n") if one == other else (1, b"different\n")
 
 
+def kinds_script():
+    """scripts/kinds as a module."""
+    loader = importlib.machinery.SourceFileLoader("kinds_script", os.path.join(TOP, "scripts", "kinds"))
+    module = importlib.util.module_from_spec(importlib.util.spec_from_loader("kinds_script", loader))
+    loader.exec_module(module)
+    return module
+
+
+def check_sentences():
+    """The sentence of each kind is that of the man page."""
+    kinds = kinds_script()
+    page = kinds.sentences_of_page()
+    check(len(page) >= 40, f"the man page has {len(page)} sentences")
+    for it in kinds.ALL:
+        found = c_interface.sentence_of(library, it.number)
+        check(found == page.get(it.name, found) and found != "", f"the sentence of {it.name}: {found}")
+
+
 def of_program(program, words, file):
     run = processes.run([program, *words], file)
     return run.output, run.error.decode()
@@ -401,6 +436,7 @@ def main(program, folder):
     check(text_of(library.golly_canon_canon, files["glider.mc"], 0)[1] == "Full\n", "a limit of 0")
     check(text_of(library.golly_canon_canon, files["glider.mc"], 2**64 - 1)[0] != b"", "the greatest limit")
 
+    check_sentences()
     check_streams(files)
     check_limits()
     check_room()

@@ -113,6 +113,9 @@ for file in files/*; do
     for size in 1 7 65536; do
         problems="$problems$(compared "pieces $size canon" "canon $file" "$file")$(compared "pieces $size show" "show $file" "$file")"
         problems="$problems$(compared "pieces $size rle" "convert $file --to rle" "$file")$(compared "pieces $size step" "step $file" "$file")"
+        problems="$problems$(compared "pieces $size keys" "keys --form placed $file" "$file")"
+        problems="$problems$(compared "pieces $size keys_moved" "keys --form moved $file" "$file")"
+        problems="$problems$(compared "pieces $size keys_turned" "keys --form turned $file" "$file")"
         count=$((count + 1))
     done
 done
@@ -125,6 +128,7 @@ if command -v valgrind > /dev/null; then
         "canon files/child.mc" "moved files/gosper_glider_gun.mc" "turned files/wire.rle" "key_moved files/glider.rle" "key_turned files/child.mc" \
         "same_moved files/glider.rle files/glider.mc" "same_turned files/glider.rle files/child.mc" \
         "pieces 1 canon files/gosper_glider_gun.mc" "pieces 7 show files/gosper_glider_gun.mc" "pieces 65536 rle files/gosper_glider_gun.mc" \
+        "pieces 1 keys files/gosper_glider_gun.mc" "pieces 7 keys_turned files/glider.rle" "pieces 1 keys_moved files/child.mc" \
         "pieces 7 step files/glider.rle" "pieces 1 canon files/child.mc" "pieces 7 step files/wire.rle" "pieces 1 show files/empty.rle"; do
         valgrind -q --error-exitcode=9 --leak-check=full --show-leak-kinds=all ./calls $words > out 2> err
         [ $? != 9 ] || problems="$problems $words: $(head -n 5 err);"
@@ -161,7 +165,8 @@ requests_refused() { # FIRST LAST WORDS..
     timeout 10 env FIRST="$first" LAST="$last" REPORT=report LD_PRELOAD=./refuse.so ./calls "$@" > out 2> err
     status=$?
     if [ "$status" != "$wanted_status" ] || ! cmp -s out wanted_out || ! cmp -s err wanted_err; then
-        [ "$first" -gt 0 ] && [ "$status" = 4 ] && [ "$(cat err)" = Memory ] && [ ! -s out ] || problems="$problems request $first: status $status;"
+        case $(cat err) in Memory | *": Memory: Memory was refused.") told=yes ;; *) told=no ;; esac
+        [ "$first" -gt 0 ] && [ "$status" = 4 ] && [ $told = yes ] && [ ! -s out ] || problems="$problems request $first: status $status;"
     fi
     [ "$1" != pieces ] || [ "$(cut -d ' ' -f 3 report)" = 0 ] || problems="$problems request $first: memory is held;"
 }
@@ -183,6 +188,10 @@ each_request pieces 7 step files/glider.rle
 each_request pieces 7 moved files/glider.rle
 each_request pieces 7 turned files/glider.mc
 each_request pieces 7 canon files/child.mc
+each_request pieces 1 keys files/glider.rle
+each_request pieces 7 keys_moved files/gosper_glider_gun.mc
+each_request pieces 7 keys_turned files/glider.mc
+each_request pieces 7 keys files/child.mc
 each_request pieces 65536 step files/wire.rle
 
 # ---- what is installed, and the programs of examples/
@@ -223,21 +232,31 @@ verdict "examples/pieces.c of a long text" "$(./pieces < soup.rle 2>&1 | cmp - w
     [ "$(wc -c < wanted_soup)" -gt 65536 ] || echo "a short text")"
 verdict "examples/pieces.c refuses" "$([ "$(cat comments files/zero.rle | ./pieces 2>&1)" = "line 5002: ZeroCount" ] || echo another)"
 verdict "examples/pieces.c refuses an empty file" "$([ "$(./pieces < files/empty.rle 2>&1)" = "line 1: NoHeader" ] || echo another)"
+# collection.py as it is installed finds the module and the library, without a word on where they are.
+printf '%s = %s\n' files/glider.rle other.rle > wanted_duplicates
+cp files/glider.rle other.rle
+(unset PYTHONPATH LD_LIBRARY_PATH GOLLY_CANON_LIBRARY; cd "$folder" && "$prefix/share/golly_canon/collection.py" --workers 0 --table all.sqlite files/glider.rle other.rle) 2> said |
+    diff - wanted_duplicates > differing
+counts="collection: 2 files, 2 keys, 0 refused, 0 unread, 1 patterns, 1 groups"
+verdict "collection.py as it is installed" "$(cat differing; grep -qx "$counts" said || cat said)"
 mkdir -p 'some files/deeper'
 cp files/glider.rle files/wire.rle files/child.mc 'some files'
 printf '[M2]\n#R b3s23\n.*$..*$***$\n4 0 0 0 1\n' > 'some files/deeper/a glider.mc'
 gzip -c files/glider.rle > 'some files/packed.rle.gz'
 head -c 30 'some files/packed.rle.gz' > 'some files/cut.gz'
+printf '[M2]\r#R B3/S23\r$$..*$\r' > 'some files/lost.mc'
+lost='line 1 has a carriage return inside it: the file seems to have lost its line ends, so that most of it is read as a comment'
 printf '%s\n' 'some files/child.mc: line 4: BadChild' 'some files/cut.gz: Compressed file ended before the end-of-stream marker was reached' \
-    'some files/deeper/a glider.mc = some files/glider.rle' 'some files/deeper/a glider.mc = some files/packed.rle.gz' > wanted
-python3 -B "$top/examples/doubles.py" 'some files' > out 2>&1
-verdict "examples/doubles.py" "$([ $? = 1 ] || echo ' another status')$(sort out | diff - wanted)"
+    'some files/deeper/a glider.mc = some files/glider.rle' 'some files/deeper/a glider.mc = some files/packed.rle.gz' \
+    "some files/lost.mc: warning: $lost" > wanted
+python3 -B "$top/examples/duplicates.py" 'some files' > out 2>&1
+verdict "examples/duplicates.py" "$([ $? = 1 ] || echo ' another status')$(sort out | diff - wanted)"
 printf 'x = 3, y = 3\n2o$obo$o!\n' > 'some files/turned.rle'
 sed 's/^.*packed.rle.gz$/&\nsome files\/deeper\/a glider.mc = some files\/turned.rle/' wanted > wanted_turned
-python3 -B "$top/examples/doubles.py" 'some files' turned > out 2>&1
-verdict "examples/doubles.py of turned patterns" "$([ $? = 1 ] || echo ' another status')$(sort out | diff - wanted_turned)"
-verdict "examples/doubles.py wants a form" "$(python3 -B "$top/examples/doubles.py" 'some files' shifted 2> /dev/null && echo ' status 0')"
-verdict "examples/doubles.py wants a folder" "$(python3 -B "$top/examples/doubles.py" 'no folder' 2> /dev/null && echo ' status 0')"
+python3 -B "$top/examples/duplicates.py" 'some files' turned > out 2>&1
+verdict "examples/duplicates.py of turned patterns" "$([ $? = 1 ] || echo ' another status')$(sort out | diff - wanted_turned)"
+verdict "examples/duplicates.py wants a form" "$(python3 -B "$top/examples/duplicates.py" 'some files' shifted 2> /dev/null && echo ' status 0')"
+verdict "examples/duplicates.py wants a folder" "$(python3 -B "$top/examples/duplicates.py" 'no folder' 2> /dev/null && echo ' status 0')"
 python3 -B "$top/tests/library/library.py" "$program" "$top/examples" > said 2>&1
 counted "the library from Python" $?
 python3 -B "$top/tests/library/module.py" "$program" > said 2>&1

@@ -92,6 +92,33 @@ def outcome_of(data, form):
     return answer.status, told(kind, " ".join([*line, ""]))
 
 
+# What is said of a macrocell file that has a key, and is probably meant otherwise.
+RETURN = b"line 1 has a carriage return inside it: the file seems to have lost its line ends, so that most of it is read as a comment"
+SQUARES = b"the file has no line of squares, so it is the blank pattern; a macrocell file that lost its line ends looks like this"
+COMMENT = b"a line such as `#RB36/S23` or `#G7`, without a space, is a comment here, and a rule or a generation in Golly"
+
+
+def warning_of(data):
+    """What is said of a file with a key, or nothing."""
+    first, *rest = data.split(b"\n")
+    if not first.startswith(b"[M2]"):
+        return None
+    if b"\r" in first.rstrip(b"\r"):
+        return RETURN
+    for number, line in enumerate(rest, 1):
+        if line.strip(b" \t\r") and line.strip(b" \t\r")[0] not in b"#\v\f":
+            return None
+        if number < len(rest) and re.match(rb"#(R([BbSs][0-8]|[0-8]*/)|G[0-9])", line):
+            return COMMENT
+    return SQUARES
+
+
+def warned(name, data):
+    """The line of a warning of a file with a key, or nothing."""
+    warning = warning_of(data)
+    return b"" if warning is None else b"%s: warning: %s\n" % (escaped(name), warning)
+
+
 def wanted(files, form="placed", is_zero=False):
     """The answer of a run over files, each a name and its bytes, or why it can't be read."""
     statuses, output, errors = [0], [], []
@@ -100,6 +127,7 @@ def wanted(files, form="placed", is_zero=False):
         statuses.append(status)
         if status == 0:
             output.append(key_line(said, name, is_zero))
+            errors.append(warned(name, data))
         else:
             errors.append(b"%s: %s\n" % (escaped(name), said.encode()))
     return Answer(max(statuses), b"".join(output), b"".join(errors))
@@ -180,7 +208,7 @@ WORKED = [
 ]
 # What a fault is told as, also worked out by hand.
 REFUSED = [
-    (b"child.mc", 2, b"child.mc: line 4: BadChild: A quarter of a square is no earlier square of the level below.\n"),
+    (b"child.mc", 2, b"child.mc: line 4: BadChild: A child number doesn't refer to an earlier square one level down.\n"),
     (b"empty", 2, b"empty: line 1: NoHeader: The file begins with no header, neither [M2] nor x = .., or it ends before one.\n"),
     (b"bad.rle", 2, b"bad.rle: line 2: StateRange: A state is above 1 under a B/S rule, or above 255 in a macrocell file.\n"),
     (b"long", 2, b"long: line 2: LineTooLong: A line of the file, or of the rule table, has more than 2^20 bytes.\n"),
@@ -305,7 +333,7 @@ def name_rows(place, texts):
     names = [NO_TEXT[0], ODD[0], *NO_TEXT[1:], ODD[4]]
     files = [(name, OTHER if name in NO_TEXT else place.files[name]) for name in names]
     place.row("names in a list that are no UTF-8", ["--zero", "--from", "-"], wanted(files, is_zero=True), listed(names, b"\0"))
-    place.row("a word that is no UTF-8", ["pair.rle", NO_TEXT[0]], MISUSED)
+    place.row("a word that is no UTF-8", ["pair.rle", NO_TEXT[0]], wanted([(b"pair.rle", SMALL[b"pair.rle"]), ("\ufffd".encode(), OTHER)]))
 
 
 # ---- words
@@ -379,7 +407,7 @@ def device_rows(place):
     names = [b"pair.mc", b"absent"] * 20_000
     place.put(b"list", listed(names))
     found = place.shell('"$program" keys --from list | head -n 1; exit ${PIPESTATUS[0]}')
-    right = (found.status, found.output) == (3, PAIR) and re.fullmatch(rb"(absent: no such file\n)*WriteFault\n", found.error)
+    right = (found.status, found.output) == (3, PAIR) and re.fullmatch(rb"(absent: no such file\n)*", found.error)
     counting.row("a reader that leaves after a line", [] if right and len(found.error) < 400_000 else [repr(found)[:300]])
 
 
@@ -431,7 +459,7 @@ def progress_rows(place):
     for name, more, seconds, answer in (
         ("a run that is held", ["pipe", "blank"], HELD, Answer(0, held + BLANK, b"\r1 of 2 files" + CLEARED)),
         ("cleared before a fault", words, HELD, Answer(3, held + BLANK + BLANK, b"\r1 of 4 files" + CLEARED + absent)),
-        ("a list", ["--from", "names"], HELD, Answer(3, held + BLANK + BLANK, b"\r1 files" + CLEARED + absent)),
+        ("a list", ["--from", "names"], HELD, Answer(3, held + BLANK + BLANK, b"\r1 of 4 files" + CLEARED + absent)),
         ("a quick run", words, 0, Answer(3, held + BLANK + BLANK, absent)),
     ):
         counting.row(f"progress on a terminal: {name}", problems_of(on_terminal(place, more, seconds), answer))
@@ -486,7 +514,7 @@ def random_rows(place, seed, count):
         answer = Answer(
             max(status for status, _ in named.values()),
             b"".join(key_line(said, name) for name, (status, said) in named.items() if status == 0),
-            b"".join(b"%s: %s\n" % (name, said.encode()) for name, (status, said) in named.items() if status),
+            b"".join(b"%s: %s\n" % (name, said.encode()) if status else warned(name, files[name][0]) for name, (status, said) in named.items()),
         )
         run = place.run(["--form", form, "--from", "-"], listed(named))
         keys, lines, their = answer.output.splitlines(), run.output.splitlines(), set(run.error.splitlines())

@@ -1,0 +1,454 @@
+#!/usr/bin/env python3
+"""Holds what the built program, PROGRAM, says beside its answers: which files `--recursive` finds in folders; which arguments are refused that aren't
+UTF-8 text; what `--explain` adds to the line of a fault, and a terminal without it; that nothing is said where the reader of a pipe leaves; of which
+macrocell files `keys` warns; and what a terminal gets of control characters. Every text was written by hand, but for the sentences of the kinds of
+fault, which are those of the man page.
+
+usage: tests/program/messages.py PROGRAM
+
+The last line counts the checks.
+"""
+
+import os
+import pty
+import shutil
+import socket
+import subprocess
+import sys
+import tempfile
+import tty
+
+sys.dont_write_bytecode = True  # nothing is left in tests/
+sys.path.insert(0, os.path.dirname(os.path.dirname(os.path.abspath(__file__))))
+
+import keys  # noqa: E402
+from keys import ABSENT, COMMENT, FOLDER, LOCKED, RETURN, SQUARES, key_line, key_of, problems_of, sentences  # noqa: E402
+from shared import counting, processes  # noqa: E402
+from shared.fixtures import FILES, HEADER, LIFE, PAIR_TEXT  # noqa: E402
+from shared.processes import Answer  # noqa: E402
+
+PAIR, BLANK = key_of(PAIR_TEXT), key_of(LIFE)
+# Who reads a folder that may not be read: root may read all.
+NOBODY = {"user": 65534, "group": 65534, "extra_groups": []} if os.getuid() == 0 else {}
+
+
+class Place(keys.Place):
+    """A folder in which the program runs, with any command."""
+
+    def told(self, words, source=b"", **how):
+        return processes.run([self.program, *words], source, cwd=self.here, timeout=300, **how)
+
+    def holds(self, name, words, answer, source=b"", **how):
+        counting.row(name, problems_of(self.told(words, source, **how), answer))
+
+    def path(self, name):
+        return os.path.join(os.fsencode(self.here), name)
+
+
+def lines_of(names, key=PAIR, is_zero=False):
+    return b"".join(key_line(key, name, is_zero) for name in names)
+
+
+# ---- folders
+
+# What is in the folder `tree`, in the order in which it is read. `a` comes before `a.d`, and what is in `b` before `b.rle`.
+IN_TREE = [b"a", b"a.d/y", b"b/d/e", b"b/x", b"b.rle", b"line\nfeed", b"z"]
+LOSSY = "caf\ufffd".encode()
+
+
+def plant(place):
+    """Makes the folder `tree`: files, links, and what is neither."""
+    for name in (b"tree/b/d", b"tree/a.d", b"tree/empty"):
+        os.makedirs(place.path(name))
+    for name in IN_TREE:
+        place.put(b"tree/" + name, FILES["pair.rle"])
+    place.put(b"pair", FILES["pair.mc"])
+    place.put(b"tree/caf\xe9", FILES["pair.mc"])
+    for link, to in (("l.rle", "../pair"), ("k.rle", "b.rle"), ("a.d/link", "../b"), ("around", ".."), ("dangling", "nowhere"), ("null", "/dev/null")):
+        os.symlink(to, place.path(b"tree/" + link.encode()))
+    os.mkfifo(place.path(b"tree/pipe"))
+    with socket.socket(socket.AF_UNIX) as it:
+        here = os.getcwd()
+        os.chdir(place.here)  # the name of a socket is short
+        it.bind("tree/socket")
+        os.chdir(here)
+    os.symlink("tree", place.path(b"link"))
+
+
+def folder_rows(place):
+    plant(place)
+    lost = b"tree/" + LOSSY + b": can't be opened\n"
+    found = lines_of([b"tree/" + name for name in IN_TREE])
+    for word in ("-r", "--recursive"):
+        place.holds(f"keys {word} of a folder", ["keys", word, "tree"], Answer(3, found, lost))
+    names = b"".join(b"tree/%s\n" % keys.escaped(name) for name in IN_TREE)
+    place.holds("duplicates -r of a folder", ["duplicates", "-r", "tree"], Answer(3, names, lost))
+    place.holds("a slash after the folder", ["keys", "tree/", "-r"], Answer(3, found, lost))
+    linked = lines_of([b"link/" + name for name in IN_TREE])
+    place.holds("a link to the folder", ["keys", "-r", "link"], Answer(3, linked, lost.replace(b"tree", b"link")))
+    words = ["keys", "-r", "pair", "tree/b", "-", "absent", "tree/a"]
+    names = [b"pair", b"tree/b/d/e", b"tree/b/x", b"-", b"tree/a"]
+    place.holds("folders among files", words, Answer(3, lines_of(names), b"absent: no such file\n"), PAIR_TEXT)
+    zeros = lines_of([b"tree/b/d/e", b"tree/b/x"], is_zero=True)
+    place.holds("names that end in NUL", ["keys", "--zero", "-r", "tree/b"], Answer(0, zeros))
+    place.holds("an empty folder", ["keys", "-r", "tree/empty"], Answer(0))
+    place.holds("a folder without the option", ["keys", "tree", "pair"], Answer(3, lines_of([b"pair"]), b"tree: is a folder\n"))
+    place.put(b"list", b"tree\npair\n")
+    place.holds("a folder in a list", ["keys", "-r", "--from", "list"], Answer(3, lines_of([b"pair"]), b"tree: is a folder\n"))
+    place.put(b"tree/" + LOSSY, FILES["input"])
+    place.holds("a file that has the name with U+FFFD", ["keys", "-r", "tree"], Answer(3, found, lost + lost))
+    os.remove(place.path(b"tree/" + LOSSY))
+    for name, mode in ((b"shut", 0), (b"hidden", 0o444)):
+        os.makedirs(place.path(b"doors/" + name))
+        place.put(b"doors/" + name + b"/x", FILES["pair.rle"])
+        place.put(b"doors/open", FILES["pair.rle"])
+        os.chmod(place.path(b"doors/" + name), mode)
+    answer = Answer(3, lines_of([b"doors/open"]), b"doors/hidden/x: permission denied\ndoors/shut: permission denied\n")
+    place.holds("folders that may not be read", ["keys", "-r", "doors"], answer, **NOBODY)
+    for name in (b"shut", b"hidden"):
+        os.chmod(place.path(b"doors/" + name), 0o755)
+    # Many levels, which are no longer than a path may be.
+    deep = b"deep" + b"/d" * 1500
+    place.shell(f"mkdir -p {deep.decode()}")
+    place.put(deep + b"/x", FILES["pair.rle"])
+    place.holds("1,500 folders, each in the one before", ["keys", "-r", "deep"], Answer(0, lines_of([deep + b"/x"])))
+    place.shell("rm -r deep")  # Python's own way would call itself too often
+    os.mkdir(place.path(b"wide"))
+    names = sorted(b"wide/%d" % number for number in range(3000))
+    for name in names:
+        place.put(name, FILES["pair.rle"])
+    place.holds("3,000 files in a folder", ["keys", "-r", "wide"], Answer(0, lines_of(names)))
+    answer = Answer(3, found + lines_of([b"pipe", b"pair"]), lost + b"\r9 of 10 files" + keys.CLEARED)
+    run = keys.on_terminal(place, ["-r", "tree", "pipe", "pair"], keys.HELD)
+    counting.row("progress knows how many files there are", problems_of(run, answer))
+
+
+# ---- arguments that are no text
+
+NO_TEXT = b"gl\xff\x1b"
+SHOWN = "error: an argument isn't UTF-8 text: gl\ufffd\\x1b\n".encode()
+
+
+def argument_rows(place):
+    lossy = "gl\ufffd\x1b: can't be opened\n".encode()
+    place.holds("a file among files", ["keys", NO_TEXT, "pair"], Answer(3, lines_of([b"pair"]), lossy))
+    place.holds("a file among duplicates", ["duplicates", "pair", NO_TEXT, "pair"], Answer(3, b"pair\npair\n", lossy))
+    place.holds("two files among files", ["keys", "pair", NO_TEXT, "pair", NO_TEXT], Answer(3, lines_of([b"pair"] * 2), lossy * 2))
+    place.holds("a file among folders", ["keys", "-r", "tree/b", NO_TEXT], Answer(3, lines_of([b"tree/b/d/e", b"tree/b/x"]), lossy))
+    place.put("gl\ufffd\x1b".encode(), FILES["pair.mc"])
+    place.put(NO_TEXT, FILES["pair.mc"])
+    place.holds("a file, where another has the name with U+FFFD", ["keys", NO_TEXT], Answer(3, b"", lossy))
+    for words in (["canon", NO_TEXT], ["same", "pair", NO_TEXT], ["step", "--table", NO_TEXT, "pair"], ["keys", "--from", NO_TEXT, "pair"]):
+        place.holds(f"no text: {words[0]!r} with {len(words)} words", words, Answer(5, b"", SHOWN))
+    # Where the arguments are at fault in another way, that is what is reported.
+    for words, said in (([NO_TEXT, "pair"], b"unrecognized subcommand"), (["keys", "--form", NO_TEXT, "pair"], b"the value of --form is"),
+                        (["duplicates", "--form", NO_TEXT, "pair"], b"the value of --form is"), (["show", NO_TEXT, NO_TEXT + b"x"], b"unexpected argument"),
+                        (["keys", "--frm", "turned", NO_TEXT], b"unexpected argument '--frm'"), (["keys", NO_TEXT, "-x"], b"unexpected argument '-x'")):
+        found = place.told(words)
+        counting.row(f"no text, and another fault: {words[0]!r} with {len(words)} words", [] if found.status == 5 and said in found.error else [repr(found)])
+    found = place.told(["canon", NO_TEXT, "--help"])
+    counting.row("no text, and --help", [] if found.status == 0 and b"Usage: golly_canon canon" in found.output else [repr(found)[:300]])
+
+
+# ---- explanations
+
+GZIP = bytes.fromhex("1f8b0800000000000003ab50b0550800")
+RULE = FILES["spread.rule"]
+CHILD = b"[M2]\n#R B3/S23\n....*$$$$$$$$\n4 0 0 0 9\n"
+LONG = HEADER + b"o" * 190 + "\u00e9\x1b\u009b".encode() + b"\xff\\Q" + b"o" * 200 + b"\n"
+EXPLAINED = {
+    b"child.mc": CHILD,
+    b"bad.rle": b"x = 3, y = 3\r\nbo$2bC$3o!\r\n",
+    b"packed.gz": GZIP,
+    b"packed.zip": b"PK\x03\x04\x14\x00",
+    b"old.lif": b"#Life 1.05\n#P 0 0\n*\n",
+    b"new.lif": b"#Life 1.06\n0 0\n",
+    b"named.cells": b"!Name: glider\n.O.\n..O\nOOO\n",
+    b"rows.cells": b".O.\r\n..O\r\nOOO\r\n",
+    b"page.html": b"\n<!DOCTYPE html>\n",
+    b"empty": b"",
+    b"marked": b"\xef\xbb\xbfx = 1, y = 1\no!\n",
+    b"returns": b"x = 1, y = 1, rule = B3/S23\ro!\r",
+    b"headless": b"o!\n",
+    b"commented": b"#C text\n3o$b2o!\n",
+    b"cell.mcl": b"#MCell 4.00\n#L A.A\n",
+    b"packed.bz2": b"BZh91AY&SY",
+    b"packed.xz": b"\xfd7zXZ\x00\x00",
+    b"binary": b"\x7fELF\x02\x01\x01\x00\n",
+    b"text": b"A glider.\nx = 3, y = 3\no!\n",
+    b"capital": b"X = 3, y = 3\no!\n",
+    b"table": RULE,
+    b"long": LONG,
+    b"odd\x1b[31m\nname\\": CHILD,
+    b"named.rle": FILES["named.rle"],
+    b"spread.rle": FILES["spread.rle"],
+    b"spread.rule": RULE,
+    b"bad.rule": RULE.replace(b"{1,2}", b"{1,9}"),
+    b"two.rule": FILES["two.rule"],
+    b"two.rle": FILES["two.rle"],
+    b"many.rle": FILES["many.rle"],
+    b"pair": FILES["pair.mc"],
+}
+LOST = "A line was probably lost, added or changed: get the file again."
+GOLLY = "open it in Golly, and save it as RLE or as a macrocell file."
+WITHOUT = "The header is missing: put one before the items, such as x = 0, y = 0, rule = B3/S23."
+HEADERS = "Let [M2] begin the file, or a line such as x = 0, y = 0, rule = B3/S23 come before the items; put # before text."
+ITEMS = "Correct or remove what isn't a count, b, o, ., a letter of a state, $ or !; a count and its letter are on one line."
+# Files, and what is said of them: the fault's own line, the place of the sentence, the text of the line, and what to do.
+ALONE = [
+    (b"child.mc", "line 4: BadChild", "child.mc, line 4", "4 0 0 0 9", LOST),
+    (b"bad.rle", "line 2: StateRange", "bad.rle, line 2", "bo$2bC$3o!",
+     "Under a B/S rule write b and o in lowercase, or give the header the rule that has these states."),
+    (b"packed.gz", "line 1: NoHeader", "packed.gz, line 1", None, "This is a gzip file: unpack it first, with gunzip."),
+    (b"packed.zip", "line 1: NoHeader", "packed.zip, line 1", None, "This is a zip file: unpack it first, with unzip."),
+    (b"old.lif", "line 3: NoHeader", "old.lif, line 3", "*", f"This is a Life 1.05 file: {GOLLY}"),
+    (b"new.lif", "line 2: NoHeader", "new.lif, line 2", "0 0", f"This is a Life 1.06 file: {GOLLY}"),
+    (b"named.cells", "line 1: NoHeader", "named.cells, line 1", "!Name: glider", f"This is a plaintext file (.cells): {GOLLY}"),
+    (b"rows.cells", "line 1: NoHeader", "rows.cells, line 1", ".O.", f"This is a plaintext file (.cells): {GOLLY}"),
+    (b"page.html", "line 2: NoHeader", "page.html, line 2", "<!DOCTYPE html>", "This is a web page (HTML): download the file that it links to."),
+    (b"empty", "line 1: NoHeader", "empty, line 1", None, "The file is empty: save it or download it again."),
+    (b"marked", "line 1: NoHeader", "marked, line 1", "\ufeffx = 1, y = 1",
+     "The file begins with a UTF-8 byte order mark: remove it, or save the file as UTF-8 without one."),
+    (b"returns", "line 1: BadRule", "returns, line 1", "x = 1, y = 1, rule = B3/S23\\ro!",
+     "The lines end in a carriage return alone: turn each into a line feed, with tr '\\r' '\\n'."),
+    (b"headless", "line 1: NoHeader", "headless, line 1", "o!", WITHOUT),
+    (b"commented", "line 2: NoHeader", "commented, line 2", "3o$b2o!", WITHOUT),
+    (b"cell.mcl", "line 3: NoHeader", "cell.mcl, line 3", None, f"This is an MCell file: {GOLLY}"),
+    (b"packed.bz2", "line 1: NoHeader", "packed.bz2, line 1", None, "This is a bzip2 file: unpack it first, with bunzip2."),
+    (b"packed.xz", "line 1: NoHeader", "packed.xz, line 1", None, "This is an xz file: unpack it first, with unxz."),
+    (b"binary", "line 1: NoHeader", "binary, line 1", None, "This isn't a text file, so it is no pattern file."),
+    (b"text", "line 1: NoHeader", "text, line 1", "A glider.", HEADERS),
+    (b"capital", "line 1: NoHeader", "capital, line 1", "X = 3, y = 3", HEADERS),
+    (b"table", "line 1: NoHeader", "table, line 1", "@RULE Spread", "This is a rule table, not a pattern: name it after the option --table of step."),
+    (b"long", "line 2: BadItem", "long, line 2", "o" * 190 + "\u00e9\\x1b\\xc2\\x9b\\xff\\\\Qoo ...", ITEMS),
+    (b"odd\x1b[31m\nname\\", "line 4: BadChild", "odd\\x1b[31m\\nname\\\\, line 4", "4 0 0 0 9", LOST),
+]
+
+
+def explained(fault, where, text, advice):
+    """What is said of a fault: its own line, and what `--explain` adds."""
+    meaning = sentences()[fault.rpartition(" ")[2]]
+    lines = [fault, f"{where}: {meaning}" if where else meaning, *([f"    {text}"] if text else []), *([advice] if advice else [])]
+    return "".join(f"{line}\n" for line in lines).encode()
+
+
+IN_PAIR = ("child.mc, line 4", "4 0 0 0 9", LOST)
+IN_INPUT = ("standard input, line 4", None, LOST)
+IN_EITHER = ("one of the two files, line 4", None, LOST)
+# Other commands, what they read from standard input, the status, the fault's own line, and what is said of it.
+OTHERS = [
+    (["convert", "--to", "rle", "child.mc"], b"", 2, "line 4: BadChild", IN_PAIR),
+    (["show", "child.mc"], b"", 2, "line 4: BadChild", IN_PAIR),
+    (["step", "child.mc"], b"", 2, "line 4: BadChild", IN_PAIR),
+    (["canon", "-"], CHILD, 2, "line 4: BadChild", IN_INPUT),
+    (["same", "child.mc", "pair"], b"", 2, "line 4: BadChild", IN_PAIR),
+    (["same", "pair", "child.mc"], b"", 2, "line 4: BadChild", IN_PAIR),
+    (["same", "child.mc", "-"], PAIR_TEXT, 2, "line 4: BadChild", IN_PAIR),
+    (["same", "pair", "-"], CHILD, 2, "line 4: BadChild", IN_INPUT),
+    (["same", "-", "pair"], CHILD, 2, "line 4: BadChild", IN_INPUT),
+    (["same", "-", "child.mc"], CHILD, 2, "line 4: BadChild", IN_EITHER),
+    (["same", "child.mc", "bad.rle"], b"", 2, "line 4: BadChild", IN_PAIR),
+    (["same", "--form", "moved", "pair", "many.rle"], b"", 2, "TooManyCells",
+     ("many.rle", None, "The commands canon and keys have no such limit where the form is placed.")),
+    (["step", "named.rle"], b"", 2, "NeedsTable", ("named.rle", None, "Name the rule table: golly_canon step --table NAME.rule FILE.")),
+    (["step", "--table", "bad.rule", "spread.rle"], b"", 2, "table line 6: BadVariable", ("bad.rule, line 6", "var a={1,9}", None)),
+    (["step", "--table", "-", "spread.rle"], EXPLAINED[b"bad.rule"], 2, "table line 6: BadVariable", ("standard input, line 6", None, None)),
+    (["step", "--table", "spread.rule", "child.mc"], b"", 2, "line 4: BadChild", IN_PAIR),
+    (["step", "--table", "spread.rule", "named.rle"], b"", 2, "RuleMismatch",
+     ("named.rle", None, "Take the table of that name; for a B/S rule leave --table out.")),
+    (["step", "--table", "two.rule", "two.rle"], b"", 2, "table line 8: Ambiguous",
+     ("two.rule, line 8", "0,a,b,0,0,a", "Split the line: write one for each value of its variable, in the order of the values.")),
+    (["step", "--table", "packed.gz", "spread.rle"], b"", 2, "table line 1: NoRuleLine",
+     ("packed.gz, line 1", None, "This is a gzip file: unpack it first, with gunzip.")),
+    (["step", "--table", "named.cells", "spread.rle"], b"", 2, "table line 1: NoRuleLine",
+     ("named.cells, line 1", "!Name: glider", "Let the file begin with the line @RULE NAME, and a line @TABLE come before the table.")),
+]
+# Files that can't be read, and the line that says so.
+UNREAD = [
+    (["canon", "absent"], f"absent: {ABSENT}"), (["canon", "tree"], f"tree: {FOLDER}"), (["same", "pair", "absent"], f"absent: {ABSENT}"),
+    (["same", "absent", "tree"], f"absent: {ABSENT}"), (["step", "--table", "tree", "pair"], f"tree: {FOLDER}"),
+    (["show", "locked"], f"locked: {LOCKED}"), (["show", "pair/x"], "pair/x: can't be opened"),
+]
+TWICE = [
+    (["same", "--explain", "-", "-"], b"TwoInputs\nOnly one of the two files may be -, standard input.\n"),
+    (["step", "--table", "-", "-", "--explain"], b"TwoInputs\nOnly one of the two files may be -, standard input.\n"),
+    (["same", "-", "-"], b"TwoInputs\n"), (["keys", "-", "-"], b"TwoInputs\n"),
+]
+
+
+def on_terminal(place, words, source=b""):
+    """A run whose standard error alone is a terminal."""
+    end, terminal = pty.openpty()
+    tty.setraw(terminal)  # no end of a line is turned into two bytes
+    with tempfile.TemporaryFile() as given, tempfile.TemporaryFile() as output:
+        given.write(source)
+        given.seek(0)
+        with subprocess.Popen([place.program, *words], cwd=place.here, stdin=given, stdout=output, stderr=terminal) as run:
+            os.close(terminal)
+            errors = keys.read_all(end)
+        output.seek(0)
+        return Answer(run.returncode, output.read(), errors)
+
+
+def explanation_rows(place):
+    for name, data in EXPLAINED.items():
+        place.put(name, data)
+    place.put(b"locked", PAIR_TEXT)
+    os.chmod(place.path(b"locked"), 0)
+    for name, fault, *said in ALONE:
+        answer = Answer(2, b"", explained(fault, *said))
+        shown = name.decode("ascii", "backslashreplace").replace("\x1b", "ESC").replace("\n", "LF")
+        place.holds(f"canon --explain {shown}", ["canon", "--explain", name], answer)
+        counting.row(f"canon {shown} on a terminal", problems_of(on_terminal(place, ["canon", name]), answer))
+        place.holds(f"canon {shown} without either", ["canon", name], Answer(2, b"", f"{fault}\n".encode()))
+    for words, source, status, fault, said in OTHERS:
+        answer = Answer(status, b"", explained(fault, *said))
+        place.holds(f"{' '.join(words)} --explain", [*words, "--explain"], answer, source)
+        counting.row(f"{' '.join(words)} on a terminal", problems_of(on_terminal(place, words, source), answer))
+        place.holds(f"{' '.join(words)} without either", words, Answer(status, b"", f"{fault}\n".encode()), source)
+    for words, line in UNREAD:
+        answer = Answer(3, b"", f"ReadFault\n{line}\n".encode())
+        place.holds(f"{' '.join(words)} --explain", [*words, "--explain"], answer, **NOBODY)
+        place.holds(f"{' '.join(words)} without it", words, Answer(3, b"", b"ReadFault\n"), **NOBODY)
+    for words, error in TWICE:
+        place.holds(f"standard input twice: {' '.join(words)}", words, Answer(5, b"", error))
+    answer = Answer(5, b"", b"TwoInputs\nOnly one of the files, or the list of them, may be -, standard input.\n")
+    counting.row("standard input twice: keys on a terminal", problems_of(on_terminal(place, ["keys", "-", "--from", "-"]), answer))
+    place.holds("a right file, explained", ["canon", "--explain", "pair"], Answer(0, PAIR_TEXT))
+    place.holds("files that differ, explained", ["same", "--explain", "pair", "spread.rle"], Answer(1, b"different\n"))
+
+
+def stream_rows(place):
+    for name, script, answer in [
+        ("a folder as standard input", '"$program" canon --explain - < tree', Answer(3, b"", b"ReadFault\nstandard input: is a folder\n")),
+        ("a closed standard input", '"$program" canon --explain - <&-', Answer(3, b"", b"ReadFault\nstandard input: can't be opened\n")),
+        ("a full output", '"$program" canon --explain pair > /dev/full', Answer(3, b"", b"WriteFault\nThe output can't be written.\n")),
+        # A pipe is not opened again: nobody would write to it.
+        ("a pipe by its name", 'mkfifo once; cat child.mc > once & "$program" canon --explain once; status=$?; rm once; exit $status',
+         Answer(2, b"", explained("line 4: BadChild", "once, line 4", None, LOST))),
+    ]:
+        counting.row(name, problems_of(place.shell(script), answer))
+
+
+# ---- readers that leave
+
+# Scripts whose first program writes to a pipe that nobody reads by then.
+LEFT = [
+    ("canon", '"$program" canon pair'), ("same", '"$program" same --explain pair pair'), ("keys", '"$program" keys pair absent pair'),
+    ("keys of a folder", '"$program" keys -r tree'), ("duplicates", '"$program" duplicates pair pair'), ("the help", '"$program" --help'),
+    ("the help of a command", '"$program" canon --help'),
+]
+
+
+def pipe_rows(place):
+    for name, script in LEFT:
+        # The end of the pipe is closed before the program begins.
+        found = place.shell(f"mkfifo out; exec 3<>out 4>out 3<&-; rm out; {{ {script}; }} >&4; exit $?")
+        counting.row(f"a reader that has left: {name}", problems_of(found, Answer(3)))
+    place.put(b"many", b"pair\nabsent\n" * 20_000)
+    found = place.shell('"$program" keys --from many | head -n 1; exit ${PIPESTATUS[0]}')
+    right = (found.status, found.output) == (3, lines_of([b"pair"])) and set(found.error.splitlines()) <= {b"absent: no such file"}
+    counting.row("a reader that leaves after a line", [] if right else [repr(found)[:300]])
+
+
+# ---- warnings
+
+LEAF = b"....*$$$$$$$$\n"
+# Files, and what is said of each.
+WARNED = [
+    (b"[M2] (golly 2.0)\r#R B3/S23\r....*$\r", RETURN), (b"[M2]\ra\n" + LEAF, RETURN), (b"[M2]\r\r \n", RETURN), (b"[M2]\r\n#R B3/S23\r\n" + LEAF, None),
+    (b"[M2]\r\r\n" + LEAF, None), (b"[M2]\r\r\n", SQUARES), (b"[M2]", SQUARES), (b"[M2]\r", SQUARES), (b"[M2]\n#R B3/S23\n#G 5\n\n \t\n", SQUARES),
+    (b"[M2]\n" + LEAF, None), (b"[M2]\n \t....*$\n", None), (b"[M2]\n#RB36/S23\n" + LEAF, COMMENT), (b"[M2]\n#G7\n" + LEAF, COMMENT),
+    (b"[M2]\n#R/\n" + LEAF, COMMENT), (b"[M2]\n#R23/3\n" + LEAF, COMMENT), (b"[M2]\n#Rs2\n", COMMENT), (b"[M2]\n#R29/3\n" + LEAF, None),
+    (b"[M2]\n#RB9\n#Rule\n#Gosper\n #G7\n#R23\n##R/\n" + LEAF, None), (b"[M2]\n" + LEAF + b"#G7\n", None), (b"[M2]\n#G7", SQUARES),
+    (b"[M2]\n#" + b"C" * 70_000 + b"\n#G7\n" + LEAF, COMMENT), (b"x = 1, y = 1\no!\n", None), (b"x = 1, y = 1\r\no!\r\n", None), (b"[M2", None), (b"", None),
+    (b"[M2]\n#R B36/S23\n" + LEAF, None), (b"[M2]\n#" + b"C" * 2**20 + b"\n", None), (b"[M2]\r#\n#R B0/S\n", None),
+    (b"[M2]\n#G7\n#R B0/S\n", None), (b"[M2]\n#C\n#R B3/S23\n$\n", None),
+]
+
+
+def warning_rows(place):
+    for number, (data, warning) in enumerate(WARNED):
+        place.put(b"warned", data)
+        status, said = keys.outcome_of(data, "placed")
+        line = b"" if warning is None else b"warned: warning: %s\n" % warning
+        answer = Answer(status, b"", b"warned: %s\n" % said.encode()) if status else Answer(0, key_line(said, b"warned"), line)
+        place.holds(f"warning {number}: {data[:40]!r}", ["keys", "warned"], answer)
+        counting.check(status or keys.warning_of(data) == warning, f"the warning {number} by its lines")
+    place.put(b"odd\n\\", b"[M2]\n")
+    place.put(b"lost", b"[M2]\r#C\r")
+    line = b"%s: warning: %s\n"
+    said = line % (b"odd\\n\\\\", SQUARES) + b"absent: no such file\n" + line % (b"lost", RETURN) + line % (b"-", RETURN)
+    answer = Answer(3, lines_of([b"odd\n\\", b"lost"], BLANK) + lines_of([b"pair"]) + lines_of([b"-"], BLANK), said)
+    place.holds("warnings in their order", ["keys", "odd\n\\", "absent", "lost", "pair", "-"], answer, b"[M2]\rx")
+    place.put(b"[M2]", b"[M2]\n" + LEAF)
+    place.put(b"names", b"[M2]\n")
+    place.holds("a list isn't watched", ["keys", "--from", "names"], Answer(0, lines_of([b"[M2]"], key_of(LIFE + LEAF))))
+    place.holds("duplicates warns too", ["duplicates", "lost", "pair", "lost"], Answer(0, b"lost\nlost\n", line % (b"lost", RETURN) * 2))
+    place.holds("no other command warns", ["canon", "lost"], Answer(0, LIFE))
+
+
+def whole_terminal(place, words):
+    """A run whose both outputs are one terminal."""
+    end, terminal = pty.openpty()
+    tty.setraw(terminal)  # no end of a line is turned into two bytes
+    with subprocess.Popen([place.program, *words], cwd=place.here, stdin=subprocess.DEVNULL, stdout=terminal, stderr=terminal) as run:
+        os.close(terminal)
+        written = keys.read_all(end)
+    return Answer(run.returncode, written, b"")
+
+
+# Names with control characters, and how a terminal gets them: ESC, BEL, TAB, DEL, and one of two bytes.
+CONTROLS = {b"\x1b[31mred": b"\\x1b[31mred", b"bell\x07\ttab": b"bell\\x07\\x09tab", b"\x7fdel": b"\\x7fdel", b"c1\xc2\x9b2J": b"c1\\xc2\\x9b2J",
+            "\u00e9t\u00e9".encode(): "\u00e9t\u00e9".encode()}
+
+
+def control_rows(place):
+    """No control character of a name reaches a terminal; a file and a pipe get each name as it is."""
+    for name, shown in CONTROLS.items():
+        place.put(name, FILES["pair.rle"])
+        place.put(b"bad" + name, HEADER + b"?!\n")
+        refused = b": line 2: BadItem: " + sentences()["BadItem"].encode() + b"\n"
+        counting.row(f"a key on a terminal: {name!r}", problems_of(whole_terminal(place, ["keys", name]), Answer(0, PAIR.encode() + b"  " + shown + b"\n")))
+        counting.row(f"a refusal on a terminal: {name!r}", problems_of(whole_terminal(place, ["keys", b"bad" + name]), Answer(2, b"bad" + shown + refused)))
+        counting.row(f"a group on a terminal: {name!r}",
+                     problems_of(whole_terminal(place, ["duplicates", name, name]), Answer(0, (shown + b"\n") * 2)))
+        found = processes.run([place.program, "keys", name, b"bad" + name], cwd=place.here, timeout=60)
+        counting.row(f"both where there is no terminal: {name!r}",
+                     problems_of(found, Answer(2, PAIR.encode() + b"  " + name + b"\n", b"bad" + name + refused)))
+
+
+def argument_control_rows(place):
+    """What is quoted of wrong arguments has no control character on a terminal, and each as it is elsewhere."""
+    for words in (["\x1b[31mred"], ["keys", "--\x1b[31mred"], ["canon", "a", "b\x07"], ["canon", "a", "--form=\x1b[2J"]):
+        for run in (whole_terminal, on_terminal):
+            found = run(place, words)
+            written = found.output + found.error
+            controls = [byte for byte in written if (byte < 32 and byte != 10) or byte == 127]
+            counting.row(f"{words!r} on a terminal, by {run.__name__}", [] if found.status == 5 and written and not controls else [repr(found)])
+    found = processes.run([place.program, "\x1b[31mred"], cwd=place.here, timeout=60)
+    counting.row("a wrong argument where there is no terminal", [] if found.status == 5 and b"\x1b[31mred" in found.error else [repr(found)])
+
+
+def main():
+    if len(sys.argv) != 2:
+        sys.exit(__doc__)
+    with tempfile.TemporaryDirectory() as folder:
+        os.chmod(folder, 0o755)
+        program = shutil.copy(processes.program_of(sys.argv[1]), os.path.join(folder, "golly_canon"))
+        os.chmod(program, 0o755)
+        os.mkdir(os.path.join(folder, "place"), 0o755)
+        place = Place(program, os.path.join(folder, "place"))
+        folder_rows(place)
+        argument_rows(place)
+        explanation_rows(place)
+        stream_rows(place)
+        pipe_rows(place)
+        warning_rows(place)
+        control_rows(place)
+        argument_control_rows(place)
+    return counting.ended()
+
+
+if __name__ == "__main__":
+    sys.exit(main())
