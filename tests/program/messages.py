@@ -179,6 +179,10 @@ EXPLAINED = {
     b"capital": b"X = 3, y = 3\no!\n",
     b"table": RULE,
     b"long": LONG,
+    b"item": b"x = 3, y = 3\nbo$ 2bo$3q2o!\n",
+    b"tab": b"x = 3, y = 3\n3o$\t2 b!\n",
+    b"far": b"x = 3, y = 3\n" + b"b" * 250 + b"z\n",
+    b"cut": b"x = 3, y = 3\n" + b"b" * 199 + b"12oz\n",
     b"odd\x1b[31m\nname\\": CHILD,
     b"named.rle": FILES["named.rle"],
     b"spread.rle": FILES["spread.rle"],
@@ -220,7 +224,11 @@ ALONE = [
     (b"text", "line 1: NoHeader", "text, line 1", "A glider.", HEADERS),
     (b"capital", "line 1: NoHeader", "capital, line 1", "X = 3, y = 3", HEADERS),
     (b"table", "line 1: NoHeader", "table, line 1", "@RULE Spread", "This is a rule table, not a pattern: name it after the option --table of step."),
-    (b"long", "line 2: BadItem", "long, line 2", "o" * 190 + "\u00e9\\x1b\\xc2\\x9b\\xff\\\\Qoo ...", ITEMS),
+    (b"long", "line 2: BadItem", "long, line 2", "o" * 190 + "\u00e9\\x1b\\xc2\\x9b\\xff\\\\Qoo ...\n" + " " * 194 + "^", ITEMS),
+    (b"item", "line 2: BadItem", "item, line 2", "bo$ 2bo$3q2o!\n" + " " * 12 + "^", ITEMS),
+    (b"tab", "line 2: BadItem", "tab, line 2", "3o$\\x092 b!\n" + " " * 11 + "^", ITEMS),
+    (b"far", "line 2: BadItem", "far, line 2", "b" * 200 + " ...", ITEMS),
+    (b"cut", "line 2: BadItem", "cut, line 2", "b" * 199 + "1 ...", ITEMS),
     (b"odd\x1b[31m\nname\\", "line 4: BadChild", "odd\\x1b[31m\\nname\\\\, line 4", "4 0 0 0 9", LOST),
 ]
 

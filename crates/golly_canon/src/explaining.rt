@@ -2,6 +2,7 @@
 
 use crate::escaping::push_visible;
 use crate::foreign::{Foreign, recognized};
+use crate::item_marks::push_item_mark;
 use crate::opening::HeldStreams;
 use crate::outputs::Nowhere;
 use crate::rereading::{SHOWN, again, head, line, unreadable};
@@ -234,6 +235,9 @@ fn explanation(
     if !foreign.is_some_and(|it| it.is_binary()) {
         if let Some(line) = place.line(rt, number) {
             push_line(&mut text, line.as_slice())?;
+            if refusal.fault.kind == Kind::BadItem {
+                push_item_mark(&mut text, line.as_slice())?;
+            }
         }
     }
     let advice = foreign.map_or(advice(refusal.fault.kind), |it| it.advice());

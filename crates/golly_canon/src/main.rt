@@ -7,6 +7,7 @@ mod escaping;
 mod explaining;
 mod folders;
 mod foreign;
+mod item_marks;
 mod listing;
 mod opening;
 mod outputs;
