@@ -118,9 +118,11 @@ pub const CANON: Help = Help {
 It is a macrocell file: the line `[M2] (canonical 1)`, the rule in its canonical
 form, the generation if it isn't 0, and each different square that isn't blank once,
 each after its quarters. The last one is the least square about the middle of the
-plane that holds the pattern. Every cell keeps its state. Golly opens the text as a
-blank pattern if it has one square alone, as that of a small pattern may: give Golly
-what `golly_canon convert FILE --to rle` writes.
+plane that holds the pattern. Every cell keeps its state.
+
+Golly opens the text as a blank pattern if its only square is a leaf of 8 x 8 cells, as
+for a small pattern about (0, 0). Give Golly what `golly_canon convert FILE --to rle`
+writes.
 
 --form says in which form the pattern is written:
 
@@ -158,7 +160,7 @@ rle  extended RLE: the pattern's position, its rule, its generation if it isn't 
      and its cells, row by row. A pattern with more than 2^20 cells that aren't 0
      is refused (TooManyCells).
 mc   macrocell: the canonical text, as `golly_canon canon` writes it. Golly opens it
-     as a blank pattern if it has one square alone.",
+     as a blank pattern if its only square is a leaf.",
     notes: notes_over_one_file!(
         "Examples:
   golly_canon convert glider.mc --to rle > glider.rle
