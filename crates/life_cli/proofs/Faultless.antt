@@ -21,7 +21,7 @@ use Rattle.life_cli.specs.Plans.{AreWhole}
 use Rattle.life_cli.specs.declared.plans.Task.TheVariants.{Canon, Convert, Same, Show, Step as StepTask}
 use Rattle.life_cli.specs.declared.plans.Form.TheVariants.{Placed}
 use Rattle.life_cli.specs.declared.plans.Target.TheVariants.{Rle}
-use Rattle.life_cli.specs.CommandLine.{program, canon_line, convert_line, same_line, show_line, step_line, files_line}
+use Rattle.life_cli.specs.CommandLine.{program, canon_line, convert_line, same_line, show_line, step_line, keys_line, files_line}
 use Rattle.std.proofs.lemmas.Slice.Eq.{bytes_eq-Decides}
 
 -- no fault in two steps is none in either
@@ -474,7 +474,7 @@ same_whole words none =
     (inl (refl, omega arith), (inl (refl, omega arith), (inl (refl, omega arith), (inr (inl (refl, omega arith)), (inr (inr refl), tt))))) in
     inl (Same Placed, refl, two_there words (leaf same_line) all none _ (codes "A") (codes "B") refl)
 
-keys_whole : (words : List Text) → IsWholeAt words (leaf (files_line (codes "keys")))
+keys_whole : (words : List Text) → IsWholeAt words (leaf keys_line)
 keys_whole words none = inr (inl refl)
 
 duplicates_whole : (words : List Text) → IsWholeAt words (leaf (files_line (codes "duplicates")))

@@ -20,7 +20,7 @@ use Rattle.life_base.proofs.WritingLemmas.{prefix-after, prefix-grows}
 use Rattle.life_cli.specs.Faults.{fault_line, refusal_of, status_of, Tells}
 use Rattle.life_canon.specs.Laws.{RefusalsHaveKinds}
 use Rattle.life_cli.specs.Jobs.{by_length, by_source, by_want, HasNoText, HasText, InputRefuses, RefusesInForm}
-use Rattle.life_cli.specs.KeyRuns.{broken_off, bytes_of, by_call, by_name, by_reading, Comes, error_line, errors_of, greatest_status, IsOutcomeOf, IsToldAs, LacksBytes, LacksList, list_word, Listed, Name, names_among, names_in, names_of, outcome_status, output_line, output_of, Ran, ReadsList, Taken, Takes, TakesAll, TakesFiles, TellsOn, through, Took, Word, words_of, Writes}
+use Rattle.life_cli.specs.KeyRuns.{broken_off, bytes_of, by_call, by_name, by_reading, Comes, greatest_status, IsOutcomeOf, IsToldAs, LacksBytes, LacksList, list_word, Listed, Name, names_among, names_in, names_of, outcome_status, output_line, output_of, Ran, ReadsList, report_line, reports_of, style_of, Taken, Takes, TakesAll, TakesFiles, TellsOn, through, Took, Word, words_of, Writes}
 use Rattle.life_cli.specs.Origins.{Gives}
 use Rattle.life_cli.specs.declared.origins.Origin.{Origin}
 use Rattle.life_cli.specs.declared.plans.Form.{Form}
@@ -29,6 +29,7 @@ use Rattle.life_cli.specs.Keys.{end_of, IsKeyIn, IsStatus, pieces_of}
 use Rattle.life_cli.specs.declared.keys.outcome.Outcome.{Outcome}
 use Rattle.life_cli.specs.declared.keys.outcome.Outcome.TheVariants.{Key, Refused, Unopened}
 use Rattle.life_cli.specs.declared.keys.outputs.Outputs.{Outputs}
+use Rattle.life_cli.specs.declared.keys.style.Style.{Style}
 use Rattle.life_cli.proofs.KeyLemmas.{kind_status, read_failed}
 use Rattle.life_cli.proofs.KeyLines.{then_text}
 
@@ -93,15 +94,16 @@ module _ {W E : Type 0} (held : W → Option (List ℕ)) (contents : E → Optio
   }
 
   -- what was written of files, and then of further ones
-  pub files_then : (u v w : W) (x y z : E) (a b c : Outputs) (result : Result (Unit {0}) Kind) (zero_ended : Bool) (xs ys : List Taken)
-      → Writes held contents failures stalled u v x y a b (Ok tt) (output_of zero_ended xs) (errors_of xs) (greatest_status xs)
-      → Writes held contents failures stalled v w y z b c result (output_of zero_ended ys) (errors_of ys) (greatest_status ys)
-      → Writes held contents failures stalled u w x z a c result (output_of zero_ended (xs ++ ys)) (errors_of (xs ++ ys)) (greatest_status (xs ++ ys))
-  files_then u v w x y z a b c result zero_ended xs ys p q =
+  pub files_then : (u v w : W) (x y z : E) (a b c : Outputs) (result : Result (Unit {0}) Kind) (style : Style) (xs ys : List Taken)
+      → Writes held contents failures stalled u v x y a b (Ok tt) (output_of style xs) (reports_of style xs) (greatest_status xs)
+      → Writes held contents failures stalled v w y z b c result (output_of style ys) (reports_of style ys) (greatest_status ys)
+      → Writes held contents failures stalled u w x z a c result (output_of style (xs ++ ys)) (reports_of style (xs ++ ys))
+      (greatest_status (xs ++ ys))
+  files_then u v w x y z a b c result style xs ys p q =
       let all = writes_then u v w x y z a b c result _ _ _ _ _ _ p q in
       rw (
-        flat_map-append (λ (t : Taken). output_line zero_ended (bytes_of t.name) t.outcome) xs ys,
-        flat_map-append (λ (t : Taken). error_line (bytes_of t.name) t.outcome) xs ys,
+        flat_map-append (λ (t : Taken). output_line style (bytes_of t.name) t.outcome) xs ys,
+        flat_map-append (λ (t : Taken). report_line style (bytes_of t.name) t.outcome) xs ys,
         greatest_then xs ys,
       ) all
 
@@ -125,7 +127,7 @@ module _ {F R W E : Type 0} (step : F → Origin → Result R IoError → F → 
 
   -- files, and then further ones
   pub takes_more : (form : Form) (names rest last : List Name) (f g h : F) (u v w : W) (x y z : E) (a b c : Outputs) (result : Result (Unit {0}) Kind)
-      → b.zero ≡ a.zero
+      → b.style ≡ a.style
       → TakesFiles step remaining reads_failed held contents failures stalled form names rest f g u v x y a b (Ok tt)
       → TakesFiles step remaining reads_failed held contents failures stalled form rest last g h v w y z b c result
       → TakesFiles step remaining reads_failed held contents failures stalled form names last f h u w x z a c result
@@ -134,24 +136,24 @@ module _ {F R W E : Type 0} (step : F → Origin → Result R IoError → F → 
     split = p.split ∙ ap (λ l. names_of p.taken ++ l) q.split ∙ sym (append_assoc (names_of p.taken) (names_of q.taken) last)
         ∙ ap (λ l. l ++ last) (sym (map-append (λ (t : Taken). t.name) p.taken q.taken));
     takes = takes_then (Takes step remaining reads_failed form) f p.taken g q.taken h p.takes q.takes;
-    writes = files_then held contents failures stalled u v w x y z a b c result a.zero p.taken q.taken p.writes
-        (subst (λ ends. Writes held contents failures stalled v w y z b c result (output_of ends q.taken) (errors_of q.taken)
+    writes = files_then held contents failures stalled u v w x y z a b c result a.style p.taken q.taken p.writes
+        (subst (λ s. Writes held contents failures stalled v w y z b c result (output_of s q.taken) (reports_of s q.taken)
         (greatest_status q.taken)) same q.writes);
   }
 
   -- one file
   pub takes_one : (form : Form) (name : Name) (told : Outcome) (rest : List Name) (f g : F) (u v : W) (x y : E) (a b : Outputs)
       (result : Result (Unit {0}) Kind) → Takes step remaining reads_failed form f (record { name = name; outcome = told }) g
-      → Writes held contents failures stalled u v x y a b result (output_line a.zero (bytes_of name) told) (error_line (bytes_of name) told)
-      (outcome_status told)
+      → Writes held contents failures stalled u v x y a b result (output_line a.style (bytes_of name) told)
+      (report_line a.style (bytes_of name) told) (outcome_status told)
       → TakesFiles step remaining reads_failed held contents failures stalled form (name ∷ rest) rest f g u v x y a b result
   takes_one form name told rest f g u v x y a b result takes writes = record {
     taken = record { name = name; outcome = told } ∷ [];
     split = refl;
     takes = (g, takes, refl);
     writes = record {
-      written = subst (λ l. WritesText (held u) (held v) l result) (one_line (output_line a.zero (bytes_of name) told)) writes.written;
-      told = subst (TellsOn contents failures stalled a.tells b.tells x y) (one_line (error_line (bytes_of name) told)) writes.told;
+      written = subst (λ l. WritesText (held u) (held v) l result) (one_line (output_line a.style (bytes_of name) told)) writes.written;
+      told = subst (TellsOn contents failures stalled a.tells b.tells x y) (one_line (report_line a.style (bytes_of name) told)) writes.told;
       status = at b.status a.status (outcome_status told) writes.status;
     };
   }
@@ -187,18 +189,18 @@ module _ {F R W E : Type 0} (step : F → Origin → Result R IoError → F → 
     (held : W → Option (List ℕ)) (contents : E → Option (List ℕ)) (failures : E → ℕ) (stalled : E → Bool) where
   -- files, and then the next one
   pub takes_next : (form form' : Form) (names rest rest' : List Name) (name : Name) (bytes : List ℕ) (outcome : Outcome) (f g h : F) (u v w : W)
-      (x y z : E) (a b c : Outputs) (result : Result (Unit {0}) Kind) → form' ≡ form → b.zero ≡ a.zero → rest ≡ name ∷ rest' → bytes ≡ bytes_of name
+      (x y z : E) (a b c : Outputs) (result : Result (Unit {0}) Kind) → form' ≡ form → b.style ≡ a.style → rest ≡ name ∷ rest' → bytes ≡ bytes_of name
       → TakesFiles step remaining reads_failed held contents failures stalled form names rest f g u v x y a b (Ok tt)
       → Takes step remaining reads_failed form' g (record { name = name; outcome = outcome }) h
-      → (told : Outcome) × IsToldAs outcome told × Writes held contents failures stalled v w y z b c result (output_line b.zero bytes told)
-      (error_line bytes told) (outcome_status told)
+      → (told : Outcome) × IsToldAs outcome told × Writes held contents failures stalled v w y z b c result (output_line b.style bytes told)
+      (report_line b.style bytes told) (outcome_status told)
       → TakesFiles step remaining reads_failed held contents failures stalled form names rest' f h u w x z a c result
-  takes_next form form' names rest rest' name bytes outcome f g h u v w x y z a b c result is_form is_zero split is before takes (told, how, writes) =
+  takes_next form form' names rest rest' name bytes outcome f g h u v w x y z a b c result is_form is_style split is before takes (told, how, writes) =
       let these = told_takes step remaining reads_failed form g h name outcome told how
       (subst (λ k. Takes step remaining reads_failed k g (record { name = name; outcome = outcome }) h) is_form takes) in
-      let lines = subst (λ l. Writes held contents failures stalled v w y z b c result (output_line b.zero l told) (error_line l told) (outcome_status told))
-      is writes in
-      takes_more step remaining reads_failed held contents failures stalled form names rest rest' f g h u v w x y z a b c result is_zero before
+      let lines = subst (λ l. Writes held contents failures stalled v w y z b c result (output_line b.style l told)
+      (report_line b.style l told) (outcome_status told)) is writes in
+      takes_more step remaining reads_failed held contents failures stalled form names rest rest' f g h u v w x y z a b c result is_style before
       (subst (λ l. TakesFiles step remaining reads_failed held contents failures stalled form l rest' g h v w y z b c result) (sym split)
       (takes_one step remaining reads_failed held contents failures stalled form name told rest' g h v w y z b c result these lines))
 
@@ -225,23 +227,19 @@ module _ {F R W E : Type 0} (step : F → Origin → Result R IoError → F → 
   }
 
   -- the files of the words, and then those of the list
-  pub takes_both : (form form' : Form) (words : List (List ℕ)) (list : List ℕ) (rest last : List Name) (f g h : F) (u v w : W)
-      (x y z : E) (a b c : Outputs) (result : Result (Unit {0}) Kind) → form' ≡ form → b.zero ≡ a.zero → rest ≡ []
+  pub takes_both : (form form' : Form) (zero : Bool) (words : List (List ℕ)) (list : List ℕ) (rest last : List Name) (f g h : F) (u v w : W)
+      (x y z : E) (a b c : Outputs) (result : Result (Unit {0}) Kind) → form' ≡ form → b.style ≡ a.style → rest ≡ []
       → TakesFiles step remaining reads_failed held contents failures stalled form (map Word words) rest f g u v x y a b (Ok tt)
-      → TakesFiles step remaining reads_failed held contents failures stalled form' (map Listed (names_in (end_of b.zero) list)) last g h v w y z b c result
-      → TakesFiles step remaining reads_failed held contents failures stalled form (names_among a.zero words list) last f h u w x z a c result
-  takes_both form form' words list rest last f g h u v w x y z a b c result is_form is_zero all p q =
-      let more = map Listed (names_in (end_of a.zero) list) in
+      → TakesFiles step remaining reads_failed held contents failures stalled form' (map Listed (names_in (end_of zero) list)) last g h v w y z b c result
+      → TakesFiles step remaining reads_failed held contents failures stalled form (names_among zero words list) last f h u w x z a c result
+  takes_both form form' zero words list rest last f g h u v w x y z a b c result is_form is_style all p q =
+      let more = map Listed (names_in (end_of zero) list) in
       let first = subst (λ l. TakesFiles step remaining reads_failed held contents failures stalled form (map Word words ++ more)
       (l ++ more) f g u v x y a b (Ok tt)) all
       (takes_longer form (map Word words) rest more f g u v x y a b (Ok tt) p) in
-      let one = subst (λ k. TakesFiles step remaining reads_failed held contents failures stalled k
-      (map Listed (names_in (end_of b.zero) list)) last g h v w y z b c result)
-      is_form q in
-      let second = subst (λ ends. TakesFiles step remaining reads_failed held contents failures stalled form (map Listed (names_in (end_of ends) list)) last
-      g h v w y z b c result) is_zero one in
-      takes_more step remaining reads_failed held contents failures stalled form (names_among a.zero words list) more last f g h u v w x y z a b c result
-      is_zero first second
+      let second = subst (λ k. TakesFiles step remaining reads_failed held contents failures stalled k more last g h v w y z b c result) is_form q in
+      takes_more step remaining reads_failed held contents failures stalled form (names_among zero words list) more last f g h u v w x y z a b c result
+      is_style first second
 
   -- a flush hands on what was written, or fails, and then all of it was written
   pub takes_flushed : (form : Form) (names rest : List Name) (f g : F) (u v w : W) (x y : E) (a b : Outputs) (result : Result (Unit {0}) Kind)
@@ -404,32 +402,34 @@ module _ {F R W E : Type 0} (step : F → Origin → Result R IoError → F → 
   -- a run that comes to its end
   pub ran_through : (plan : KeysPlan) (opener ready last : F) (list : List ℕ) (form : Form) (names rest : List Name) (u v : W) (x y : E) (a b : Outputs)
       (flushed : Bool) → ReadsList step remaining reads_failed (list_word plan) opener list ready → form ≡ plan.form
-      → names ≡ names_among plan.zero (words_of plan) list → a.zero ≡ plan.zero → a.tells ≡ true → a.status ≡ 0 → rest ≡ []
+      → names ≡ names_among plan.zero (words_of plan) list → a.style ≡ style_of plan → a.tells ≡ true → a.status ≡ 0 → rest ≡ []
       → TakesFiles step remaining reads_failed held contents failures stalled form names rest ready last u v x y a b (Ok tt) → flushed ≡ true
       → Ran step remaining reads_failed plan opener (sink_run held w-failures w-stalled u v) (sink_run contents failures stalled x y) flushed b.status
-  ran_through plan opener ready last list form names rest u v x y a b flushed read is_form same is_zero hears none all p is_flushed = through p.taken
+  ran_through plan opener ready last list form names rest u v x y a b flushed read is_form same is_style hears none all p is_flushed = through p.taken
       (subst (Took step remaining reads_failed plan opener p.taken) all
       (took_of plan opener ready last list form names rest u v x y a b (Ok tt) read is_form same p))
-      (subst (λ z. Appends (held u) (held v) (output_of z p.taken)) is_zero p.writes.written) is_flushed
-      (tells_all contents failures stalled b.tells x y (errors_of p.taken)
-      (subst (λ t. TellsOn contents failures stalled t b.tells x y (errors_of p.taken)) hears p.writes.told))
+      (subst (λ s. Appends (held u) (held v) (output_of s p.taken)) is_style p.writes.written) is_flushed
+      (tells_all contents failures stalled b.tells x y (reports_of (style_of plan) p.taken)
+      (subst (λ s. TellsOn contents failures stalled true b.tells x y (reports_of s p.taken)) is_style
+      (subst (λ t. TellsOn contents failures stalled t b.tells x y (reports_of a.style p.taken)) hears p.writes.told)))
       (from_none a.status b.status (greatest_status p.taken) p.writes.status none)
 
   -- a run that is broken off
   pub ran_broken : (plan : KeysPlan) (opener ready last : F) (list : List ℕ) (form : Form) (names rest : List Name) (u v : W) (x y z : E) (a b : Outputs)
       (flushed : Bool) (kind : Kind) (status : ℕ) → ReadsList step remaining reads_failed (list_word plan) opener list ready → form ≡ plan.form
-      → names ≡ names_among plan.zero (words_of plan) list → a.zero ≡ plan.zero → a.tells ≡ true
+      → names ≡ names_among plan.zero (words_of plan) list → a.style ≡ style_of plan → a.tells ≡ true
       → TakesFiles step remaining reads_failed held contents failures stalled form names rest ready last u v x y a b (Err kind)
       → kind ≡ kinds.WriteFault → (w-failures v ≡ 1) ⊎ (w-stalled v ≡ true)
       → (b.tells ≡ true → Tells (sink_run contents failures stalled y z) (fault_line (refusal_of (fault_of kind)))) → (b.tells ≡ false → z ≡ y)
       → status ≡ status_of kind
       → Ran step remaining reads_failed plan opener (sink_run held w-failures w-stalled u v) (sink_run contents failures stalled x z) flushed status
-  ran_broken plan opener ready last list form names rest u v x y z a b flushed kind status read is_form same is_zero hears p is cause told silent is_status =
+  ran_broken plan opener ready last list form names rest u v x y z a b flushed kind status read is_form same is_style hears p is cause told silent is_status =
       broken_off p.taken rest (took_of plan opener ready last list form names rest u v x y a b (Err kind) read is_form same p)
-      (subst (λ e. WritesPrefix (held u) (held v) (output_of e p.taken)) is_zero p.writes.written) cause
-      (subst (λ k. Tells (sink_run contents failures stalled x z) (errors_of p.taken ++ fault_line (refusal_of (fault_of k)))) is
-      (broken_tells contents failures stalled b.tells x y z (errors_of p.taken) _
-      (subst (λ t. TellsOn contents failures stalled t b.tells x y (errors_of p.taken)) hears p.writes.told) told silent))
+      (subst (λ s. WritesPrefix (held u) (held v) (output_of s p.taken)) is_style p.writes.written) cause
+      (subst (λ k. Tells (sink_run contents failures stalled x z) (reports_of (style_of plan) p.taken ++ fault_line (refusal_of (fault_of k)))) is
+      (broken_tells contents failures stalled b.tells x y z (reports_of (style_of plan) p.taken) _
+      (subst (λ s. TellsOn contents failures stalled true b.tells x y (reports_of s p.taken)) is_style
+      (subst (λ t. TellsOn contents failures stalled t b.tells x y (reports_of a.style p.taken)) hears p.writes.told)) told silent))
       (is_status ∙ ap status_of is)
 
   -- and the status of one that comes to its end

@@ -69,6 +69,10 @@ files_line name =
     let with_list = with_rule (with_rule in_a_form (flag (codes "zero"))) (option (codes "from")) in
     with_rule with_list (short_flag (codes "recursive") 114)
 
+-- keys FILE.., with these and an optional --json
+abbrev pub keys_line : App
+keys_line = with_rule (files_line (codes "keys")) (flag (codes "json"))
+
 -- the program without its commands, of which it wants one; it has a version
 abbrev pub named : App
 named =
@@ -84,7 +88,7 @@ program =
     same_line.top)
     show_line.top)
     step_line.top)
-    (files_line (codes "keys")).top)
+    keys_line.top)
     (files_line (codes "duplicates")).top
 
 -- the argument has this rule, and isn't global

@@ -1,5 +1,5 @@
 -- What a run of the command `keys` comes to, file by file, and what it writes of that. The project's own.
-use Rattle.std.specs.Prelude.{◌≡◌, ◌⊎◌, ◌↔◌, ◌^◌, ℕ, Bool, true, false, not, max, List, [], ◌∷◌, ◌++◌, map, filter, flat_map, option_map, Option, Some, None, Result, Ok, Err, OnOk, IsUtf8}
+use Rattle.std.specs.Prelude.{◌≡◌, ◌⊎◌, ◌↔◌, ◌^◌, ℕ, Bool, true, false, not, max, List, [], ◌∷◌, ◌++◌, map, filter, flat_map, option_map, Option, Some, None, Result, Ok, Err, OnOk, IsUtf8, if◌then◌else◌}
 use Rattle.std.specs.List.{FoldsTo}
 use Rattle.std.specs.IoError.{error_kind}
 use Rattle.std.specs.Io.KnownBytes.{Appends}
@@ -16,9 +16,12 @@ use Rattle.life_base.specs.declared.kind.Kind.TheVariants as kinds
 use Rattle.life_cli.specs.Faults.{fault_line, refusal_of, status_of, Tells}
 use Rattle.life_cli.specs.Jobs.{HasNoText, HasText, InputRefuses, RefusesInForm}
 use Rattle.life_cli.specs.Keys.{end_of, IsKeyIn, key_line, pieces_of, refused_line, unopened_line}
+use Rattle.life_cli.specs.Objects.{object_text}
 use Rattle.life_cli.specs.Origins.{Gives, IsOriginOf}
 use Rattle.life_cli.specs.declared.keys.outputs.Outputs.{Outputs}
 use Rattle.life_cli.specs.declared.keys.runs.Run.{Run}
+use Rattle.life_cli.specs.declared.keys.style.Style.{Style}
+use Rattle.life_cli.specs.declared.keys.style.Style.TheVariants.{Lines, Zero, Json}
 use Rattle.life_cli.specs.declared.keys.outcome.Outcome.{Outcome}
 use Rattle.life_cli.specs.declared.keys.outcome.Outcome.TheVariants.{Key, Refused, Unopened}
 use Rattle.life_cli.specs.declared.origins.Origin.{Origin}
@@ -44,16 +47,32 @@ pub record Taken : Type 0 where
   pub name : Name
   pub outcome : Outcome
 
--- what standard output gets of a file: the line of its key, where it has one
-abbrev pub output_line : Bool → List ℕ → Outcome → List ℕ
-output_line zero name (Key key) = key_line zero key name
-output_line zero name _ = []
+-- the line of a file's key, where it has one
+abbrev pub outcome_line : Bool → List ℕ → Outcome → List ℕ
+outcome_line zero name (Key key) = key_line zero key name
+outcome_line zero name _ = []
 
--- what standard error gets of a file: why it has no key
+-- the style in which a run of this plan writes
+abbrev pub style_of : KeysPlan → Style
+style_of plan = if plan.json then Json else (if plan.zero then Zero else Lines)
+
+-- what standard output gets of a file: the line of its key, where it has one, or an object
+abbrev pub output_line : Style → List ℕ → Outcome → List ℕ
+output_line Lines name outcome = outcome_line false name outcome
+output_line Zero name outcome = outcome_line true name outcome
+output_line Json name outcome = object_text name outcome
+
+-- why a file has no key
 abbrev pub error_line : List ℕ → Outcome → List ℕ
 error_line name (Key key) = []
 error_line name (Refused fault) = refused_line name fault
 error_line name (Unopened kind) = unopened_line name kind
+
+-- what standard error gets of a file: why it has no key, unless its object says so
+abbrev pub report_line : Style → List ℕ → Outcome → List ℕ
+report_line Lines name outcome = error_line name outcome
+report_line Zero name outcome = error_line name outcome
+report_line Json name outcome = []
 
 -- the status of a file
 abbrev pub outcome_status : Outcome → ℕ
@@ -62,10 +81,14 @@ outcome_status (Refused fault) = status_of fault.kind
 outcome_status (Unopened kind) = 3
 
 -- the lines of the files on standard output, in their order
-abbrev pub output_of : Bool → List Taken → List ℕ
-output_of zero taken = flat_map (λ (t : Taken). output_line zero (bytes_of t.name) t.outcome) taken
+abbrev pub output_of : Style → List Taken → List ℕ
+output_of style taken = flat_map (λ (t : Taken). output_line style (bytes_of t.name) t.outcome) taken
 
 -- and on standard error
+abbrev pub reports_of : Style → List Taken → List ℕ
+reports_of style taken = flat_map (λ (t : Taken). report_line style (bytes_of t.name) t.outcome) taken
+
+-- the same of `duplicates`, which has no style
 abbrev pub errors_of : List Taken → List ℕ
 errors_of taken = flat_map (λ (t : Taken). error_line (bytes_of t.name) t.outcome) taken
 
@@ -191,12 +214,13 @@ module _ {F R : Type 0} (step : F → Origin → Result R IoError → F → Type
   -- What a run did with its files and outputs, and the status that it answered.
   pub data Ran (plan : KeysPlan) (opener : F) (output error : SinkRun) (flushed : Bool) (status : ℕ) : Type 0 where
     -- All files were taken: their lines were written, or reported, and the greatest status is answered.
-    through : (taken : List Taken) → Took plan opener taken [] → Appends output.before output.after (output_of plan.zero taken) → flushed ≡ true
-        → Tells error (errors_of taken) → status ≡ greatest_status taken → Ran plan opener output error flushed status
+    through : (taken : List Taken) → Took plan opener taken [] → Appends output.before output.after (output_of (style_of plan) taken) → flushed ≡ true
+        → Tells error (reports_of (style_of plan) taken) → status ≡ greatest_status taken → Ran plan opener output error flushed status
     -- Standard output failed, or took no bytes: the first files were taken, and a prefix of their lines was written.
     broken_off : (taken : List Taken) (rest : List Name) → Took plan opener taken rest
-        → WritesPrefix output.before output.after (output_of plan.zero taken) → (output.failures ≡ 1) ⊎ (output.stalled ≡ true)
-        → Tells error (errors_of taken ++ fault_line (refusal_of (fault_of kinds.WriteFault))) → status ≡ status_of kinds.WriteFault
+        → WritesPrefix output.before output.after (output_of (style_of plan) taken) → (output.failures ≡ 1) ⊎ (output.stalled ≡ true)
+        → Tells error (reports_of (style_of plan) taken ++ fault_line (refusal_of (fault_of kinds.WriteFault)))
+        → status ≡ status_of kinds.WriteFault
         → Ran plan opener output error flushed status
     -- There is no list, and no file was taken.
     without_list : (word : List ℕ) (kind : Kind) → list_word plan ≡ Some word → LacksList word opener kind
@@ -211,8 +235,8 @@ module _ {F R W E : Type 0} (step : F → Origin → Result R IoError → F → 
     pub taken : List Taken
     pub split : names ≡ names_of taken ++ rest
     pub takes : TakesAll step remaining reads_failed form opener_old taken opener_new
-    pub writes : Writes held contents failures stalled out_old out_new err_old err_new old new result (output_of old.zero taken) (errors_of taken)
-        (greatest_status taken)
+    pub writes : Writes held contents failures stalled out_old out_new err_old err_new old new result (output_of old.style taken)
+        (reports_of old.style taken) (greatest_status taken)
 
   -- The same of all these names, or at a refusal of the first ones.
   abbrev pub TakesNames : Form → List Name → (opener_old opener_new : F) (out_old out_new : W) (err_old err_new : E) (old new : Outputs)

@@ -5,7 +5,10 @@ pub mod CommandLine
 pub mod Plans
 pub mod Origins
 pub mod Usages
+pub mod Json
 pub mod Keys
+pub mod Objects
+pub mod Pieces
 pub mod KeyRuns
 pub mod Groups
 pub mod Duplicates

@@ -117,6 +117,7 @@ pub record HoldsKeys (default : Form) (rows : List Row) (p : KeysPlan) : Type 0 
   pub files : map (λ name. name.now) p.files.items ≡ values_of (codes "FILE") rows
   pub from : option_map (λ name. name.now) p.from ≡ first_of (codes "from") rows
   pub zero : HoldsFlag (codes "zero") rows p.zero
+  pub json : HoldsFlag (codes "json") rows p.json
   pub recursive : HoldsFlag (codes "recursive") rows p.recursive
   pub some : ¬ LacksFiles rows
 

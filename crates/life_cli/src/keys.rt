@@ -16,9 +16,11 @@ use std::alloc::Global;
 pub(crate) mod files;
 pub(crate) mod lines;
 pub(crate) mod names;
+mod objects;
 pub(crate) mod outcome;
 pub(crate) mod outputs;
 mod runs;
+mod style;
 
 pub use runs::write_keys;
 

@@ -4,6 +4,7 @@
 mod duplicates;
 mod forms;
 mod jobs;
+mod json;
 mod keys;
 pub mod laws;
 mod origins;
@@ -12,6 +13,7 @@ mod refusals;
 mod reports;
 mod seeds;
 mod steps;
+mod text_sink;
 
 pub use duplicates::write_duplicates;
 pub use jobs::{carry_out, work, work_seeded};

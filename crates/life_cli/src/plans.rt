@@ -100,6 +100,8 @@ pub struct KeysPlan<'a> {
     pub form: Form,
     /// Whether names end in NUL in place of LF.
     pub zero: bool,
+    /// Whether `keys` writes an object of JSON for each file. `duplicates` has no such option.
+    pub json: bool,
     /// Whether a folder represents the files in it and below it.
     pub recursive: bool,
     /// The list of further files, if one is named.

@@ -171,7 +171,7 @@ fn write_refused<E: Sink>(err: &mut E, name: &[u8], fault: &Fault) -> Result<(),
 }
 
 /// Why a file isn't opened, in words.
-fn reason(kind: ErrorKind) -> &'static str
+pub(super) fn reason(kind: ErrorKind) -> &'static str
     ensures { result.now ≡ reason_of kind }
 {
     match kind {

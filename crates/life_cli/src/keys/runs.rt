@@ -6,6 +6,7 @@ ghost use Rattle.life_cli.specs.Words.{sink_run, CanTake, LeavesSink, IsStatus, 
 use super::files::Files;
 use super::names::first_name;
 use super::outputs::Outputs;
+use super::style::Style;
 use crate::origins::{Origin, origin_of};
 use crate::plans::KeysPlan;
 use crate::reports::refuse;
@@ -30,7 +31,7 @@ impl<R: Source + Drop, F: FnMut(Origin<'_>) -> IoResult<R> + Drop> Run<F> {
         err: &mut E,
     ) -> Result<(), Kind>
         requires { CanTake F.IsAlwaysCallable self.old (W.failures out.old) (E.failures err.old) }
-        ensures zero { self.new.outputs.zero ≡ self.old.outputs.zero }
+        ensures style { self.new.outputs.style ≡ self.old.outputs.style }
         ensures form { self.new.files.form ≡ self.old.files.form }
         ensures callable { F.IsAlwaysCallable self.new.files.opener }
         ensures took { TakesNames F.step R.remaining R.failures W.contents E.contents E.failures
@@ -50,6 +51,7 @@ impl<R: Source + Drop, F: FnMut(Origin<'_>) -> IoResult<R> + Drop> Run<F> {
     fn take_list<W: Sink, E: Sink>(
         &mut self,
         list: &[u8],
+        zero: bool,
         out: &mut W,
         err: &mut E,
     ) -> Result<(), Kind>
@@ -57,12 +59,12 @@ impl<R: Source + Drop, F: FnMut(Origin<'_>) -> IoResult<R> + Drop> Run<F> {
         ensures callable { F.IsAlwaysCallable self.new.files.opener }
         ensures took { TakesNames F.step R.remaining R.failures W.contents E.contents E.failures
             E.stalled self.old.files.form
-            (map Listed (names_in (end_of self.old.outputs.zero) list.now))
+            (map Listed (names_in (end_of zero) list.now))
             self.old.files.opener self.new.files.opener out.old out.new err.old err.new
             self.old.outputs self.new.outputs result }
         ensures sink { LeavesSink W.failures W.stalled out.old out.new result }
     {
-        let end = if self.outputs.zero { b'\0' } else { b'\n' };
+        let end = if zero { b'\0' } else { b'\n' };
         let mut rest = list;
         while !rest.is_empty() {
             let (name, behind) = first_name(rest, end);
@@ -80,6 +82,7 @@ impl<R: Source + Drop, F: FnMut(Origin<'_>) -> IoResult<R> + Drop> Run<F> {
         &mut self,
         words: &[&str],
         list: &[u8],
+        zero: bool,
         out: &mut W,
         err: &mut E,
     ) -> Result<(), Kind>
@@ -88,20 +91,20 @@ impl<R: Source + Drop, F: FnMut(Origin<'_>) -> IoResult<R> + Drop> Run<F> {
         requires hears { self.old.outputs.tells ≡ true → E.failures err.old ≡ 0 }
         ensures took { TakesNames F.step R.remaining R.failures W.contents E.contents E.failures
             E.stalled self.old.files.form
-            (names_among self.old.outputs.zero (map (λ word. word.now) words.now) list.now)
+            (names_among zero (map (λ word. word.now) words.now) list.now)
             self.old.files.opener self.new.files.opener out.old out.new err.old err.new
             self.old.outputs self.new.outputs result }
         ensures sink { LeavesSink W.failures W.stalled out.old out.new result }
         ensures flushed { OnOk result (W.flushed out.new ≡ true) }
     {
         self.take_words(words, out, err)?;
-        self.take_list(list, out, err)?;
+        self.take_list(list, zero, out, err)?;
         out.flush()
     }
 }
 
 /// Writes a line for each file that the plan names, in their order: its key and its name. Files that are refused or can't be opened are reported on
-/// `err` and passed over. A file that `opener` opens is reported as `ReadFault` exactly where a read of it fails. Returns the status that the program
+/// `err` and passed over. If the plan asks for JSON, each file has an object in place of these. A file that `opener` opens is reported as `ReadFault` exactly where a read of it fails. Returns the status that the program
 /// ends with.
 pub fn write_keys<R, F, W, E>(
     alloc: Global,
@@ -138,9 +141,9 @@ where
     };
     let mut run = Run {
         files,
-        outputs: Outputs::new(alloc, plan.zero),
+        outputs: Outputs::new(alloc, Style::of(plan)),
     };
-    match run.take_all(plan.files.as_slice(), list.as_slice(), out, err) {
+    match run.take_all(plan.files.as_slice(), list.as_slice(), plan.zero, out, err) {
         Ok(()) => run.outputs.status,
         Err(kind) => run.outputs.break_off(err, kind),
     }

@@ -2,7 +2,7 @@
 
 ghost use Rattle.std.specs.Prelude.{IfOk, codes, map};
 ghost use Rattle.clap.specs.Words.{fault_of};
-ghost use Rattle.life_cli.specs.Words.{App, Rule, HasMatchesOf, FailsBy, new_app, with_rule, with_subcommand, required_file, option, required_option, with_explain, one_file_line, two_files_line, canon_line, convert_line, same_line, show_line, step_line, files_rule, files_line, flag, short_flag, named, program, HasRule, ReadsAs};
+ghost use Rattle.life_cli.specs.Words.{App, Rule, HasMatchesOf, FailsBy, new_app, with_rule, with_subcommand, required_file, option, required_option, with_explain, one_file_line, two_files_line, canon_line, convert_line, same_line, show_line, step_line, files_rule, files_line, keys_line, flag, short_flag, named, program, HasRule, ReadsAs};
 
 use super::help::{CANON, CONVERT, DUPLICATES, Help, KEYS, PROGRAM, SAME, SHOW, STEP};
 use clap::{Arg, ArgAction, ArgMatches, Command, Error};
@@ -175,6 +175,14 @@ fn any_files<'a>(
     with_argument(command, short_flag(alloc, "recursive", 'r', help))
 }
 
+fn keys<'a>(alloc: Global) -> Result<Command<'a>, AllocError>
+    ensures { IfOk result (ReadsAs keys_line) }
+{
+    let command = any_files(alloc, "keys", KEYS, PLACED_UNLESS_GIVEN)?;
+    let help = "Write an object of JSON for each file, one a line";
+    with_argument(command, flag(alloc, "json", help))
+}
+
 fn step<'a>(alloc: Global) -> Result<Command<'a>, AllocError>
     ensures { IfOk result (ReadsAs step_line) }
 {
@@ -214,8 +222,7 @@ fn golly_canon<'a>(alloc: Global) -> Result<Command<'a>, AllocError>
     let command = with_command(command, same(alloc))?;
     let command = with_command(command, show(alloc))?;
     let command = with_command(command, step(alloc))?;
-    let keys = any_files(alloc, "keys", KEYS, PLACED_UNLESS_GIVEN);
-    let command = with_command(command, keys)?;
+    let command = with_command(command, keys(alloc))?;
     let duplicates = any_files(alloc, "duplicates", DUPLICATES, MOVED_UNLESS_GIVEN);
     with_command(command, duplicates)
 }

@@ -246,6 +246,7 @@ fn any_files<'a>(
     Ok(KeysPlan {
         form,
         zero: is_set(found, "zero"),
+        json: is_set(found, "json"),
         recursive: is_set(found, "recursive"),
         from,
         files,

@@ -1,5 +1,5 @@
 use Rattle.std.proofs.Common.{codes}
-use Rattle.life_cli.specs.CommandLine.{named, canon_line, convert_line, same_line, show_line, step_line, files_line}
+use Rattle.life_cli.specs.CommandLine.{named, canon_line, convert_line, same_line, show_line, step_line, keys_line, files_line}
 use Rattle.life_cli.proofs.plans.commands.golly_canon.Goals as goal
 
 pub returns : goal.returns
@@ -9,5 +9,5 @@ returns c =
     let three = c.in_ok-command-4.ensures _ same_line two c.same.ensures in
     let four = c.in_ok-command-5.ensures _ show_line three c.show.ensures in
     let five = c.in_ok-command-6.ensures _ step_line four c.step.ensures in
-    let six = c.in_ok-command-7.ensures _ (files_line (codes "keys")) five c.any_files-keys.ensures in
+    let six = c.in_ok-command-7.ensures _ keys_line five c.keys.ensures in
     c.with_command-7.ensures _ (files_line (codes "duplicates")) six c.any_files-duplicates.ensures

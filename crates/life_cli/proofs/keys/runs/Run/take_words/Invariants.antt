@@ -6,7 +6,7 @@ abbrev pub invariant-loop-word : goal.invariant-loop-word
 invariant-loop-word g l = record {
   can : CanTake (goal.F-IsAlwaysCallable g) l.self (g.W.Sink.failures l.out) (g.E.Sink.failures l.err);
   stalled : g.W.Sink.stalled l.out ≡ g.W.Sink.stalled l.initial.out;
-  zero : l.self.outputs.zero ≡ l.initial.self.outputs.zero;
+  style : l.self.outputs.style ≡ l.initial.self.outputs.style;
   form : l.self.files.form ≡ l.initial.self.files.form;
   took : TakesFiles (goal.F-step g) g.R.Source.remaining g.R.Source.failures g.W.Sink.contents g.E.Sink.contents g.E.Sink.failures g.E.Sink.stalled
       l.initial.self.files.form
