@@ -35,7 +35,8 @@ _golly_canon() {
                 convert) COMPREPLY=($(compgen -W "--to --explain --help -h" -- "$word")) ;;
                 step) COMPREPLY=($(compgen -W "--table --explain --help -h" -- "$word")) ;;
                 canon | same) COMPREPLY=($(compgen -W "--form --explain --help -h" -- "$word")) ;;
-                keys | duplicates) COMPREPLY=($(compgen -W "--form --zero --from --recursive -r --help -h" -- "$word")) ;;
+                keys) COMPREPLY=($(compgen -W "--form --zero --json --from --recursive -r --help -h" -- "$word")) ;;
+                duplicates) COMPREPLY=($(compgen -W "--form --zero --from --recursive -r --help -h" -- "$word")) ;;
                 show) COMPREPLY=($(compgen -W "--explain --help -h" -- "$word")) ;;
             esac
             ;;

@@ -16,6 +16,7 @@ complete -c golly_canon -n '__fish_seen_subcommand_from same' -x -l form -a 'pla
 complete -c golly_canon -n '__fish_seen_subcommand_from step' -r -l table -d 'The rule table'
 complete -c golly_canon -n '__fish_seen_subcommand_from keys' -x -l form -a 'placed moved turned' -d 'The form to take'
 complete -c golly_canon -n '__fish_seen_subcommand_from keys' -l zero -d 'End names in NUL'
+complete -c golly_canon -n '__fish_seen_subcommand_from keys' -l json -d 'Write an object of JSON for each file'
 complete -c golly_canon -n '__fish_seen_subcommand_from keys' -r -l from -d 'The list of further files'
 complete -c golly_canon -n '__fish_seen_subcommand_from keys' -s r -l recursive -d 'Take the files in folders and below them'
 complete -c golly_canon -n '__fish_seen_subcommand_from duplicates' -x -l form -a 'placed moved turned' -d 'The form to take'

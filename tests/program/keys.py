@@ -5,7 +5,7 @@ which `sha256sum` writes of a file of that name with that text.
 
 usage: tests/program/keys.py PROGRAM [--cases N] [--seed SEED]
 
-The rows are: forms and the order of files; lists (`--from`), with both ends; odd names; files that are refused, and that can't be opened or read; the
+The rows are: forms and the order of files; lists (`--from`), with both ends; objects (`--json`), which Python's `json` reads; odd names; files that are refused, and that can't be opened or read; the
 statuses; outputs that fail; the line of progress on a terminal; N random files of both formats in one process; and 100,000 names in one process,
 within bounds of time and memory. It needs coreutils from 9.0 on, and GNU time. The last line counts the checks.
 """
@@ -14,6 +14,7 @@ import argparse
 import functools
 import hashlib
 import itertools
+import json
 import multiprocessing
 import os
 import pty
@@ -336,6 +337,82 @@ def name_rows(place, texts):
     place.row("a word that is no UTF-8", ["pair.rle", NO_TEXT[0]], wanted([(b"pair.rle", SMALL[b"pair.rle"]), ("\ufffd".encode(), OTHER)]))
 
 
+# ---- objects
+
+# What an object says of a file by its text alone, worked out by hand.
+OBJECTS = [
+    (b"pair.rle", 0, b'{"name":"pair.rle","key":"%s"}\n' % key_of(PAIR_TEXT).encode()),
+    (b"child.mc", 2, b'{"name":"child.mc","kind":"BadChild","line":4,"reason":'
+     b'"A child number doesn\'t refer to an earlier square one level down."}\n'),
+    (b"absent", 3, b'{"name":"absent","kind":"ReadFault","reason":"no such file"}\n'),
+    (b".", 3, b'{"name":".","kind":"ReadFault","reason":"is a folder"}\n'),
+    (b'q"u\\o', 3, b'{"name":"q\\"u\\\\o","kind":"ReadFault","reason":"no such file"}\n'),
+    (bytes(range(1, 32)), 3, b'{"name":"\\u0001\\u0002\\u0003\\u0004\\u0005\\u0006\\u0007\\b\\t\\n\\u000b\\f\\r\\u000e\\u000f\\u0010\\u0011'
+     b'\\u0012\\u0013\\u0014\\u0015\\u0016\\u0017\\u0018\\u0019\\u001a\\u001b\\u001c\\u001d\\u001e\\u001f","kind":"ReadFault","reason":"no such file"}\n'),
+    ("\u00e9\x7f\u2028\U0001f600".encode(), 3, '{"name":"\u00e9\x7f\u2028\U0001f600","kind":"ReadFault","reason":"no such file"}\n'.encode()),
+]
+OBJECT_DEVICES = [
+    ("the object of a file for which there is no memory", 'ulimit -v 12000; "$program" keys --json large',
+     Answer(4, b'{"name":"large","kind":"Memory","reason":"Memory was refused."}\n')),
+    ("objects on a full output", '"$program" keys --json absent pair.mc > /dev/full', Answer(3, b"", b"WriteFault\n")),
+]
+
+
+def object_of(name, data, form="placed"):
+    """The object of a file, as Python has it."""
+    status, said = outcome_of(data, form)
+    name = name.decode(errors="replace")
+    if status == 0:
+        return {"name": name, "key": said}
+    if isinstance(data, str):
+        return {"name": name, "kind": "ReadFault", "reason": said}
+    line, kind, reason = re.fullmatch(r"(?:line (\d+): )?(\w+): (.*)", said).groups()
+    return {"name": name, "kind": kind, **({"line": int(line)} if line else {}), "reason": reason}
+
+
+def object_problems(found, files, form="placed"):
+    """What is wrong with the answer of a run with --json over files, each a name and its bytes, or why it can't be read."""
+    # The names of members are held to their order, and each object to a line.
+    ours = [list(json.loads(line).items()) for line in found.output.decode().split("\n")[:-1]]
+    its = [list(object_of(name, data, form).items()) for name, data in files]
+    status = max((outcome_of(data, form)[0] for _, data in files), default=0)
+    errors = b"".join(warned(name, data) for name, data in files if outcome_of(data, form)[0] == 0)
+    return [f"{a!r:.300} and not {b!r:.300}" for a, b in itertools.zip_longest(ours, its) if a != b] + (
+        [] if found.output.endswith(b"\n") or not files else ["the last object has no end"]) + problems_of(
+        found._replace(output=b""), Answer(status, b"", errors))
+
+
+def object_rows(place):
+    for name, status, text in OBJECTS:
+        place.row(f"the object of {name[:20]!r}", ["--json", name], Answer(status, text))
+    files = [(name, place.files.get(name, ABSENT)) for name in ORDER]
+    for form in ("placed", "moved", "turned"):
+        found = place.run(["--json", "--form", form, *ORDER])
+        counting.row(f"the objects of the files in their order, {form}", object_problems(found, files, form))
+    place.row("no object of no file", ["--json", "--from", "-"], Answer(0))
+    place.row("no object where the list can't be read", ["--json", "blank", "--from", "absent"], Answer(3, b"", b"ReadFault\n"))
+    found = place.run(["pair.rle", NO_TEXT[0], "--json"])
+    counting.row("the object of a word that is no UTF-8", object_problems(found, [(b"pair.rle", SMALL[b"pair.rle"]), (NO_TEXT[0], OTHER)]))
+    found = place.run(["--json", "-", "blank"], b"o!\n")
+    counting.row("the object of a refused standard input", object_problems(found, [(b"-", b"o!\n"), (b"blank", SMALL[b"blank"])]))
+    # A file that is refused is warned of no more than without --json.
+    for name, data in ((b"one-line.mc", b"[M2]\r....*$$$$$$$$\r"), (b"one-line-refused.mc", b"[M2]\r....*$$$$$$$$\r\nx\n")):
+        place.put(name, data)
+        counting.row(f"warnings in addition to objects: {name.decode()}", object_problems(place.run(["--json", name]), [(name, data)]))
+    place.put(b"large", leaves(400_000))
+    for name, script, answer in OBJECT_DEVICES:
+        counting.row(name, problems_of(place.shell(script), answer))
+
+
+def odd_object_rows(place):
+    found = place.run(["--json", "--", *ODD])
+    counting.row("the objects of odd names", object_problems(found, [(name, place.files[name]) for name in ODD]))
+    names = [*ODD, *NO_TEXT, b"\xffe\xc3", *[bytes([byte]) for byte in range(128, 256)]]
+    listed_files = [(name, OTHER if name.decode(errors="replace").encode() != name else place.files[name]) for name in names]
+    found = place.run(["--json", "--zero", "--from", "-"], listed(names, b"\0"))
+    counting.row("the objects of names that end in NUL, some of which are no UTF-8", object_problems(found, listed_files))
+
+
 # ---- words
 
 MISUSES = [
@@ -344,6 +421,7 @@ MISUSES = [
     ("a list without its name", ["blank", "--from"]),
     ("a list twice", ["--from", "blank", "--from", "blank"]), ("an option of another command", ["blank", "--to", "mc"]),
     ("an option that isn't there", ["blank", "--fast"]), ("a value for --zero", ["--zero=yes", "blank"]),
+    ("no file, but objects", ["--json"]), ("objects twice", ["--json", "blank", "--json"]),
 ]
 
 
@@ -575,6 +653,8 @@ def main():
         standard_input_rows(small)
         list_rows(small)
         name_rows(odd, texts.here)
+        odd_object_rows(odd)
+        object_rows(small)
         word_rows(small)
         device_rows(small)
         progress_rows(small)

@@ -5,6 +5,7 @@ mod devices;
 mod duplicates;
 mod failures;
 mod forms;
+mod keys;
 mod pieces;
 mod plans;
 mod refusals;

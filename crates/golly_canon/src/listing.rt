@@ -7,7 +7,7 @@ use crate::outputs::{Errors, Output, Visible};
 use crate::progress::{Beside, ProgressLine};
 use crate::watching::{Watched, Watcher};
 use life_base::{Device, Kind};
-use life_cli::plans::{Form, KeysPlan};
+use life_cli::plans::KeysPlan;
 use life_cli::{Opened, Origin, Seeds, refuse, write_duplicates, write_keys};
 use std::alloc::AllocError;
 use std::cell::Cell;
@@ -64,8 +64,9 @@ fn name_of(origin: Origin<'_>) -> &str {
 }
 
 impl<'a> Run<'a> {
-    /// Standard output, whose lines come in place of the line of progress.
-    fn out(&self, rt: &HostRuntime) -> Output<'_, Beside<'_, Visible<Stdout>>> {
+    /// Standard output, whose lines come in place of the line of progress. Where they are objects of JSON, one says if the file that was opened last is
+    /// refused.
+    fn out(&self, rt: &HostRuntime, json: bool) -> Output<'_, Beside<'_, Visible<Stdout>>> {
         let stream = rt.stdout();
         Output {
             stream: Beside {
@@ -77,6 +78,7 @@ impl<'a> Run<'a> {
                 clears: self.progress.is_shared,
             },
             is_left: &self.is_left,
+            is_refused: json.then_some(&self.is_refused),
         }
     }
 
@@ -137,7 +139,7 @@ impl<'a> Run<'a> {
 
     /// Writes what is wanted of the plan's files, and between their lines how far that is.
     fn write(&self, rt: &HostRuntime, seeds: &Seeds, plan: &KeysPlan<'_>, listing: Listing) -> u8 {
-        let mut out = Device::new(self.out(rt));
+        let mut out = Device::new(self.out(rt, plan.json));
         let mut err = Device::new(self.errors(rt));
         let opener = |origin: Origin<'_>| self.open(rt, origin);
         match listing {
@@ -180,8 +182,7 @@ fn write_listing(
 fn plan_of<'a>(
     rt: &HostRuntime,
     found: &'a Found,
-    form: Form,
-    zero: bool,
+    plan: &KeysPlan<'_>,
 ) -> Result<KeysPlan<'a>, AllocError> {
     let mut files = Vec::new(rt.alloc());
     for file in found.files.as_slice() {
@@ -190,8 +191,9 @@ fn plan_of<'a>(
         }
     }
     Ok(KeysPlan {
-        form,
-        zero,
+        form: plan.form,
+        zero: plan.zero,
+        json: plan.json,
         recursive: true,
         from: found.list.as_deref(),
         files,
@@ -208,7 +210,7 @@ fn write_below(
 ) -> Result<u8, AllocError> {
     take_list(rt, plan.from, &mut found)?;
     take_words(rt, plan.files.as_slice(), &mut found)?;
-    let whole = plan_of(rt, &found, plan.form, plan.zero)?;
+    let whole = plan_of(rt, &found, plan)?;
     Ok(write_listing(rt, held, &found, &whole, listing))
 }
 

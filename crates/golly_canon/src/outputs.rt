@@ -17,10 +17,24 @@ pub(crate) struct Output<'a, W> {
     pub stream: W,
     /// Set as soon as a write finds that nobody reads the output any more.
     pub is_left: &'a Cell<bool>,
+    /// Where `keys` writes objects of JSON: set by the object of a file without a key.
+    pub is_refused: Option<&'a Cell<bool>>,
+}
+
+/// Whether an object of JSON is that of a file without a key. A quote in a name is escaped, so that no name has this text.
+fn has_kind(object: &[u8]) -> bool {
+    object
+        .windows(9)
+        .any(|bytes| bytes == b",\"kind\":\"".as_slice())
 }
 
 impl<'a, W: Write> Write for Output<'a, W> {
     fn write(&mut self, buf: &[u8]) -> Result<usize> {
+        if let Some(is_refused) = self.is_refused {
+            if has_kind(buf) {
+                is_refused.set(true);
+            }
+        }
         let written = self.stream.write(buf);
         if is_broken_pipe(&written) {
             self.is_left.set(true);

@@ -10,7 +10,7 @@ use std::io::{self, Result as IoResult};
 use std::process::Abort;
 
 /// The bytes of the file that has this name.
-fn bytes_of(origin: Origin<'_>) -> IoResult<&'static [u8]> {
+pub(super) fn bytes_of(origin: Origin<'_>) -> IoResult<&'static [u8]> {
     let Origin::File(name) = origin else {
         return Ok(b"east\n\nline\nabsent\n");
     };

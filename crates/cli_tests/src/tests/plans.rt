@@ -235,34 +235,42 @@ fn requests_over_any_files(rt: HostRuntime) {
     }
 }
 
-/// The options of a command over any number of files: --zero, --recursive and --from.
+/// The options of a command over any number of files: --zero, --recursive, --json (of `keys` alone) and --from.
 #[test]
 fn options_over_any_files(rt: HostRuntime) {
-    let rows: [(&[&str], bool, bool, Option<&str>); 8] = [
-        (&[NAME, "keys", "a"], false, false, None),
-        (&[NAME, "keys", "a", "--zero"], true, false, None),
-        (&[NAME, "keys", "-r", "a"], false, true, None),
+    let rows: [(&[&str], [bool; 3], Option<&str>); 10] = [
+        (&[NAME, "keys", "a"], [false, false, false], None),
+        (&[NAME, "keys", "a", "--zero"], [true, false, false], None),
+        (&[NAME, "keys", "-r", "a"], [false, true, false], None),
+        (&[NAME, "keys", "--json", "a"], [false, false, true], None),
+        (
+            &[NAME, "keys", "a", "--zero", "--json", "-r"],
+            [true, true, true],
+            None,
+        ),
         (
             &[NAME, "keys", "--recursive", "--from", "l"],
-            false,
-            true,
+            [false, true, false],
             Some("l"),
         ),
-        (&[NAME, "duplicates", "a"], false, false, None),
-        (&[NAME, "duplicates", "--", "a", "-r"], false, false, None),
-        (&[NAME, "duplicates", "a", "-r"], false, true, None),
+        (&[NAME, "duplicates", "a"], [false, false, false], None),
+        (
+            &[NAME, "duplicates", "--", "a", "-r"],
+            [false, false, false],
+            None,
+        ),
+        (&[NAME, "duplicates", "a", "-r"], [false, true, false], None),
         (
             &[NAME, "duplicates", "--from=-", "--zero", "--recursive"],
-            true,
-            true,
+            [true, true, false],
             Some("-"),
         ),
     ];
-    for (words, zero, recursive, from) in rows {
+    for (words, flags, from) in rows {
         let Some((found, _)) = plan_of_files(rt.alloc(), words) else {
             panic!(rt; "refused");
         };
-        assert!(rt; found.zero == zero && found.recursive == recursive && found.from == from);
+        assert!(rt; [found.zero, found.recursive, found.json] == flags && found.from == from);
     }
 }
 
@@ -279,7 +287,7 @@ fn refusal_of<'a>(alloc: Global, words: &'a [&'a str]) -> Option<ErrorKind> {
 
 #[test]
 fn usages(rt: HostRuntime) {
-    let rows: [(&[&str], ErrorKind); 34] = [
+    let rows: [(&[&str], ErrorKind); 36] = [
         (&[NAME], ErrorKind::MissingSubcommand),
         (&[NAME, "canon"], ErrorKind::MissingRequiredArgument),
         (&[NAME, "canon", "a", "b"], ErrorKind::UnknownArgument),
@@ -332,6 +340,14 @@ fn usages(rt: HostRuntime) {
         (&[NAME, "canon", "-r", "a"], ErrorKind::UnknownArgument),
         (&[NAME, "keys"], ErrorKind::MissingRequiredArgument),
         (&[NAME, "keys", "-R", "a"], ErrorKind::UnknownArgument),
+        (
+            &[NAME, "keys", "--json"],
+            ErrorKind::MissingRequiredArgument,
+        ),
+        (
+            &[NAME, "duplicates", "a", "--json"],
+            ErrorKind::UnknownArgument,
+        ),
         (
             &[NAME, "keys", "--explain", "a"],
             ErrorKind::UnknownArgument,

@@ -287,11 +287,22 @@ is followed.
 
 LIST has one name a line, as `find` writes them. With --zero each name ends in NUL, as
 `find -print0` writes them, and so do the lines of the output. The list is read before
-any file is opened. In it, - is a file of that name.",
+any file is opened. In it, - is a file of that name.
+
+With --json each file has an object of JSON, one a line, also if it has no key:
+
+  {\"name\":\"glider.rle\",\"key\":\"7b1c..\"}
+  {\"name\":\"bad.rle\",\"kind\":\"ZeroCount\",\"line\":3,\"reason\":\"A count is 0.\"}
+  {\"name\":\"gone.rle\",\"kind\":\"ReadFault\",\"reason\":\"no such file\"}
+
+Nothing is then written to standard error about a file without a key. A name that isn't
+UTF-8 text has U+FFFD for the bytes that aren't. Each object ends in a line feed, also
+with --zero.",
     notes: "Examples:
   golly_canon keys *.rle *.mc
   golly_canon keys -r patterns > keys
   golly_canon keys --form turned *.rle
+  golly_canon keys --json -r patterns > keys.jsonl
   find . -name '*.rle' -print0 | golly_canon keys --zero --from - > keys
 
 `golly_canon duplicates` lists the files that have one key, in groups.

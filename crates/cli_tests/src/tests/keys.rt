@@ -1,0 +1,59 @@
+//! The keys of files, as lines and as objects of JSON.
+
+use super::devices::{assert_left, sink_with};
+use super::duplicates::bytes_of;
+use life_base::Device;
+use life_cli::plans::Request;
+use life_cli::{Seeds, request, write_keys};
+use std::alloc::Global;
+use std::process::Abort;
+
+/// A run over the files that these words name prints this, reports this, and ends with this status.
+fn assert_run(
+    rt: &impl Abort,
+    alloc: Global,
+    words: &[&str],
+    text: &[u8],
+    reports: &[u8],
+    status: u8,
+) {
+    let Ok(Request::Keys(plan)) = request(alloc, words) else {
+        panic!(rt; "no keys");
+    };
+    let mut out = sink_with(alloc, 1000, 7);
+    let mut err = sink_with(alloc, 1000, 7);
+    let got = write_keys(
+        alloc,
+        &Seeds::fixed(),
+        &plan,
+        |origin| Ok(Device::new(bytes_of(origin)?)),
+        &mut out,
+        &mut err,
+    );
+    assert_left(rt, (got, out, err), (status, text, reports));
+}
+
+/// A file with a key, one that is refused, and one that can't be opened.
+#[test]
+fn lines_and_objects(rt: HostRuntime) {
+    let rows: [(&[&str], &[u8], &[u8]); 3] = [
+        (
+            &["p", "keys", "twins", "bad", "q\"\n"],
+            b"5d590ed454cf10f531d11807fad8d284b97111a728b0ebc44c0fdc897c4d34ae  twins\n",
+            b"bad: line 1: BadHeader: The header isn't x = .., y = .., rule = ..\nq\"\\n: no such file\n",
+        ),
+        (
+            &["p", "keys", "--json", "twins", "bad", "q\"\n"],
+            b"{\"name\":\"twins\",\"key\":\"5d590ed454cf10f531d11807fad8d284b97111a728b0ebc44c0fdc897c4d34ae\"}\n{\"name\":\"bad\",\"kind\":\"BadHeader\",\"line\":1,\"reason\":\"The header isn't x = .., y = .., rule = ..\"}\n{\"name\":\"q\\\"\\n\",\"kind\":\"ReadFault\",\"reason\":\"no such file\"}\n",
+            b"",
+        ),
+        (
+            &["p", "keys", "--zero", "--json", "q\x01\\", "--from", "-"],
+            b"{\"name\":\"q\\u0001\\\\\",\"kind\":\"ReadFault\",\"reason\":\"no such file\"}\n{\"name\":\"east\\n\\nline\\nabsent\\n\",\"kind\":\"ReadFault\",\"reason\":\"no such file\"}\n",
+            b"",
+        ),
+    ];
+    for (words, text, reports) in rows {
+        assert_run(&rt, rt.alloc(), words, text, reports, 3);
+    }
+}
