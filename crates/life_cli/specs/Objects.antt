@@ -6,7 +6,7 @@ use Rattle.life_base.specs.Kinds.{kind_name}
 use Rattle.life_base.specs.declared.kind.Kind.{Kind}
 use Rattle.life_cli.specs.Json.{json_text, name_text}
 use Rattle.life_cli.specs.Keys.{reason_of}
-use Rattle.life_cli.specs.Sentences.{sentence_of}
+use Rattle.fault_sentences.specs.Sentences.{sentence_of}
 use Rattle.life_cli.specs.declared.keys.outcome.Outcome.{Outcome}
 use Rattle.life_cli.specs.declared.keys.outcome.Outcome.TheVariants.{Key, Refused, Unopened}
 

@@ -6,8 +6,8 @@ ghost use Rattle.life_cli.specs.Words.{LeavesSink, WritesText, key_object, objec
 use super::lines::reason;
 use super::outcome::Outcome;
 use crate::json::{Piece, write_pieces};
-use crate::sentences::sentence;
 use crate::text_sink::TextSink;
+use fault_sentences::sentence;
 use itoa::Buffer;
 use life_base::{Fault, Kind, Sink, write_text};
 use std::alloc::Global;
