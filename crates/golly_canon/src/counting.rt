@@ -1,45 +1,70 @@
-//! How many names a list has, counted as its bytes pass.
+//! How many names a list or an output has, counted as its bytes pass.
 
 use std::cell::Cell;
 
-/// The names of a list that were begun so far.
+/// The names of a text that were begun so far.
 #[derive(Drop)]
 pub(crate) struct NameCount {
     // The byte that ends a name.
     end: u8,
+    // The byte that ends a name in the other kind of text.
+    other_end: u8,
     // Whether the bytes so far end within a name.
     is_within: Cell<bool>,
     count: Cell<usize>,
+    empty_count: Cell<usize>,
+    has_other_end: Cell<bool>,
 }
 
 impl NameCount {
     /// No names. Whether each ends in NUL, or else in LF.
     pub(crate) fn new(zero: bool) -> NameCount {
+        let (end, other_end) = if zero { (b'\0', b'\n') } else { (b'\n', b'\0') };
         NameCount {
-            end: if zero { b'\0' } else { b'\n' },
+            end,
+            other_end,
             is_within: Cell::new(false),
             count: Cell::new(0),
+            empty_count: Cell::new(0),
+            has_other_end: Cell::new(false),
         }
     }
 
-    /// Takes the next bytes of the list.
+    /// Takes the next bytes of the text.
     pub(crate) fn take(&self, bytes: &[u8]) {
         let mut is_within = self.is_within.get();
         let mut count = self.count.get();
+        let mut empty_count = self.empty_count.get();
         for byte in bytes {
-            if *byte == self.end {
-                is_within = false;
-            } else if !is_within {
+            if *byte != self.end {
+                count = count.saturating_add(usize::from(!is_within));
                 is_within = true;
-                count = count.saturating_add(1);
+            } else {
+                empty_count = empty_count.saturating_add(usize::from(!is_within));
+                is_within = false;
             }
         }
         self.is_within.set(is_within);
         self.count.set(count);
+        self.empty_count.set(empty_count);
+        self.has_other_end.set(self.has_other_end.get() || bytes.contains(&self.other_end));
     }
 
-    /// How many names that is.
+    /// How many names that is, without the empty ones.
     pub(crate) fn count(&self) -> usize {
         self.count.get()
+    }
+
+    /// How many groups these names are in, where an empty name separates two groups.
+    pub(crate) fn groups(&self) -> usize {
+        match self.count.get() {
+            0 => 0,
+            _ => self.empty_count.get().saturating_add(1),
+        }
+    }
+
+    /// Whether there is a NUL where each name ends in LF, or an LF where each ends in NUL.
+    pub(crate) fn has_other_end(&self) -> bool {
+        self.has_other_end.get()
     }
 }

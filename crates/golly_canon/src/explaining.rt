@@ -1,4 +1,4 @@
-//! What is said of a fault after its own line: the file, the line's text, a sentence, and what to do.
+//! What is said of a fault after its own line: the file, the line's text, a sentence, and what to do; and the warning of a file after the answer.
 
 use crate::escaping::push_visible;
 use crate::foreign::{Foreign, recognized};
@@ -6,6 +6,7 @@ use crate::item_marks::push_item_mark;
 use crate::opening::HeldStreams;
 use crate::outputs::Nowhere;
 use crate::rereading::{SHOWN, again, head, line, unreadable};
+use crate::watching::Warning;
 use fault_sentences::sentence;
 use life_base::{Device, Fault, Kind};
 use life_cli::plans::{Form, Task, TaskPlan};
@@ -300,4 +301,17 @@ pub(crate) fn explain(
         Kind::ReadFault => explain_unread(rt, held, plan),
         _ => say(rt, explanation(rt, seeds, plan, refusal)),
     }
+}
+
+/// The line of a file's warning.
+fn warning_line(rt: &HostRuntime, name: &str, warning: Warning) -> Result<String, AllocError> {
+    let mut line = String::new(rt.alloc());
+    push_file(&mut line, name)?;
+    warning.push(&mut line)?;
+    Ok(line)
+}
+
+/// Writes the warning of a file.
+pub(crate) fn warn(rt: &HostRuntime, name: &str, warning: Warning) {
+    say(rt, warning_line(rt, name, warning));
 }

@@ -1,11 +1,12 @@
 //! The commands over any number of files, `keys` and `duplicates`.
 
+use crate::closing::{Hints, Tally};
 use crate::counting::NameCount;
 use crate::folders::{Found, take_list, take_words};
 use crate::opening::{HeldStreams, Input, open_no_folder};
-use crate::outputs::{Errors, Output, Visible};
+use crate::outputs::{Counted, Errors, Output, Visible};
 use crate::progress::{Beside, ProgressLine};
-use crate::watching::{Watched, Watcher};
+use crate::watching::{Watched, Watcher, watched};
 use life_base::{Device, Kind};
 use life_cli::plans::KeysPlan;
 use life_cli::{Opened, Origin, Seeds, refuse, write_duplicates, write_keys};
@@ -23,7 +24,7 @@ pub(crate) enum Listing {
     Duplicates,
 }
 
-/// A run over files, beside its plan.
+/// What a run over files keeps as it goes.
 #[derive(Drop)]
 struct Run<'a> {
     held: &'a HeldStreams,
@@ -34,10 +35,18 @@ struct Run<'a> {
     lists: Cell<bool>,
     /// The names in the list.
     names: NameCount,
+    /// What the files show of the arguments.
+    hints: Hints,
+    /// The names in the output.
+    written: NameCount,
+    /// Whether the output is written to its end.
+    is_whole: Cell<bool>,
     /// Whether the reader of standard output has left.
     is_left: Cell<bool>,
-    /// Whether anything was reported of the file that was opened last.
-    is_refused: Cell<bool>,
+    /// The lines that reported why files are passed over.
+    reported: NameCount,
+    /// How many of them came before the file that was opened last.
+    reported_before: Cell<usize>,
 }
 
 /// Opens what a name represents, unless it is known that it can't be opened.
@@ -66,42 +75,63 @@ fn name_of(origin: Origin<'_>) -> &str {
 impl<'a> Run<'a> {
     /// Standard output, whose lines come in place of the line of progress. Where they are objects of JSON, one says if the file that was opened last is
     /// refused.
-    fn out(&self, rt: &HostRuntime, json: bool) -> Output<'_, Beside<'_, Visible<Stdout>>> {
+    fn out(
+        &self,
+        rt: &HostRuntime,
+        json: bool,
+    ) -> Output<'_, Counted<'_, Beside<'_, Visible<Stdout>>>> {
         let stream = rt.stdout();
         Output {
-            stream: Beside {
-                stream: Visible {
-                    stream,
-                    is_terminal: stream.is_terminal(),
+            stream: Counted {
+                stream: Beside {
+                    stream: Visible {
+                        stream,
+                        is_terminal: stream.is_terminal(),
+                    },
+                    progress: &self.progress,
+                    clears: self.progress.is_shared,
                 },
-                progress: &self.progress,
-                clears: self.progress.is_shared,
+                names: &self.written,
+                is_whole: &self.is_whole,
             },
             is_left: &self.is_left,
             is_refused: json.then_some(&self.is_refused),
         }
     }
 
-    /// Standard error, whose lines do too. A report there says that the file that was opened last is refused.
-    fn errors(&self, rt: &HostRuntime) -> Errors<'_, Beside<'_, Visible<Stderr>>> {
+    /// Standard error, whose lines do too.
+    fn stderr(&self, rt: &HostRuntime) -> Beside<'_, Visible<Stderr>> {
         let stream = rt.stderr();
-        Errors {
-            stream: Beside {
-                stream: Visible {
-                    stream,
-                    is_terminal: stream.is_terminal(),
-                },
-                progress: &self.progress,
-                clears: true,
+        Beside {
+            stream: Visible {
+                stream,
+                is_terminal: stream.is_terminal(),
             },
+            progress: &self.progress,
+            clears: true,
+        }
+    }
+
+    /// The same for reports, each of which says that a file is passed over.
+    fn errors(&self, rt: &HostRuntime) -> Errors<'_, Beside<'_, Visible<Stderr>>> {
+        Errors {
+            stream: self.stderr(rt),
             is_left: &self.is_left,
-            is_used: &self.is_refused,
+            lines: &self.reported,
+        }
+    }
+
+    /// Writes a text that is no report to standard error, unless the reader of standard output has left.
+    fn say(&self, rt: &HostRuntime, text: &str) {
+        if !self.is_left.get() {
+            let _ = self.stderr(rt).write_all(text.as_bytes());
         }
     }
 
     /// Writes the warning of the file that was read last, if there is one and the file wasn't refused.
     fn warn(&self, rt: &HostRuntime) {
-        let is_refused = self.is_refused.replace(false);
+        let reported = self.reported.count();
+        let is_refused = self.reported_before.replace(reported) != reported;
         let Some(warning) = self.watcher.warning() else {
             return;
         };
@@ -109,13 +139,12 @@ impl<'a> Run<'a> {
             return;
         }
         if let Ok(line) = self.watcher.line(rt, warning) {
-            let _ = self.errors(rt).write_all(line.as_bytes());
+            self.say(rt, line.as_str());
         }
     }
 
     /// Watches the file that is opened next, or if that is the list, returns what counts its names.
     fn watch(&self, name: &str) -> Option<&NameCount> {
-        self.is_refused.set(false);
         if self.lists.replace(false) {
             return Some(&self.names);
         }
@@ -128,13 +157,12 @@ impl<'a> Run<'a> {
         self.warn(rt);
         self.progress.advance(rt, self.names.count());
         let names = self.watch(name_of(origin));
-        let opened = open_found(rt, self.held, self.found, origin)?;
-        let input = Watched {
-            input: opened.input,
-            watcher: &self.watcher,
-            names,
-        };
-        Ok(Device::new(input).expecting(opened.bytes))
+        let opened = open_found(rt, self.held, self.found, origin);
+        if names.is_none() {
+            self.hints.take(origin, &opened);
+        }
+        let opened = watched(opened?, &self.watcher.watch, names);
+        Ok(Device::new(opened.input).expecting(opened.bytes))
     }
 
     /// Writes what is wanted of the plan's files, and between their lines how far that is.
@@ -146,6 +174,37 @@ impl<'a> Run<'a> {
             Listing::Keys => write_keys(rt.alloc(), seeds, plan, opener, &mut out, &mut err),
             Listing::Duplicates => {
                 write_duplicates(rt.alloc(), seeds, plan, opener, &mut out, &mut err)
+            }
+        }
+    }
+
+    /// How many of the plan's files are duplicates.
+    fn tally(&self, plan: &KeysPlan<'_>) -> Tally {
+        let passed_over = self.reported.count();
+        let all = plan.files.len().saturating_add(self.names.count());
+        Tally {
+            files: all.saturating_sub(passed_over),
+            passed_over,
+            duplicates: self.written.count(),
+            groups: self.written.groups(),
+        }
+    }
+
+    /// Says on a terminal what to change in the arguments, and how many files are duplicates.
+    fn close(&self, rt: &HostRuntime, plan: &KeysPlan<'_>, listing: Listing) {
+        if !self.is_whole.get() || !rt.stderr().is_terminal() {
+            return;
+        }
+        let hints = [
+            self.hints.of_folder(),
+            self.hints.of_list(plan.zero, &self.names),
+        ];
+        for hint in hints.iter().flatten() {
+            self.say(rt, hint);
+        }
+        if matches!(listing, Listing::Duplicates) {
+            if let Ok(line) = self.tally(plan).line(rt) {
+                self.say(rt, line.as_str());
             }
         }
     }
@@ -169,12 +228,17 @@ fn write_listing(
         watcher: Watcher::new(rt),
         lists: Cell::new(plan.from.is_some()),
         names: NameCount::new(plan.zero),
+        hints: Hints::new(plan.files.len()),
+        written: NameCount::new(plan.zero),
+        is_whole: Cell::new(false),
         is_left: Cell::new(false),
-        is_refused: Cell::new(false),
+        reported: NameCount::new(false),
+        reported_before: Cell::new(0),
     };
     let status = run.write(rt, &seeds, plan, listing);
     run.warn(rt);
     run.progress.clear();
+    run.close(rt, plan, listing);
     status
 }
 

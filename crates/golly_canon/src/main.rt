@@ -2,6 +2,7 @@
 #![tactic(auto)]
 
 mod arguments;
+mod closing;
 mod counting;
 mod escaping;
 mod explaining;

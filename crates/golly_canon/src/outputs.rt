@@ -1,5 +1,6 @@
 //! Standard output, whose reader may leave before the end; standard error, to which that isn't reported; and what a terminal gets of both.
 
+use crate::counting::NameCount;
 use std::cell::Cell;
 use std::io::{ErrorKind, Result, Write};
 
@@ -51,22 +52,47 @@ impl<'a, W: Write> Write for Output<'a, W> {
     }
 }
 
+/// An output whose names are counted.
+#[derive(Drop)]
+pub(crate) struct Counted<'a, W> {
+    pub stream: W,
+    pub names: &'a NameCount,
+    /// Set by a flush, which comes after all names.
+    pub is_whole: &'a Cell<bool>,
+}
+
+impl<'a, W: Write> Write for Counted<'a, W> {
+    fn write(&mut self, buf: &[u8]) -> Result<usize> {
+        let count = self.stream.write(buf)?;
+        self.names.take(&buf[..count]);
+        Ok(count)
+    }
+
+    fn flush(&mut self) -> Result<()> {
+        self.stream.flush()?;
+        self.is_whole.set(true);
+        Ok(())
+    }
+}
+
 /// Standard error. What is written after the reader of standard output has left is dropped.
 #[derive(Drop)]
 pub(crate) struct Errors<'a, W> {
     pub stream: W,
     pub is_left: &'a Cell<bool>,
-    /// Set by each write.
-    pub is_used: &'a Cell<bool>,
+    /// Counts the lines, also those that are dropped.
+    pub lines: &'a NameCount,
 }
 
 impl<'a, W: Write> Write for Errors<'a, W> {
     fn write(&mut self, buf: &[u8]) -> Result<usize> {
-        self.is_used.set(true);
-        if self.is_left.get() {
-            return Ok(buf.len());
-        }
-        self.stream.write(buf)
+        let count = if self.is_left.get() {
+            buf.len()
+        } else {
+            self.stream.write(buf)?
+        };
+        self.lines.take(&buf[..count]);
+        Ok(count)
     }
 
     fn flush(&mut self) -> Result<()> {

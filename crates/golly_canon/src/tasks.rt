@@ -3,18 +3,77 @@
 ghost use Rattle.std.specs.Prelude.{◌↔◌, IsSome};
 ghost use Rattle.life_cli.specs.Plans.{HasSecond};
 
-use crate::explaining::{explain, explain_unread};
-use crate::opening::{HeldStreams, open};
+use crate::explaining::{explain, explain_unread, warn};
+use crate::opening::{HeldStreams, Input, open};
 use crate::outputs::Output;
+use crate::watching::{Watch, Watched, watched};
 use life_base::{Device, Fault, Kind};
-use life_cli::plans::TaskPlan;
-use life_cli::{Refusal, Seeds, carry_out, open_files, refuse, status, tell};
+use life_cli::plans::{Task, TaskPlan};
+use life_cli::{Opened, Origin, Refusal, Seeds, carry_out, open_files, refuse, status, tell};
 use std::cell::Cell;
-use std::io::IsTerminal;
+use std::io::{IsTerminal, Result as IoResult};
 
-/// Whether a sentence comes after the line of a fault.
+/// Whether sentences come after the line of a fault, or after the answer.
 fn is_explained(rt: &HostRuntime, plan: &TaskPlan) -> bool {
     plan.explain || rt.stderr().is_terminal()
+}
+
+/// What is watched of the files of a task.
+#[derive(Drop)]
+struct Watches {
+    first: Cell<Watch>,
+    second: Cell<Watch>,
+    /// Whether the first file was opened.
+    is_begun: Cell<bool>,
+}
+
+/// The watch of a file that is opened later.
+fn watch_if(is_watched: bool) -> Cell<Watch> {
+    Cell::new(if is_watched {
+        Watch::Start
+    } else {
+        Watch::Known(None)
+    })
+}
+
+/// Writes the warning of a file that was read, if there is one.
+fn warn_of(rt: &HostRuntime, name: &str, watch: &Cell<Watch>) {
+    if let Some(warning) = watch.get().warning() {
+        warn(rt, name, warning);
+    }
+}
+
+impl Watches {
+    /// No file is opened yet. Nothing is watched where nothing is said, and a rule table isn't watched.
+    fn new(rt: &HostRuntime, plan: &TaskPlan) -> Watches {
+        let is_said = is_explained(rt, plan);
+        Watches {
+            first: watch_if(is_said),
+            second: watch_if(is_said && matches!(plan.task, Task::Same(_))),
+            is_begun: Cell::new(false),
+        }
+    }
+
+    /// Opens the next file.
+    fn open(&self, rt: &HostRuntime, origin: Origin<'_>) -> IoResult<Opened<Watched<'_, Input>>> {
+        let watch = if self.is_begun.replace(true) {
+            &self.second
+        } else {
+            &self.first
+        };
+        Ok(watched(open(rt, origin)?, watch, None))
+    }
+
+    /// Writes the warnings of the files, which were read.
+    fn warn(&self, rt: &HostRuntime, plan: &TaskPlan) {
+        let first = plan.first.as_str();
+        warn_of(rt, first, &self.first);
+        if let Some(second) = plan.second.as_deref() {
+            if second != first {
+                warn_of(rt, second, &self.second);
+            }
+        }
+    }
 }
 
 /// Opens the plan's files and does its task.
@@ -22,11 +81,12 @@ fn done(
     rt: &HostRuntime,
     seeds: &Seeds,
     plan: &TaskPlan,
+    watches: &Watches,
     is_left: &Cell<bool>,
 ) -> Result<u8, Refusal>
     requires { IsSome plan.now.second ↔ HasSecond plan.now.task }
 {
-    match open_files(plan, |origin| open(rt, origin)) {
+    match open_files(plan, |origin| watches.open(rt, origin)) {
         Ok(files) => {
             let (mut first, mut second) = files;
             let mut out = Device::new(Output {
@@ -79,9 +139,13 @@ pub(crate) fn do_task(rt: &HostRuntime, held: &HeldStreams, plan: &TaskPlan) -> 
     let Ok(seeds) = Seeds::drawn(rt) else {
         return report_unseeded(rt, held, plan);
     };
+    let watches = Watches::new(rt, plan);
     let is_left = Cell::new(false);
-    match done(rt, &seeds, plan, &is_left) {
-        Ok(status) => status,
+    match done(rt, &seeds, plan, &watches, &is_left) {
+        Ok(status) => {
+            watches.warn(rt, plan);
+            status
+        }
         Err(refusal) if is_left.get() => status(refusal.fault.kind),
         Err(refusal) => report_refusal(rt, held, &seeds, plan, &refusal),
     }

@@ -1,25 +1,29 @@
-//! What a macrocell file is probably meant to be, where the formats read it otherwise: its bytes are watched as they pass.
+//! What a pattern file is probably meant to be, where the formats read it otherwise: its bytes are watched as they pass.
 
 use crate::counting::NameCount;
 use crate::escaping::push_name;
+use crate::opening::Input;
+use life_cli::Opened;
 use std::alloc::AllocError;
 use std::cell::{Cell, RefCell};
 use std::io::{Read, Result as IoResult};
 
-/// Why a macrocell file is probably meant otherwise than it is read.
+/// Why a file is probably meant otherwise than it is read.
 #[derive(Clone, Copy, PartialEq, Eq, Debug)]
 pub(crate) enum Warning {
-    /// Its first line has a carriage return inside it.
+    /// It is macrocell, and its first line has a carriage return inside it.
     Return,
-    /// It has no line of squares.
+    /// It is macrocell, and has no line of squares.
     NoSquares,
-    /// A line before its squares would be a rule or a generation if it had a space.
+    /// It is macrocell, and a line before its squares would be a rule or a generation if it had a space.
     Comment,
+    /// It is RLE, and its header gives a size above 0, but none of its cells is in another state than 0.
+    NoCells,
 }
 
 impl Warning {
     /// The warning, as a sentence.
-    pub(crate) fn text(self) -> &'static str {
+    fn text(self) -> &'static str {
         match self {
             Warning::Return => concat!(
                 "line 1 has a carriage return inside it: the file seems to have lost its line ends, so that most of it is ",
@@ -33,7 +37,18 @@ impl Warning {
                 "a line such as `#RB36/S23` or `#G7`, without a space, is a comment here, and a rule or a generation in ",
                 "Golly",
             ),
+            Warning::NoCells => concat!(
+                "the header gives the pattern a size, but no cell is alive, so it is the blank pattern; a file that lost its ",
+                "rows looks like this",
+            ),
         }
+    }
+
+    /// Adds the warning after the name of a file, and ends the line.
+    pub(crate) fn push(self, line: &mut String) -> Result<(), AllocError> {
+        line.push_str(": warning: ")?;
+        line.push_str(self.text())?;
+        line.push('\n')
     }
 }
 
@@ -70,6 +85,20 @@ pub(crate) enum Watch {
     Rest,
     /// A line is a comment, and would be a rule or a generation if it had a space.
     Meant,
+    /// A line of RLE begins, and no header came before.
+    RleStart,
+    /// A line of RLE is a comment, and no header came before.
+    RleComment,
+    /// They are in the header of RLE, which gives no size above 0 so far.
+    Header,
+    /// They are in the header of RLE, which gives a size above 0.
+    SizedHeader,
+    /// A line begins after such a header, and no live cell came before.
+    ItemsStart,
+    /// A line after such a header is a comment, and no live cell came before.
+    ItemsComment,
+    /// They are among the items after such a header, and no live cell came before.
+    Items,
     /// It is known whether there is a warning.
     Known(Option<Warning>),
 }
@@ -81,7 +110,38 @@ fn after_mark(watch: Watch, byte: u8) -> Watch {
         (Watch::Bracket, b'M') => Watch::Letter,
         (Watch::Letter, b'2') => Watch::Digit,
         (Watch::Digit, b']') => Watch::FirstLine,
+        (Watch::Start, _) => after_rle_line(Watch::RleStart, byte),
         _ => Watch::Known(None),
+    }
+}
+
+/// What is known after one byte more of RLE, where no header came before.
+fn after_rle_line(watch: Watch, byte: u8) -> Watch {
+    match (watch, byte) {
+        (_, b'\n') => Watch::RleStart,
+        (Watch::RleStart, b'x') => Watch::Header,
+        _ => Watch::RleComment,
+    }
+}
+
+/// What is known after one byte more of a header. Before its rule, which begins with `r`, all digits are those of sizes.
+fn after_header(watch: Watch, byte: u8) -> Watch {
+    match (watch, byte) {
+        (Watch::SizedHeader, b'\n') => Watch::ItemsStart,
+        (Watch::SizedHeader, _) | (_, b'1'..=b'9') => Watch::SizedHeader,
+        (_, b'r' | b'\n') => Watch::Known(None),
+        _ => Watch::Header,
+    }
+}
+
+/// What is known after one byte more, where a header with a size came before. All letters but `b` are those of live cells, or come before one.
+fn after_items(watch: Watch, byte: u8) -> Watch {
+    match (watch, byte) {
+        (_, b'\n') => Watch::ItemsStart,
+        (Watch::ItemsComment, _) | (Watch::ItemsStart, b'#') => Watch::ItemsComment,
+        (_, b'!') => Watch::Known(Some(Warning::NoCells)),
+        (_, b'o' | b'p'..=b'y' | b'A'..=b'X') => Watch::Known(None),
+        _ => Watch::Items,
     }
 }
 
@@ -137,6 +197,9 @@ impl Watch {
             Watch::Known(_) => self,
             Watch::Start | Watch::Bracket | Watch::Letter | Watch::Digit => after_mark(self, byte),
             Watch::FirstLine | Watch::FirstReturn => after_first(self, byte),
+            Watch::RleStart | Watch::RleComment => after_rle_line(self, byte),
+            Watch::Header | Watch::SizedHeader => after_header(self, byte),
+            Watch::ItemsStart | Watch::ItemsComment | Watch::Items => after_items(self, byte),
             _ => after_line(self, byte),
         }
     }
@@ -158,7 +221,19 @@ impl Watch {
         match self {
             Watch::Known(_) => self,
             Watch::Start | Watch::Bracket | Watch::Letter | Watch::Digit => Watch::Known(None),
+            Watch::RleStart | Watch::RleComment | Watch::Header => Watch::Known(None),
+            Watch::SizedHeader | Watch::ItemsStart | Watch::ItemsComment | Watch::Items => {
+                Watch::Known(Some(Warning::NoCells))
+            }
             _ => Watch::Known(Some(Warning::NoSquares)),
+        }
+    }
+
+    /// The warning, if it is known that there is one.
+    pub(crate) fn warning(self) -> Option<Warning> {
+        match self {
+            Watch::Known(warning) => warning,
+            _ => None,
         }
     }
 }
@@ -167,7 +242,7 @@ impl Watch {
 #[derive(Drop)]
 pub(crate) struct Watcher {
     name: RefCell<String>,
-    watch: Cell<Watch>,
+    pub watch: Cell<Watch>,
 }
 
 /// Keeps a name in the place of another.
@@ -198,10 +273,7 @@ impl Watcher {
 
     /// The warning of the file that was watched, if there is one. It is returned once.
     pub(crate) fn warning(&self) -> Option<Warning> {
-        match self.watch.replace(Watch::Known(None)) {
-            Watch::Known(warning) => warning,
-            _ => None,
-        }
+        self.watch.replace(Watch::Known(None)).warning()
     }
 
     /// The line of a warning of that file.
@@ -210,9 +282,7 @@ impl Watcher {
         if let Ok(name) = self.name.try_borrow() {
             push_name(&mut line, name.as_str())?;
         }
-        line.push_str(": warning: ")?;
-        line.push_str(warning.text())?;
-        line.push('\n')?;
+        warning.push(&mut line)?;
         Ok(line)
     }
 }
@@ -221,7 +291,7 @@ impl Watcher {
 #[derive(Drop)]
 pub(crate) struct Watched<'a, R> {
     pub input: R,
-    pub watcher: &'a Watcher,
+    pub watch: &'a Cell<Watch>,
     /// Counts the names, if the input is a list.
     pub names: Option<&'a NameCount>,
 }
@@ -232,13 +302,28 @@ impl<'a, R: Read> Read for Watched<'a, R> {
         if let Some(names) = self.names {
             names.take(&buf[..count]);
         }
-        let cell = &self.watcher.watch;
-        let watch = cell.get();
-        cell.set(if count == 0 {
+        let watch = self.watch.get();
+        self.watch.set(if count == 0 {
             watch.at_end()
         } else {
             watch.after_all(&buf[..count])
         });
         Ok(count)
+    }
+}
+
+/// What was opened, with its bytes watched.
+pub(crate) fn watched<'a>(
+    opened: Opened<Input>,
+    watch: &'a Cell<Watch>,
+    names: Option<&'a NameCount>,
+) -> Opened<Watched<'a, Input>> {
+    Opened {
+        input: Watched {
+            input: opened.input,
+            watch,
+            names,
+        },
+        bytes: opened.bytes,
     }
 }

@@ -1,0 +1,117 @@
+//! What a terminal gets at the end of a run over files: what to change in the arguments, and how many files are duplicates.
+
+use crate::counting::NameCount;
+use life_cli::Origin;
+use std::alloc::AllocError;
+use std::cell::Cell;
+use std::io::{ErrorKind, Result as IoResult};
+
+/// What the files of a run show of its arguments.
+#[derive(Drop)]
+pub(crate) struct Hints {
+    // How many files the arguments name that weren't opened yet. Those of the list come after them.
+    unopened: Cell<usize>,
+    // Whether an argument is a folder.
+    has_folder: Cell<bool>,
+    // Whether a file of the list could be opened.
+    opens_listed: Cell<bool>,
+}
+
+impl Hints {
+    /// Nothing is known yet of so many files that the arguments name.
+    pub(crate) fn new(named: usize) -> Hints {
+        Hints {
+            unopened: Cell::new(named),
+            has_folder: Cell::new(false),
+            opens_listed: Cell::new(false),
+        }
+    }
+
+    /// Takes what came of opening a file.
+    pub(crate) fn take<T>(&self, origin: Origin<'_>, opened: &IoResult<T>) {
+        let unopened = self.unopened.get();
+        self.unopened.set(unopened.saturating_sub(1));
+        match opened {
+            Ok(_) => self.opens_listed.set(unopened == 0),
+            Err(error) => {
+                let is_folder = matches!(error.kind(), ErrorKind::IsADirectory);
+                if is_folder && unopened > 0 && matches!(origin, Origin::File(_)) {
+                    self.has_folder.set(true);
+                }
+            }
+        }
+    }
+
+    /// What to do about an argument that is a folder.
+    pub(crate) fn of_folder(&self) -> Option<&'static str> {
+        self.has_folder
+            .get()
+            .then_some("To read the files in a folder and below it, add -r.\n")
+    }
+
+    /// What to do about a list whose names seem to have the other end. `zero` says whether each ends in NUL.
+    pub(crate) fn of_list(&self, zero: bool, names: &NameCount) -> Option<&'static str> {
+        if !names.has_other_end() {
+            return None;
+        }
+        if !zero {
+            return Some(
+                "The list has NUL bytes. If its names end in NUL, as those of find -print0, add --zero.\n",
+            );
+        }
+        let is_one = names.count() == 1 && !self.opens_listed.get();
+        is_one.then_some(
+            "The list is one name with line feeds in it. If its names end in a line feed, leave out --zero.\n",
+        )
+    }
+}
+
+/// How many files of a run are duplicates.
+#[derive(Clone, Copy)]
+pub(crate) struct Tally {
+    /// The files that have a key.
+    pub files: usize,
+    /// The files that were passed over.
+    pub passed_over: usize,
+    /// The files in groups.
+    pub duplicates: usize,
+    pub groups: usize,
+}
+
+impl Tally {
+    /// The first part of the line.
+    fn beginning(self, rt: &HostRuntime) -> Result<String, AllocError> {
+        let Tally {
+            files,
+            passed_over: _,
+            duplicates,
+            groups,
+        } = self;
+        if files < 2 {
+            return String::from_str(rt.alloc(), "There are no two files to compare");
+        }
+        match groups {
+            0 => format!(in rt.alloc(); "No two of {files} files are the same pattern"),
+            1 => format!(in rt.alloc();
+                "{duplicates} of {files} files are in 1 group of duplicates"
+            ),
+            _ => {
+                format!(in rt.alloc();
+                    "{duplicates} of {files} files are in {groups} groups of duplicates"
+                )
+            }
+        }
+    }
+
+    /// The line that says so.
+    pub(crate) fn line(self, rt: &HostRuntime) -> Result<String, AllocError> {
+        let mut line = self.beginning(rt)?;
+        if self.passed_over > 0 {
+            let passed_over = self.passed_over;
+            let more = format!(in rt.alloc(); " (passed over: {passed_over})")?;
+            line.push_str(more.as_str())?;
+        }
+        line.push_str(".\n")?;
+        Ok(line)
+    }
+}
