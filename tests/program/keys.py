@@ -93,17 +93,25 @@ def outcome_of(data, form):
     return answer.status, told(kind, " ".join([*line, ""]))
 
 
-# What is said of a macrocell file that has a key, and is probably meant otherwise.
+# What is said of a file that has a key, and is probably meant otherwise: a macrocell file, and RLE.
 RETURN = b"line 1 has a carriage return inside it: the file seems to have lost its line ends, so that most of it is read as a comment"
 SQUARES = b"the file has no line of squares, so it is the blank pattern; a macrocell file that lost its line ends looks like this"
 COMMENT = b"a line such as `#RB36/S23` or `#G7`, without a space, is a comment here, and a rule or a generation in Golly"
+CELLS = b"the header gives the pattern a size, but no cell is alive, so it is the blank pattern; a file that lost its rows looks like this"
+
+
+def warning_of_rle(data):
+    """What is said of RLE with a key, or nothing."""
+    header = next(line for line in data.split(b"\n") if line.startswith(b"x"))
+    sizes = re.match(rb"x\s*=\s*(\d+)\s*,\s*y\s*=\s*(\d+)", header).groups()
+    return CELLS if any(it.strip(b"0") for it in sizes) and commands.File(data).pattern.plane.is_blank else None
 
 
 def warning_of(data):
     """What is said of a file with a key, or nothing."""
     first, *rest = data.split(b"\n")
     if not first.startswith(b"[M2]"):
-        return None
+        return warning_of_rle(data)
     if b"\r" in first.rstrip(b"\r"):
         return RETURN
     for number, line in enumerate(rest, 1):

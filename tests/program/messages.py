@@ -1,8 +1,8 @@
 #!/usr/bin/env python3
-"""Holds what the built program, PROGRAM, says beside its answers: which files `--recursive` finds in folders; which arguments are refused that aren't
+"""Holds what the built program, PROGRAM, says besides its answers: which files `--recursive` finds in folders; which arguments are refused that aren't
 UTF-8 text; what `--explain` adds to the line of a fault, and a terminal without it; that nothing is said where the reader of a pipe leaves; of which
-macrocell files `keys` warns; and what a terminal gets of control characters. Every text was written by hand, but for the sentences of the kinds of
-fault, which are those of the man page.
+files there are warnings; what a terminal gets at the end of `keys` and `duplicates`; and what it gets of control characters. Every text was written by
+hand, but for the sentences of the kinds of fault, which are those of the man page.
 
 usage: tests/program/messages.py PROGRAM
 
@@ -22,9 +22,9 @@ sys.dont_write_bytecode = True  # nothing is left in tests/
 sys.path.insert(0, os.path.dirname(os.path.dirname(os.path.abspath(__file__))))
 
 import keys  # noqa: E402
-from keys import ABSENT, COMMENT, FOLDER, LOCKED, RETURN, SQUARES, key_line, key_of, problems_of, sentences  # noqa: E402
+from keys import ABSENT, CELLS, COMMENT, FOLDER, LOCKED, OTHER, RETURN, SQUARES, key_line, key_of, problems_of, sentences  # noqa: E402
 from shared import counting, processes  # noqa: E402
-from shared.fixtures import FILES, HEADER, LIFE, PAIR_TEXT  # noqa: E402
+from shared.fixtures import FILES, HEADER, LIFE, PAIR_TEXT, canonical  # noqa: E402
 from shared.processes import Answer  # noqa: E402
 
 PAIR, BLANK = key_of(PAIR_TEXT), key_of(LIFE)
@@ -286,11 +286,17 @@ TWICE = [
 
 def on_terminal(place, words, source=b""):
     """A run whose standard error alone is a terminal."""
-    end, terminal = pty.openpty()
-    tty.setraw(terminal)  # no end of a line is turned into two bytes
-    with tempfile.TemporaryFile() as given, tempfile.TemporaryFile() as output:
+    with tempfile.TemporaryFile() as given:
         given.write(source)
         given.seek(0)
+        return from_stream(place, words, given)
+
+
+def from_stream(place, words, given):
+    """The same with this standard input."""
+    end, terminal = pty.openpty()
+    tty.setraw(terminal)  # no end of a line is turned into two bytes
+    with tempfile.TemporaryFile() as output:
         with subprocess.Popen([place.program, *words], cwd=place.here, stdin=given, stdout=output, stderr=terminal) as run:
             os.close(terminal)
             errors = keys.read_all(end)
@@ -343,12 +349,14 @@ def stream_rows(place):
 # Scripts whose first program writes to a pipe that nobody reads by then.
 LEFT = [
     ("canon", '"$program" canon pair'), ("same", '"$program" same --explain pair pair'), ("keys", '"$program" keys pair absent pair'),
+    ("a warning", '"$program" canon --explain lost'),
     ("keys of a folder", '"$program" keys -r tree'), ("duplicates", '"$program" duplicates pair pair'), ("the help", '"$program" --help'),
     ("the help of a command", '"$program" canon --help'),
 ]
 
 
 def pipe_rows(place):
+    place.put(b"lost", b"[M2]\r#C\r")
     for name, script in LEFT:
         # The end of the pipe is closed before the program begins.
         found = place.shell(f"mkfifo out; exec 3<>out 4>out 3<&-; rm out; {{ {script}; }} >&4; exit $?")
@@ -372,6 +380,12 @@ WARNED = [
     (b"[M2]\n#" + b"C" * 70_000 + b"\n#G7\n" + LEAF, COMMENT), (b"x = 1, y = 1\no!\n", None), (b"x = 1, y = 1\r\no!\r\n", None), (b"[M2", None), (b"", None),
     (b"[M2]\n#R B36/S23\n" + LEAF, None), (b"[M2]\n#" + b"C" * 2**20 + b"\n", None), (b"[M2]\r#\n#R B0/S\n", None),
     (b"[M2]\n#G7\n#R B0/S\n", None), (b"[M2]\n#C\n#R B3/S23\n$\n", None),
+    (b"x = 3, y = 3\n3b$3b!\n", CELLS), (b"x=0,y=10,rule=23/3\n", CELLS), (b"x = 3, y = 0, rule = Life", CELLS),
+    (b"\n \n#C o\n#CXRLE Pos=1,1\nx = 007 , y = 0\n", CELLS),
+    (b"x = 3, y = 3\n#C o!\n#o\n\n \t9$ 2.\r\n!o\nbo\n", CELLS), (b"x = 3, y = 3\n!", CELLS), (b"x = 3, y = 3, rule = A\n9$3b\n#", CELLS),
+    (b"x = 0, y = 0\n!\n", None), (b"x = 00, y = 0, rule = 23/3\n3b!\n", None), (b"x = 0, y = 0\n2o!\n", None), (b"x = 0, y = 0", None),
+    (b"#1\nx = 0, y = 0, rule = B36/S23\n!\n", None), (b"x = 3, y = 3\n3b$2bo!\n", None), (b"x = 3, y = 3, rule = A\n.$.X!\n", None),
+    (b"x = 3, y = 3, rule = A\n.$.yO!\n", None), (b"x = 3, y = 3\n3b3\n", None), (b"#C x = 3, y = 3\n", None), (b"x = 3, z = 3\n!\n", None),
 ]
 
 
@@ -393,7 +407,123 @@ def warning_rows(place):
     place.put(b"names", b"[M2]\n")
     place.holds("a list isn't watched", ["keys", "--from", "names"], Answer(0, lines_of([b"[M2]"], key_of(LIFE + LEAF))))
     place.holds("duplicates warns too", ["duplicates", "lost", "pair", "lost"], Answer(0, b"lost\nlost\n", line % (b"lost", RETURN) * 2))
-    place.holds("no other command warns", ["canon", "lost"], Answer(0, LIFE))
+    place.holds("keys warns of RLE too", ["keys", "-"], Answer(0, lines_of([b"-"], BLANK), line % (b"-", CELLS)), b"x = 3, y = 3\n")
+
+
+# Files, and what is said of each.
+ODD_FILES = [(b"lost", RETURN), (b"squareless", SQUARES), (b"commented.mc", COMMENT), (b"dead.rle", CELLS), (b"pair", None), (b"od\x1bd\n\\", SQUARES)]
+# The commands over one file, and over two, with what they answer and what is said, in its order.
+SINGLE = [["canon"], ["canon", "--form", "turned"], ["convert", "--to", "rle"], ["convert", "--to", "mc"], ["show"], ["step"]]
+DOUBLE = [
+    (["same", "lost", "dead.rle"], Answer(0, b"same\n"), [(b"lost", RETURN), (b"dead.rle", CELLS)]),
+    (["same", "dead.rle", "pair", "--form=moved"], Answer(1, b"different\n"), [(b"dead.rle", CELLS)]),
+    (["same", "pair", "lost"], Answer(1, b"different\n"), [(b"lost", RETURN)]),
+    (["same", "lost", "lost"], Answer(0, b"same\n"), [(b"lost", RETURN)]),
+    (["same", "lost", "-"], Answer(0, b"same\n"), [(b"lost", RETURN), (b"standard input", CELLS)]),
+    (["same", "-", "pair"], Answer(1, b"different\n"), [(b"standard input", CELLS)]),
+    (["same", "pair", "pair"], Answer(0, b"same\n"), []),
+    (["step", "dead.spread", "--table", "spread.rule"], Answer(0, canonical(b"Spread", 1)), [(b"dead.spread", CELLS)]),
+]
+
+
+def task_warning_rows(place):
+    """The commands over one file and two warn after what they answer, where they explain a fault."""
+    dead = b"x = 3, y = 3\n3b!\n"
+    for name, data in ((b"squareless", b"[M2]\n"), (b"commented.mc", b"[M2]\n#G7\n" + LEAF), (b"dead.rle", dead), (b"od\x1bd\n\\", b"[M2]\n#C\n"),
+                       (b"dead.spread", b"x = 1, y = 1, rule = Spread\n.!\n")):
+        place.put(name, data)
+    cases = list(DOUBLE)
+    for words in SINGLE:
+        for name, warning in ODD_FILES:
+            shown = name.replace(b"\\", b"\\\\").replace(b"\x1b", b"\\x1b").replace(b"\n", b"\\n")
+            cases.append(([*words, name], place.told([*words, name]), [] if warning is None else [(shown, warning)]))
+    for words, answer, said in cases:
+        explained_answer = answer._replace(error=b"".join(b"%s: warning: %s\n" % it for it in said))
+        name = f"{words}"
+        place.holds(f"{name} without a terminal", words, answer._replace(error=b""), dead)
+        place.holds(f"{name} --explain", [*words, "--explain"], explained_answer, dead)
+        counting.row(f"{name} on a terminal", problems_of(on_terminal(place, words, dead), explained_answer))
+    refused = Answer(2, b"", explained("line 4: BadChild", *IN_PAIR))
+    place.holds("no warning where another file is refused", ["same", "lost", "child.mc", "--explain"], refused)
+    found = place.shell('"$program" canon --explain lost > /dev/full')
+    counting.row("no warning where the output fails", problems_of(found, Answer(3, b"", b"WriteFault\nThe output can't be written.\n")))
+
+
+# ---- the end of a run over files
+
+ADD_FOLDERS = b"To read the files in a folder and below it, add -r.\n"
+ADD_ZERO = b"The list has NUL bytes. If its names end in NUL, as those of find -print0, add --zero.\n"
+LEAVE_ZERO = b"The list is one name with line feeds in it. If its names end in a line feed, leave out --zero.\n"
+IS_FOLDER, IS_ABSENT, IS_OTHER = (b"%%s: %s\n" % it.encode() for it in (FOLDER, ABSENT, OTHER))
+# Words of `keys`, its list, and what is said on a terminal: what is also said elsewhere, and a hint.
+HINTED = [
+    (["tree", "pair"], b"", IS_FOLDER % b"tree", ADD_FOLDERS), (["pair", "tree", "absent", "link"], b"",
+     IS_FOLDER % b"tree" + IS_ABSENT % b"absent" + IS_FOLDER % b"link", ADD_FOLDERS),
+    (["pair", "absent"], b"", IS_ABSENT % b"absent", b""), (["-r", "tree/b"], b"", b"", b""),
+    (["--from", "-"], b"tree\npair\n", IS_FOLDER % b"tree", b""), (["-r", "--from", "-", "pair"], b"tree\n", IS_FOLDER % b"tree", b""),
+    (["tree", "--from", "-"], b"pair\n", IS_FOLDER % b"tree", ADD_FOLDERS),
+    (["--from", "-"], b"pair\0absent\0", IS_OTHER % b"pair\0absent\0", ADD_ZERO), (["--from", "-"], b"pair\nx\0y\n", IS_OTHER % b"x\0y", ADD_ZERO),
+    (["tree", "--from", "-"], b"x\0", IS_FOLDER % b"tree" + IS_OTHER % b"x\0", ADD_FOLDERS + ADD_ZERO),
+    (["--from", "-", "--zero"], b"pair\0absent\0", IS_ABSENT % b"absent", b""), (["--from", "-"], b"pair\nabsent\n", IS_ABSENT % b"absent", b""),
+    (["--from", "-", "--zero"], b"pair\nabsent\n", IS_ABSENT % b"pair\\nabsent\\n", LEAVE_ZERO),
+    (["--from", "-", "--zero"], b"pair\n\xff", b"pair\\n\xff: can't be opened\n", LEAVE_ZERO),
+    (["--from", "-", "--zero", "pair", "absent"], b"a\nb\n", IS_ABSENT % b"absent" + IS_ABSENT % b"a\\nb\\n", LEAVE_ZERO),
+    (["--from", "-", "--zero"], b"two\nlines\0", b"", b""), (["--from", "-", "--zero"], b"a\nb\0absent\0", IS_ABSENT % b"a\\nb" + IS_ABSENT % b"absent", b""),
+    (["--from", "absent"], b"", b"ReadFault\n", b""), (["--from", "tree", "tree"], b"", b"ReadFault\n", b""),
+]
+
+
+def hint_rows(place):
+    """What `keys` and `duplicates` say on a terminal of arguments that are probably meant otherwise."""
+    place.put(b"two\nlines", PAIR_TEXT)
+    for words, source, said, hint in HINTED:
+        plain = place.told(["keys", *words], source)
+        name = f"keys {words} with {source!r}"
+        counting.row(f"{name} without a terminal", problems_of(plain, plain._replace(error=said)))
+        counting.row(f"{name} on a terminal", problems_of(on_terminal(place, ["keys", *words], source), plain._replace(error=said + hint)))
+    folder = os.open(place.path(b"tree"), os.O_RDONLY)
+    found = from_stream(place, ["keys", "-"], folder)
+    os.close(folder)
+    counting.row("a folder as standard input has no hint", problems_of(found, Answer(3, b"", IS_FOLDER % b"-")))
+    found = on_terminal(place, ["duplicates", "tree"])
+    answer = Answer(3, b"", IS_FOLDER % b"tree" + ADD_FOLDERS + b"There are no two files to compare (passed over: 1).\n")
+    counting.row("duplicates of a folder on a terminal", problems_of(found, answer))
+
+
+# Words of `duplicates`, its list, and what is said on a terminal after what is also said elsewhere.
+CLOSED = [
+    (["pair", "tree/a"], b"", b"2 of 2 files are in 1 group of duplicates.\n"), (["pair"], b"", b"There are no two files to compare.\n"),
+    (["-r", "tree/empty"], b"", b"There are no two files to compare.\n"), (["pair", "absent"], b"", b"There are no two files to compare (passed over: 1).\n"),
+    (["pair", "named.rle"], b"", b"No two of 2 files are the same pattern.\n"),
+    (["child.mc", "pair", "absent", "named.rle", "child.mc"], b"", b"No two of 2 files are the same pattern (passed over: 3).\n"),
+    (["lost", "pair", "named.rle", "tree/a", "lost", "pair"], b"", b"5 of 6 files are in 2 groups of duplicates.\n"),
+    (["named.rle", "--from", "-"], b"pair\n\nabsent\npair\n\xff\nlost\nlost\nnamed.rle\ntwo.rle",
+     b"6 of 7 files are in 3 groups of duplicates (passed over: 2).\n"),
+    (["--zero", "--from", "-"], b"two\nlines\0pair\0\0lost\0lost\0named.rle", b"4 of 5 files are in 2 groups of duplicates.\n"),
+    (["two\nlines", "two\nlines", "named.rle", "-r"], b"", b"2 of 3 files are in 1 group of duplicates.\n"),
+    (["-r", "tree/b", "tree/a.d"], b"", b"3 of 3 files are in 1 group of duplicates.\n"), (["pair", "--from", "absent"], b"", b""),
+]
+
+
+def closing_rows(place):
+    """What `duplicates` says at its end, on a terminal alone."""
+    for words, source, said in CLOSED:
+        plain = place.told(["duplicates", *words], source)
+        name = f"duplicates {words} with {source!r}"
+        found = on_terminal(place, ["duplicates", *words], source)
+        counting.row(f"{name} on a terminal", problems_of(found, plain._replace(error=plain.error + said)))
+        counting.check(b"files are" not in plain.error and b"no two files" not in plain.error, f"{name} without a terminal")
+    found = whole_terminal(place, ["duplicates", "pair", "tree/a"])
+    counting.row("duplicates where both are a terminal", problems_of(found, Answer(0, b"pair\ntree/a\n2 of 2 files are in 1 group of duplicates.\n")))
+    found = on_terminal(place, ["keys", "pair", "pair"])
+    counting.row("keys counts nothing at its end", problems_of(found, Answer(0, lines_of([b"pair", b"pair"]))))
+    with open("/dev/full", "wb") as full:
+        end, terminal = pty.openpty()
+        tty.setraw(terminal)
+        with subprocess.Popen([place.program, "duplicates", "pair", "pair"], cwd=place.here, stdin=subprocess.DEVNULL, stdout=full, stderr=terminal) as run:
+            os.close(terminal)
+            errors = keys.read_all(end)
+    counting.row("nothing is counted where the output fails", problems_of(Answer(run.returncode, b"", errors), Answer(3, b"", b"WriteFault\n")))
 
 
 def whole_terminal(place, words):
@@ -419,8 +549,8 @@ def control_rows(place):
         refused = b": line 2: BadItem: " + sentences()["BadItem"].encode() + b"\n"
         counting.row(f"a key on a terminal: {name!r}", problems_of(whole_terminal(place, ["keys", name]), Answer(0, PAIR.encode() + b"  " + shown + b"\n")))
         counting.row(f"a refusal on a terminal: {name!r}", problems_of(whole_terminal(place, ["keys", b"bad" + name]), Answer(2, b"bad" + shown + refused)))
-        counting.row(f"a group on a terminal: {name!r}",
-                     problems_of(whole_terminal(place, ["duplicates", name, name]), Answer(0, (shown + b"\n") * 2)))
+        answer = Answer(0, (shown + b"\n") * 2 + b"2 of 2 files are in 1 group of duplicates.\n")
+        counting.row(f"a group on a terminal: {name!r}", problems_of(whole_terminal(place, ["duplicates", name, name]), answer))
         found = processes.run([place.program, "keys", name, b"bad" + name], cwd=place.here, timeout=60)
         counting.row(f"both where there is no terminal: {name!r}",
                      problems_of(found, Answer(2, PAIR.encode() + b"  " + name + b"\n", b"bad" + name + refused)))
@@ -453,6 +583,9 @@ def main():
         stream_rows(place)
         pipe_rows(place)
         warning_rows(place)
+        task_warning_rows(place)
+        hint_rows(place)
+        closing_rows(place)
         control_rows(place)
         argument_control_rows(place)
     return counting.ended()

@@ -47,6 +47,8 @@ struct Run<'a> {
     reported: NameCount,
     /// How many of them came before the file that was opened last.
     reported_before: Cell<usize>,
+    /// Whether an object of JSON says that the file that was opened last has no key.
+    is_refused: Cell<bool>,
 }
 
 /// Opens what a name represents, unless it is known that it can't be opened.
@@ -73,8 +75,7 @@ fn name_of(origin: Origin<'_>) -> &str {
 }
 
 impl<'a> Run<'a> {
-    /// Standard output, whose lines come in place of the line of progress. Where they are objects of JSON, one says if the file that was opened last is
-    /// refused.
+    /// Standard output, whose lines come in place of the line of progress. If they are objects of JSON, each says whether its file has a key.
     fn out(
         &self,
         rt: &HostRuntime,
@@ -131,11 +132,12 @@ impl<'a> Run<'a> {
     /// Writes the warning of the file that was read last, if there is one and the file wasn't refused.
     fn warn(&self, rt: &HostRuntime) {
         let reported = self.reported.count();
-        let is_refused = self.reported_before.replace(reported) != reported;
+        let is_reported = self.reported_before.replace(reported) != reported;
+        let is_refused = self.is_refused.replace(false);
         let Some(warning) = self.watcher.warning() else {
             return;
         };
-        if is_refused {
+        if is_reported || is_refused {
             return;
         }
         if let Ok(line) = self.watcher.line(rt, warning) {
@@ -190,11 +192,8 @@ impl<'a> Run<'a> {
         }
     }
 
-    /// Says on a terminal what to change in the arguments, and how many files are duplicates.
-    fn close(&self, rt: &HostRuntime, plan: &KeysPlan<'_>, listing: Listing) {
-        if !self.is_whole.get() || !rt.stderr().is_terminal() {
-            return;
-        }
+    /// Says what to change in the arguments.
+    fn hint(&self, rt: &HostRuntime, plan: &KeysPlan<'_>) {
         let hints = [
             self.hints.of_folder(),
             self.hints.of_list(plan.zero, &self.names),
@@ -202,6 +201,14 @@ impl<'a> Run<'a> {
         for hint in hints.iter().flatten() {
             self.say(rt, hint);
         }
+    }
+
+    /// Says on a terminal what to change in the arguments, and how many files are duplicates.
+    fn close(&self, rt: &HostRuntime, plan: &KeysPlan<'_>, listing: Listing) {
+        if !self.is_whole.get() || !rt.stderr().is_terminal() {
+            return;
+        }
+        self.hint(rt, plan);
         if matches!(listing, Listing::Duplicates) {
             if let Ok(line) = self.tally(plan).line(rt) {
                 self.say(rt, line.as_str());
@@ -234,6 +241,7 @@ fn write_listing(
         is_left: Cell::new(false),
         reported: NameCount::new(false),
         reported_before: Cell::new(0),
+        is_refused: Cell::new(false),
     };
     let status = run.write(rt, &seeds, plan, listing);
     run.warn(rt);

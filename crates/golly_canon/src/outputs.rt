@@ -18,7 +18,7 @@ pub(crate) struct Output<'a, W> {
     pub stream: W,
     /// Set as soon as a write finds that nobody reads the output any more.
     pub is_left: &'a Cell<bool>,
-    /// Where `keys` writes objects of JSON: set by the object of a file without a key.
+    /// If `keys` writes objects of JSON: set by the object of a file without a key.
     pub is_refused: Option<&'a Cell<bool>>,
 }
 
