@@ -9,33 +9,33 @@ use std::io::{ErrorKind, Result as IoResult};
 /// What the files of a run show of its arguments.
 #[derive(Drop)]
 pub(crate) struct Hints {
-    // How many files the arguments name that weren't opened yet. Those of the list come after them.
-    unopened: Cell<usize>,
+    // How many files that the arguments name are still to be opened. Those of the list come after them.
+    arguments_left: Cell<usize>,
     // Whether an argument is a folder.
     has_folder: Cell<bool>,
     // Whether a file of the list could be opened.
-    opens_listed: Cell<bool>,
+    opens_list_files: Cell<bool>,
 }
 
 impl Hints {
     /// Nothing is known yet of so many files that the arguments name.
     pub(crate) fn new(named: usize) -> Hints {
         Hints {
-            unopened: Cell::new(named),
+            arguments_left: Cell::new(named),
             has_folder: Cell::new(false),
-            opens_listed: Cell::new(false),
+            opens_list_files: Cell::new(false),
         }
     }
 
     /// Takes what came of opening a file.
     pub(crate) fn take<T>(&self, origin: Origin<'_>, opened: &IoResult<T>) {
-        let unopened = self.unopened.get();
-        self.unopened.set(unopened.saturating_sub(1));
+        let arguments_left = self.arguments_left.get();
+        self.arguments_left.set(arguments_left.saturating_sub(1));
         match opened {
-            Ok(_) => self.opens_listed.set(unopened == 0),
+            Ok(_) => self.opens_list_files.set(arguments_left == 0),
             Err(error) => {
                 let is_folder = matches!(error.kind(), ErrorKind::IsADirectory);
-                if is_folder && unopened > 0 && matches!(origin, Origin::File(_)) {
+                if is_folder && arguments_left > 0 && matches!(origin, Origin::File(_)) {
                     self.has_folder.set(true);
                 }
             }
@@ -59,7 +59,7 @@ impl Hints {
                 "The list has NUL bytes. If its names end in NUL, as those of find -print0, add --zero.\n",
             );
         }
-        let is_one = names.count() == 1 && !self.opens_listed.get();
+        let is_one = names.count() == 1 && !self.opens_list_files.get();
         is_one.then_some(
             "The list is one name with line feeds in it. If its names end in a line feed, leave out --zero.\n",
         )
@@ -72,7 +72,7 @@ pub(crate) struct Tally {
     /// The files that have a key.
     pub files: usize,
     /// The files that were passed over.
-    pub passed_over: usize,
+    pub refusals: usize,
     /// The files in groups.
     pub duplicates: usize,
     pub groups: usize,
@@ -83,7 +83,7 @@ impl Tally {
     fn beginning(self, rt: &HostRuntime) -> Result<String, AllocError> {
         let Tally {
             files,
-            passed_over: _,
+            refusals: _,
             duplicates,
             groups,
         } = self;
@@ -106,9 +106,9 @@ impl Tally {
     /// The line that says so.
     pub(crate) fn line(self, rt: &HostRuntime) -> Result<String, AllocError> {
         let mut line = self.beginning(rt)?;
-        if self.passed_over > 0 {
-            let passed_over = self.passed_over;
-            let more = format!(in rt.alloc(); " (passed over: {passed_over})")?;
+        if self.refusals > 0 {
+            let refusals = self.refusals;
+            let more = format!(in rt.alloc(); " (passed over: {refusals})")?;
             line.push_str(more.as_str())?;
         }
         line.push_str(".\n")?;

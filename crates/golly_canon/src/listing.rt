@@ -4,9 +4,9 @@ use crate::closing::{Hints, Tally};
 use crate::counting::NameCount;
 use crate::folders::{Found, take_list, take_words};
 use crate::opening::{HeldStreams, Input, open_no_folder};
-use crate::outputs::{Counted, Errors, Output, Visible};
+use crate::outputs::{Errors, NameCounter, Output, Visible};
 use crate::progress::{Beside, ProgressLine};
-use crate::watching::{Watched, Watcher, watched};
+use crate::watching::{Watched, Watcher, watch_opened};
 use life_base::{Device, Kind};
 use life_cli::plans::KeysPlan;
 use life_cli::{Opened, Origin, Seeds, refuse, write_duplicates, write_keys};
@@ -38,15 +38,15 @@ struct Run<'a> {
     /// What the files show of the arguments.
     hints: Hints,
     /// The names in the output.
-    written: NameCount,
+    output_names: NameCount,
     /// Whether the output is written to its end.
     is_whole: Cell<bool>,
     /// Whether the reader of standard output has left.
     is_left: Cell<bool>,
     /// The lines that reported why files are passed over.
-    reported: NameCount,
+    report_lines: NameCount,
     /// How many of them came before the file that was opened last.
-    reported_before: Cell<usize>,
+    earlier_reports: Cell<usize>,
     /// Whether an object of JSON says that the file that was opened last has no key.
     is_refused: Cell<bool>,
 }
@@ -80,10 +80,10 @@ impl<'a> Run<'a> {
         &self,
         rt: &HostRuntime,
         json: bool,
-    ) -> Output<'_, Counted<'_, Beside<'_, Visible<Stdout>>>> {
+    ) -> Output<'_, NameCounter<'_, Beside<'_, Visible<Stdout>>>> {
         let stream = rt.stdout();
         Output {
-            stream: Counted {
+            stream: NameCounter {
                 stream: Beside {
                     stream: Visible {
                         stream,
@@ -92,7 +92,7 @@ impl<'a> Run<'a> {
                     progress: &self.progress,
                     clears: self.progress.is_shared,
                 },
-                names: &self.written,
+                names: &self.output_names,
                 is_whole: &self.is_whole,
             },
             is_left: &self.is_left,
@@ -118,7 +118,7 @@ impl<'a> Run<'a> {
         Errors {
             stream: self.stderr(rt),
             is_left: &self.is_left,
-            lines: &self.reported,
+            lines: &self.report_lines,
         }
     }
 
@@ -131,8 +131,8 @@ impl<'a> Run<'a> {
 
     /// Writes the warning of the file that was read last, if there is one and the file wasn't refused.
     fn warn(&self, rt: &HostRuntime) {
-        let reported = self.reported.count();
-        let is_reported = self.reported_before.replace(reported) != reported;
+        let reported = self.report_lines.count();
+        let is_reported = self.earlier_reports.replace(reported) != reported;
         let is_refused = self.is_refused.replace(false);
         let Some(warning) = self.watcher.warning() else {
             return;
@@ -163,7 +163,7 @@ impl<'a> Run<'a> {
         if names.is_none() {
             self.hints.take(origin, &opened);
         }
-        let opened = watched(opened?, &self.watcher.watch, names);
+        let opened = watch_opened(opened?, &self.watcher.watch, names);
         Ok(Device::new(opened.input).expecting(opened.bytes))
     }
 
@@ -182,13 +182,13 @@ impl<'a> Run<'a> {
 
     /// How many of the plan's files are duplicates.
     fn tally(&self, plan: &KeysPlan<'_>) -> Tally {
-        let passed_over = self.reported.count();
+        let refusals = self.report_lines.count();
         let all = plan.files.len().saturating_add(self.names.count());
         Tally {
-            files: all.saturating_sub(passed_over),
-            passed_over,
-            duplicates: self.written.count(),
-            groups: self.written.groups(),
+            files: all.saturating_sub(refusals),
+            refusals,
+            duplicates: self.output_names.count(),
+            groups: self.output_names.groups(),
         }
     }
 
@@ -236,11 +236,11 @@ fn write_listing(
         lists: Cell::new(plan.from.is_some()),
         names: NameCount::new(plan.zero),
         hints: Hints::new(plan.files.len()),
-        written: NameCount::new(plan.zero),
+        output_names: NameCount::new(plan.zero),
         is_whole: Cell::new(false),
         is_left: Cell::new(false),
-        reported: NameCount::new(false),
-        reported_before: Cell::new(0),
+        report_lines: NameCount::new(false),
+        earlier_reports: Cell::new(0),
         is_refused: Cell::new(false),
     };
     let status = run.write(rt, &seeds, plan, listing);

@@ -54,14 +54,14 @@ impl<'a, W: Write> Write for Output<'a, W> {
 
 /// An output whose names are counted.
 #[derive(Drop)]
-pub(crate) struct Counted<'a, W> {
+pub(crate) struct NameCounter<'a, W> {
     pub stream: W,
     pub names: &'a NameCount,
     /// Set by a flush, which comes after all names.
     pub is_whole: &'a Cell<bool>,
 }
 
-impl<'a, W: Write> Write for Counted<'a, W> {
+impl<'a, W: Write> Write for NameCounter<'a, W> {
     fn write(&mut self, buf: &[u8]) -> Result<usize> {
         let count = self.stream.write(buf)?;
         self.names.take(&buf[..count]);

@@ -6,7 +6,7 @@ ghost use Rattle.life_cli.specs.Plans.{HasSecond};
 use crate::explaining::{explain, explain_unread, warn};
 use crate::opening::{HeldStreams, Input, open};
 use crate::outputs::Output;
-use crate::watching::{Watch, Watched, watched};
+use crate::watching::{Watch, Watched, watch_opened};
 use life_base::{Device, Fault, Kind};
 use life_cli::plans::{Task, TaskPlan};
 use life_cli::{Opened, Origin, Refusal, Seeds, carry_out, open_files, refuse, status, tell};
@@ -61,7 +61,7 @@ impl Watches {
         } else {
             &self.first
         };
-        Ok(watched(open(rt, origin)?, watch, None))
+        Ok(watch_opened(open(rt, origin)?, watch, None))
     }
 
     /// Writes the warnings of the files, which were read.

@@ -313,7 +313,7 @@ impl<'a, R: Read> Read for Watched<'a, R> {
 }
 
 /// What was opened, with its bytes watched.
-pub(crate) fn watched<'a>(
+pub(crate) fn watch_opened<'a>(
     opened: Opened<Input>,
     watch: &'a Cell<Watch>,
     names: Option<&'a NameCount>,
