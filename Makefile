@@ -52,6 +52,7 @@ library: FORCE
 	@RT="$(RT)" CC="$(CC)" CFLAGS="$(CFLAGS)" LDFLAGS="$(LDFLAGS)" sh scripts/library "$(PREFIX)"
 
 page: FORCE
+	@RT="$(RT)" python3 -B scripts/page --ready
 	@RT="$(RT)" python3 -B scripts/needs page
 	@RT="$(RT)" python3 -B scripts/page
 

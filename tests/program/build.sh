@@ -1,8 +1,8 @@
 #!/bin/sh
 # What `make` does, with a compiler in place of the toolchain's that notes what it is asked: each crate that the program stands on is proved once, after
 # those below it, and only again where its files or those of a crate below it changed; then the program is left as ./golly_canon. Where a proof fails,
-# `make` leaves no program and fails. And what `make install` does: it proves nothing, puts what is built into the folders that are named, and puts
-# nothing in place where a part isn't built.
+# `make` leaves no program and fails. What `make install` does: it proves nothing, puts what is built into the folders that are named, and puts
+# nothing in place where a part isn't built. And where something is missing that a command needs, it says so before anything is proved.
 top=$(cd "$(dirname "$0")/../.." && pwd)
 folder=$(mktemp -d) || exit 1
 trap 'rm -rf "$folder"' EXIT
@@ -86,6 +86,10 @@ python3 -B scripts/page out/page > said 2>&1
 status=$?
 wanted="scripts/page: the library isn't proved yet: run make library first"
 verdict "the page asks for the library first" "$([ "$status $(cat said)" = "1 $wanted" ] || cat said; [ ! -e out/page ] || echo "a page")"
+# A PATH on which there is Python and nothing else, so that nothing can be installed either.
+mkdir bare && ln -s "$(python3 -c 'import sys; print(sys.executable)')" bare/python3
+PATH=$folder/bare "$(command -v make)" -s page RT="$RT" > said 2>&1
+verdict "make page does so before it looks for what else it needs" "$([ "$(head -n 1 said)" = "$wanted" ] || cat said)"
 
 # ---- what is installed
 
@@ -132,6 +136,36 @@ for name in PREFIX LIBDIR MANDIR PYTHONDIR; do
     done
 done
 verdict "a folder that is no absolute path is refused, and nothing is put in place" "$(cat problems 2> /dev/null)$(installed)"
+
+# ---- what is missing
+
+: > notes
+cp -r "$top/tests" .
+without() { # RT WORDS..
+    named=$1
+    shift
+    PATH=$folder/bare RT=$named HEAP=$folder/heap CC=cc python3 -B "$@" > said 2>&1 < /dev/null
+    status=$?
+}
+for row in "build make" "library gcc" "page binaryen" "packages binutils" "test golly" "test chromium" "test git" "test sqlite3" "test parallel" "test gcc"; do
+    without "$RT" scripts/needs "${row% *}"
+    line=$(grep "^golly_canon: install what \`make ${row% *}\` needs: apt-get install " said)
+    case "$status $line " in "1 "*" ${row#* } "*) ;; *) echo " of $row: status $status, $(cat said)" >> lacking ;; esac
+done
+verdict "what is missing is said in a line" "$(cat lacking 2> /dev/null)"
+for command in page test; do
+    without "$RT" scripts/needs $command
+    verdict "so is the source of the heap, for make $command" "$(grep -q 'fetch the source of a heap: sh scripts/heap' said || cat said)"
+done
+without "$folder/no/rt" scripts/needs build
+verdict "so is the toolchain" "$([ "$status $(cat said)" = "1 golly_canon: there is no command $folder/no/rt: install the Rattle toolchain first (the \
+README says which), or name it in RT" ] || cat said)"
+without "$RT" tests/all
+verdict "a gate that lacks something ends" "$([ "$status $(tail -n 1 said)" = "1 0 passed, 1 failed" ] || cat said)"
+verdict "it says what to install" "$(grep -q '^golly_canon: install what `make test` needs: apt-get install ' said || cat said)"
+verdict "nothing was proved or tested" "$(cat notes; grep '^== ' said)"
+RT="$RT" python3 -B scripts/needs build > said 2>&1
+verdict "where nothing is missing, nothing is said" "$([ $? = 0 ] || echo ' another status')$(cat said)"
 
 # ---- the words of the C compiler
 
