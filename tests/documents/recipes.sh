@@ -288,8 +288,18 @@ golly_cells() { # FILE
     bgolly -a HashLife -m 0 "$1" 2>&1 | sed -n 's/^0: //p' | tr -d ,
 }
 
+# Macrocell files that Golly reads as another pattern: they lost all line ends, or the first one; and a rule or a generation is a comment here.
+misread() { # FILE NUMBER
+    case $2 in
+        1) printf '[M2]\r#R B3/S23\r$$..*$...*$.***$\r' ;;
+        2) printf '[M2]\r#R B36/S23\n$$..*$...*$.***$\n' ;;
+        3) printf '[M2]\n#RB36/S23\n$$..*$...*$.***$\n' ;;
+        4) printf '[M2]\r\n#R B3/S23\r\n#G7\r\n$$..*$...*$.***$\r\n' ;;
+    esac > "$1"
+}
+
 # Golly opens the text of a pattern that lies in any of the four quarters about (0, 0), of which the canonical text is blank to it; each spelling has one
-# text, and nothing comes of a blank pattern, which a file that lost its line ends is too.
+# text, and nothing comes of a blank pattern, nor of a file that is probably meant as another one.
 text_recipe() {
     problems=
     equal "what Golly reads of the canonical text" "$(golly_canon canon glider.mc > leaf.mc && golly_cells leaf.mc)" 0
@@ -304,12 +314,20 @@ text_recipe() {
     done
     equal "a large text" "$(golly_text mc < gun.mc | sha256sum)" "$(golly_canon canon gun.mc | sha256sum)"
     equal "states" "$(golly_text mc < wire.rle | sha256sum)" "$(golly_canon canon wire.rle | sha256sum)"
-    for blank in '[M2]\n#R B3/S23\n' '[M2]\r#R B3/S23\r$$..*$...*$.***$\r' 'x = 0, y = 0\n!\n'; do
-        printf "$blank" > blank
-        for format in mc rle; do
-            golly_text $format < blank > told 2> "$folder/err" && problems="$problems a blank pattern has a text;"
-            equal "what a blank pattern has" "$(cat told "$folder/err")" "golly_text: the pattern is blank"
+    printf 'x = 0, y = 0\n!\n' > blank
+    for format in mc rle; do
+        golly_text $format < blank > told 2> "$folder/err" && problems="$problems a blank pattern has a text;"
+        equal "what a blank pattern has" "$(cat told "$folder/err")" "golly_text: the pattern is blank"
+        for number in 1 2 3 4; do
+            misread odd.mc $number
+            golly_text $format < odd.mc > told 2> "$folder/err"
+            equal "the status of file $number that is meant otherwise" $? 2
+            equal "what it has" "$(cat told; cat "$folder/err")" "golly_text: $(golly_canon keys odd.mc 2>&1 > /dev/null | sed 's/^odd.mc: warning: //')"
+            [ "$(wc -c < "$folder/err")" -gt 60 ] || problems="$problems nothing is said of file $number that is meant otherwise;"
         done
+        printf '[M2]\n#R B3/S23\n' > blank.mc
+        golly_text $format < blank.mc > told 2>&1 && problems="$problems a file without squares has a text;"
+        equal "what a file without squares has" "$(cut -c 1-47 told)" "golly_text: the file has no line of squares, so"
     done
     equal "a refused file" "$(printf '[M2]\n4 0 0 0 9\n' | golly_text mc 2>&1; echo $?)" "$(printf 'line 2: BadChild\n2')"
     equal "no format" "$(golly_text 2>&1 < at.rle; echo $?)" "$(printf 'usage: golly_text rle|mc < FILE\n5')"
@@ -352,7 +370,8 @@ names_recipe() {
     mkdir names 'names/sub folder' && cp in_place "$folder/bin/in_place" && cd names || exit 1
     for name in -x.rle -- -rf 'a b.rle' 'two
 lines.rle' 'end
-' '*.rle' '$(touch oops).rle' '`touch oops`.rle' "'quote\".rle" 'back\slash.rle' 'a=b.rle' '~.rle' 'sub folder/-y.rle' "$PWD/whole.rle"; do
+' '*.rle' '$(touch oops).rle' '`touch oops`.rle' "'quote\".rle" 'back\slash.rle' 'a=b.rle' '~.rle' 'sub folder/-y.rle' "$PWD/whole.rle" \
+        "$(printf 'caf\351.rle')"; do
         case $name in /*) file=$name ;; *) file=./$name ;; esac
         cp ../glider.rle "$file" && chmod 600 "$file"
         timeout 20 in_place "$name" > told 2>&1 || problems="$problems '$name' isn't replaced: $(cat told);"
@@ -360,7 +379,7 @@ lines.rle' 'end
         equal "the mode of '$name'" "$(stat -c %a "$file")" 600
     done
     rm told
-    equal "how many files there are" "$(find . -type f -exec echo one \; | wc -l)" 15
+    equal "how many files there are" "$(find . -type f -exec echo one \; | wc -l)" 16
     cd .. && mkdir beside && cd beside || exit 1
     for file in y.rle WireWorld.rule; do
         cp "$top/examples/WireWorld.rule" "$file" && echo "another upload" > "$file.new"
@@ -369,11 +388,11 @@ lines.rle' 'end
     cp ../glider.rle real.rle && ln -s real.rle link.rle && ln -s nothing broken.rle
     cp ../glider.rle one.rle && ln one.rle two.rle
     mkdir folder.rle && mkfifo pipe.rle
-    printf '[M2]\r#R B3/S23\r$$..*$...*$.***$\r' > mac.mc && cp mac.mc ../mac.mc
+    misread mac.mc 1 && misread meant.mc 3 && cp mac.mc meant.mc ..
     in_place y.rle || problems="$problems y.rle isn't replaced;"
     equal "y.rle" "$(cat y.rle)" "$(cat ../own/wanted.rle)"
     equal "the mode of y.rle" "$(stat -c %a y.rle)" 640
-    for name in WireWorld.rule link.rle broken.rle one.rle two.rle folder.rle pipe.rle mac.mc absent.rle ''; do
+    for name in WireWorld.rule link.rle broken.rle one.rle two.rle folder.rle pipe.rle mac.mc meant.mc absent.rle ''; do
         timeout 20 in_place "$name" > told 2>&1 && problems="$problems '$name' is replaced;"
         [ -s told ] || problems="$problems nothing is said of '$name';"
     done
@@ -381,9 +400,9 @@ lines.rle' 'end
     equal "files beside it" "$(cat y.rle.new WireWorld.rule.new .in_place.new | sort -u)" "another upload"
     equal "where a link leads" "$(readlink link.rle) $(readlink broken.rle) $(stat -c %h one.rle two.rle | tr '\n' ' ')" "real.rle nothing 2 2 "
     for name in real.rle one.rle two.rle; do cmp -s $name ../glider.rle || problems="$problems $name is another file;"; done
-    cmp -s mac.mc ../mac.mc || problems="$problems a file that lost its line ends is lost;"
-    equal "the files" "$(ls -A | tr '\n' ' ')" ".in_place.new WireWorld.rule WireWorld.rule.new broken.rle folder.rle link.rle mac.mc one.rle pipe.rle \
-real.rle two.rle y.rle y.rle.new "
+    for name in mac.mc meant.mc; do cmp -s $name ../$name || problems="$problems $name, which is meant otherwise, is lost;"; done
+    equal "the files" "$(ls -A | tr '\n' ' ')" ".in_place.new WireWorld.rule WireWorld.rule.new broken.rle folder.rle link.rle mac.mc meant.mc one.rle \
+pipe.rle real.rle two.rle y.rle y.rle.new "
     cd ..
     verdict "files of any names, with others beside them, in $shell" "$problems"
 }
@@ -431,11 +450,13 @@ z.mc' && chmod 600 ./-* && ln -s glider.rle link.rle && cp glider.mc kept.mc.new
     equal "a name of two lines" "$(git cat-file -p ':./-x y
 z.mc')" "$glider_for_golly"
     equal "a link" "$(git cat-file -p :link.rle)" glider.rle
-    for blank in '[M2]\r#R B3/S23\r$$..*$...*$.***$\r' '[M2]\n'; do
-        printf "$blank" > mac.mc
-        git add mac.mc 2> "$folder/err" && problems="$problems a file that lost its line ends was added;"
+    printf '[M2]\n' > odd.mc
+    git add odd.mc 2> "$folder/err" && problems="$problems a file without squares was added;"
+    for number in 1 2 3 4; do
+        misread odd.mc $number
+        git add odd.mc 2> "$folder/err" && problems="$problems file $number that is meant otherwise was added;"
     done
-    rm mac.mc
+    rm odd.mc
     echo "notes" > notes.mc
     git add notes.mc 2> "$folder/err" && problems="$problems a file that is no pattern was added;"
     equal "the files that are kept" "$(git ls-files | tr '\n' ' ')" '"-x y\nz.mc" .gitattributes glider.mc glider.rle kept.mc.new link.rle other.mc other.rle '
