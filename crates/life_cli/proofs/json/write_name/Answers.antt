@@ -19,7 +19,8 @@ loop-chunk-preserved g c =
       works = c.in_ok-write_both.ensures.sink.works;
       stalled = c.in_ok-write_both.ensures.sink.stalled ∙ c.loop-chunk.invariant.stalled;
       written = written_further c.args.name.now _ c.in-Some.chunk.valid.now c.in-Some.chunk.invalid.now _ written.0 written.1 steps.0 steps.3.0 steps.3.1
-          steps.2 _ _ _ written.2 (subst (λ (t : List ℕ). Appends (g.W.Sink.contents c.loop-chunk.out) (g.W.Sink.contents c.write_both.new.out) (json_text t)) same c.in_ok-write_both.ensures.text);
+          steps.2 _ _ _ written.2 (subst (λ (t : List ℕ). Appends (g.W.Sink.contents c.loop-chunk.out) (g.W.Sink.contents c.write_both.new.out) (json_text t))
+          same c.in_ok-write_both.ensures.text);
     }
 
 pub returns-in_err-write_both-clause-text : goal.returns-in_err-write_both-clause-text
