@@ -1,9 +1,12 @@
 /* golly_canon: one canonical text for a cellular-automaton pattern, as calls of a library.
  *
+ * This file is for whoever calls the library from C, or from a language that can call C. It says what each call does and returns, and what you, the
+ * caller, guarantee. docs/LIBRARY.md of the project has whole programs.
+ *
  * A file is bytes in extended RLE or in macrocell. A call reads the bytes that it is given, returns a status, and stores nothing. Only a stream stores
  * something: what has been read of its file so far. The calls share no other state, so threads may call at the same time, each on memory and streams of its
  * own. No call prints, opens a file or ends the process. What the calls return is proved for any bytes (docs/PROOFS.md of the project says what). The proof
- * assumes what this file says under "The caller guarantees".
+ * assumes what this file says under "The caller guarantees". This call gives the canonical text of a file of `length` bytes:
  *
  *     static unsigned char text[4096];
  *     size_t needed;
@@ -17,16 +20,16 @@
  *     any other status      the number of a kind of fault, or GOLLY_CANON_NO_FORM. Nothing was written at `out`, and `*needed` is 0. `*line` is the
  *                           number of the line that the file is refused at, counted from 1, or 0 if the fault is on no line.
  *
- * With the first two `*line` is 0. With a `room` of 0 a call returns only the length of its text, and the next call reads the file again; a stream
- * doesn't. A file is its bytes, not compressed, and whole: part of a file of either format can be a pattern, too, so a file that was cut short may be
- * accepted.
+ * With the first two `*line` is 0. With a `room` of 0 a call returns only the length of its text. To get the text, call again: the call reads the file again,
+ * but a stream doesn't. Give a call the whole file, and not a compressed one. A part of a file can be a pattern too, so a file that was cut short may
+ * be accepted.
  *
  * The caller guarantees, in each call:
  *
- *  - A pointer to bytes points to as many bytes as the number after it says, and a pointer to a number to a number of that type, aligned as
- *    the type is. No pointer of any call may be NULL or dangle, with one exception: if the number of bytes is 0, the call doesn't use the address of
- *    the bytes, so it can be NULL, as data() of an empty vector in C++, or dangle, as that of an empty slice in Rust. The tests of the project pass
- *    NULL in this case; the proof speaks of addresses that aren't NULL.
+ *  - A pointer to bytes points to as many bytes as the number after it says. A pointer to a number points to a number of that type, with the alignment of
+ *    the type. No pointer of any call may be NULL or dangle, with one exception: if the number of bytes is 0, the call doesn't use the address of
+ *    the bytes. Then it can be NULL (as data() of an empty vector in C++ may be) or dangle (as the address of an empty slice in Rust may). The tests of the
+ *    project pass NULL in this case; the proof speaks of addresses that aren't NULL.
  *  - No number of bytes is more than PTRDIFF_MAX.
  *  - What is read has been written before. The memory at `out` has been written before too (set it once, for example with calloc or memset), because it
  *    is proved that the bytes after a text keep their values, and memory that was never written has no values in C.
@@ -34,7 +37,7 @@
  *  - Until the call returns, no other thread writes what it reads, or touches what it writes.
  *  - malloc, realloc and free are those of one allocator, which aligns a block to each power of two up to 16 that divides its size.
  *  - No call is made from a signal handler, or from the child that a process with threads has forked.
- *  - There is enough stack: calls go down the levels of the plane by recursion, 62 at most. 64 KB are enough in the tests; it isn't proved.
+ *  - There is enough stack: calls go down the levels of the plane by recursion, 62 at most. In the tests 64 KB are enough; that isn't proved.
  */
 #ifndef GOLLY_CANON_H
 #define GOLLY_CANON_H
@@ -112,18 +115,19 @@ enum {
  * For any other number a call returns GOLLY_CANON_NO_FORM. */
 enum {
     GOLLY_CANON_PLACED = 0, /* the pattern as it lies */
-    GOLLY_CANON_MOVED = 1,  /* its bounding box moved to (0, 0); columns, or rows, that would then leave the plane end with the plane instead */
-    GOLLY_CANON_TURNED = 2  /* of the pattern's eight turns and reflections, each moved, the one whose canonical text is least, byte by byte */
+    GOLLY_CANON_MOVED = 1,  /* with its bounding box at (0, 0); columns that would then leave the plane end with the plane instead, and so do rows */
+    GOLLY_CANON_TURNED = 2  /* the one whose canonical text is least, byte by byte, of the eight turned and reflected patterns, each moved */
 };
 
 /* `limit`, of each call: how many different squares the store of the call may hold, including those on the way to the answer. Squares in which each
- * cell is 0 don't count. It is proved that a call returns Full only if it needs more different squares than the limit, and that it gives a text, a
- * key or a comparison only if no more than the limit are needed to read the files. So a call on files without cells that aren't 0 is never Full. A
- * limit of `14 * length + 264` suffices to read a file; for two files it is the sum of both, and for a stream `length` is the number of all bytes
- * that are fed. That is proved too: with this limit, canon, to_rle, show, same, and the calls with a form other than moved, are never Full. No such
- * number is known for the next generation and for the form moved: their squares come on top of those of reading. A limit above 2^62 counts as 2^62;
- * but beyond some 2^32 squares the answer is Memory, whatever the limit. As measured, a square takes 32 to 39 bytes of the store, or less if it has
- * at most 4 x 4 cells of the states 0 and 1.
+ * cell is 0 don't count. Two things are proved of the limit: a call returns Full only if it needs more different squares than the limit, and it gives a
+ * text, a key or a comparison only if no more than the limit are needed to read the files. So a call on files in which each cell is 0 never returns Full.
+ *
+ * A limit of `14 * length + 264` suffices to read a file. For two files take the sum of both; for a stream `length` is the number of all bytes that are
+ * fed. That is proved too: with this limit, canon, to_rle, show, same, and the calls with a form other than moved, never return Full. No such number
+ * is known for the next generation and for the form moved, which need further squares. A limit above 2^62 counts as 2^62; but beyond some 2^32
+ * squares the answer is Memory, whatever the limit. As measured, a square takes 32 to 39 bytes of the store, or less if it has at most 4 x 4 cells of the
+ * states 0 and 1.
  *
  * `seed`, of each call: a number that keys the hash tables of the call's squares and of the names of its table. What a call returns never depends on
  * it. If the files are untrusted input, give a random number (from getentropy, arc4random_buf or Python's secrets.randbits(64)) that their authors
@@ -187,8 +191,8 @@ uint32_t golly_canon_key(const unsigned char *bytes, size_t length, uint32_t for
 
 /* Whether two files have the same text in a form: `*is_same` is 1 or 0, and 0 if the status isn't GOLLY_CANON_OK. The fault is that of the first file
  * if that is refused, and otherwise that of the second one. If both are accepted and the form is moved or turned, the call returns TooManyCells if more than
- * 2^20 cells of one of them aren't 0. But turned files of different generations are reported as different first. For a number of no form the call returns
- * NoForm, with 0 in `*line`.
+ * 2^20 cells of one of them aren't 0; but for the form turned, files of different generations are different, however many cells they have. For a number of no
+ * form the call returns NoForm, with 0 in `*line`.
  * The caller guarantees what golly_canon_same names: NULL is allowed for neither `is_same` nor `line`. */
 uint32_t golly_canon_same_form(const unsigned char *first, size_t first_length,
                                const unsigned char *second, size_t second_length, uint32_t form, uint64_t limit, uint64_t seed,
@@ -207,8 +211,8 @@ uint32_t golly_canon_same_form(const unsigned char *first, size_t first_length,
  * While pieces come, the stream stores the squares of the pattern and the bytes of the line that has not ended; after the end it stores the text or the
  * fault. You provide the memory of the struct, but only the library uses its members. A stream whose members are 0 is closed. An open stream also has memory
  * that the library allocated, and frees when the stream is closed.
- * The caller guarantees, of `stream` in each call below: it isn't NULL; its members are 0, or as the last call on it left them, and no copy of them
- * that is older than that is ever used; an open stream is used by the thread that opened it alone. */
+ * The caller guarantees, of `stream` in each call below: it isn't NULL. Its members are 0, or as the last call on it left them; no older copy of them is
+ * ever used. Only the thread that opened a stream uses it while it is open. */
 typedef struct golly_canon_stream {
     uint32_t is_open;
     void *session;
@@ -223,14 +227,15 @@ uint32_t golly_canon_open_to_rle(golly_canon_stream *stream, uint64_t limit, uin
 uint32_t golly_canon_open_show(golly_canon_stream *stream, uint64_t limit, uint64_t seed);
 uint32_t golly_canon_open_step(golly_canon_stream *stream, uint64_t limit, uint64_t seed);
 
-/* The same for what golly_canon_canon_form gives of a whole file in this form. For a number of no form it is NoForm, and then the stream is closed.
+/* Opens a stream in the same way, for what golly_canon_canon_form gives of a whole file in this form. For a number of no form it returns NoForm, and
+ * the stream is closed.
  * The caller guarantees what is said of `stream`, which isn't NULL. */
 uint32_t golly_canon_open_canon_form(golly_canon_stream *stream, uint32_t form, uint64_t limit, uint64_t seed);
 
-/* Takes the next piece of the file, of any length, also 0. The status is OK, or the number of a kind of fault, with the line of the fault in `*line`, or 0.
- * The fault of a line is reported by the call that brings the line feed after it, or the byte that makes the line too long. A stream that has reported a
- * fault stays refused: each further golly_canon_feed, golly_canon_finish or golly_canon_finish_key reports the same fault and line. If the stream is closed,
- * or has ended with a text or a key (even if that didn't fit), the call returns Spent, with 0 in `*line`, and the stream stays as it is.
+/* Takes the next piece of the file, of any length, even 0. The status is OK, or the number of a kind of fault; then `*line` is the line of the fault, or 0 if
+ * it is on no line. The fault of a line is reported by the call that brings the line feed after it, or the byte that makes the line too long. A stream that has
+ * reported a fault stays refused: each further golly_canon_feed, golly_canon_finish or golly_canon_finish_key reports the same fault and line. If the stream
+ * is closed, or has ended with a text or a key (even if that didn't fit), the call returns Spent, with 0 in `*line`, and the stream stays as it is.
  * The caller guarantees what is said of `stream`; `length` bytes to read at `piece`; `*line` to write, apart from those and from the stream. NULL is
  * allowed for neither `stream` nor `line`. */
 uint32_t golly_canon_feed(golly_canon_stream *stream, const unsigned char *piece, size_t length, uint64_t *line);
@@ -243,10 +248,10 @@ uint32_t golly_canon_feed(golly_canon_stream *stream, const unsigned char *piece
 uint32_t golly_canon_finish(golly_canon_stream *stream, unsigned char *out, size_t room, size_t *needed, uint64_t *line);
 
 /* Ends the file as golly_canon_finish does, and gives the key of the text that golly_canon_finish gives: its SHA-256, in 64 hexadecimal digits of lower
- * case, as the program's `keys` writes it. golly_canon_key gives the same key as 32 bytes. The status and `*line` are those of golly_canon_finish, but for
- * the space: `*needed` is 64, and with a `room` of less than 64 the call returns NoRoom. You can call golly_canon_finish and golly_canon_finish_key on one
- * stream in any order and as often as you like; whichever came first, golly_canon_feed is Spent after it. If the stream was opened for extended RLE or
- * the five lines, these digits are the SHA-256 of that text, which isn't the key of the pattern.
+ * case, as the program's `keys` writes it. golly_canon_key gives the same key as 32 bytes. The status and `*line` are those of golly_canon_finish, with one
+ * exception: `*needed` is 64 if there is a text, and if `room` is less than 64, the call returns NoRoom. You can call golly_canon_finish and
+ * golly_canon_finish_key on one stream in any order and as often as you like. Once either has given a text or a key, golly_canon_feed returns Spent. If the
+ * stream was opened for extended RLE or the five lines, these digits are the SHA-256 of that text, which isn't the key of the pattern.
  * The caller guarantees what golly_canon_finish names: `out` was written before, and none of `stream`, `needed` and `line` is NULL. */
 uint32_t golly_canon_finish_key(golly_canon_stream *stream, unsigned char *out, size_t room, size_t *needed, uint64_t *line);
 
@@ -261,7 +266,7 @@ void golly_canon_close(golly_canon_stream *stream);
 uint32_t golly_canon_status_name(uint32_t status, unsigned char *out, size_t room, size_t *needed);
 
 /* What a status means, in a sentence of English: `A child number doesn't refer to an earlier square one level down.` for GOLLY_CANON_BAD_CHILD. It is the
- * sentence that the program's `keys` writes after the name, so that of Full speaks of the program's limit, whatever limit the call was given. For
+ * sentence that the program's `keys` writes after the name, so the sentence of Full speaks of the program's limit, whatever limit the call was given. For
  * GOLLY_CANON_OK and for a number that isn't a status it is empty. None has more than 200 bytes. Show it to people, and compare the status: the wording
  * may change from version to version.
  * The caller guarantees what golly_canon_status_name names: `out` was written before, and `needed` isn't NULL. */
