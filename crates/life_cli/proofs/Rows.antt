@@ -5,9 +5,10 @@ use Rattle.hex.specs.Hex.{encode_lower}
 use Rattle.std.specs.declared.io.ErrorKind.TheVariants as io
 use Rattle.life_base.specs.Refusal.{fault_of}
 use Rattle.life_base.specs.declared.kind.Kind.TheVariants.{Full}
-use Rattle.life_cli.specs.KeyRuns.{errors_of, greatest_status, Listed, names_among, output_of, Taken, Word}
+use Rattle.life_cli.specs.KeyRuns.{errors_of, greatest_status, Listed, names_among, output_of, reports_of, Taken, Word}
 use Rattle.life_cli.specs.Keys.{escaped, name_mark, pieces_of, end_of}
 use Rattle.life_cli.specs.declared.keys.outcome.Outcome.TheVariants.{Key, Refused, Unopened}
+use Rattle.life_cli.specs.declared.keys.style.Style.TheVariants.{Lines, Zero, Json}
 
 -- names as coreutils 9 writes them
 plain_name : escaped (codes "a b.rle") ≡ codes "a b.rle"
@@ -47,11 +48,18 @@ taken = record { name = Word (codes "a"); outcome = Key (1 ∷ 171 ∷ []) } ∷
     ∷ record { name = Listed (codes "c\nd"); outcome = Unopened io.NotFound } ∷ record { name = Listed (codes "e"); outcome = Key (16 ∷ []) } ∷ []
 
 -- their lines in their order, and the greatest status, which isn't the last one
-lines_out : output_of false taken ≡ (encode_lower (1 ∷ 171 ∷ []) ++ codes "  a\n") ++ ((encode_lower (16 ∷ []) ++ codes "  e\n") ++ [])
+lines_out : output_of Lines taken ≡ (encode_lower (1 ∷ 171 ∷ []) ++ codes "  a\n") ++ ((encode_lower (16 ∷ []) ++ codes "  e\n") ++ [])
 lines_out = refl
 
-lines_err : errors_of taken ≡ codes "b: Full: The command needs more than 2^31 different squares.\nc\\nd: no such file\n"
+lines_err : reports_of Zero taken ≡ codes "b: Full: The command needs more than 2^31 different squares.\nc\\nd: no such file\n"
 lines_err = refl
+
+-- with --json standard error gets none of them
+silent : reports_of Json taken ≡ []
+silent = refl
+
+same_lines : errors_of taken ≡ reports_of Lines taken
+same_lines = refl
 
 greatest : greatest_status taken ≡ 4
 greatest = refl

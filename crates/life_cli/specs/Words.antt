@@ -27,7 +27,7 @@ pub use Rattle.life_cli.specs.KeyRuns.{style_of, Takes, TakesNames, TellsOn, Wor
 pub use Rattle.life_cli.specs.Json.{control_text, hex_digits, json_byte, json_text, name_text}
 pub use Rattle.life_cli.specs.Keys.{end_of, escaped, escaped_byte, fault_text, is_special, IsKeyIn, IsStatus, key_line, name_mark, pieces_of, reason_of}
 pub use Rattle.life_cli.specs.Keys.{refused_line, unopened_line}
-pub use Rattle.life_cli.specs.Objects.{key_object, object_text, refused_object, unopened_object}
+pub use Rattle.life_cli.specs.Objects.{fault_members, key_members, kind_member, line_member, members_text, object_head, object_text, reason_member}
 pub use Rattle.life_cli.specs.Origins.{FailsToOpen, IsOriginOf, OpensFiles}
 pub use Rattle.life_cli.specs.Pieces.{piece_text, pieces_text, replacement_of}
 pub use Rattle.life_cli.specs.Plans.{AreOfTask, AreWhole, Explains, ExplainsPlan, form_word, HasNoForm, HasNoFormat, HasSecond, HoldsFile, HoldsFiles}

@@ -1,7 +1,7 @@
 //! The objects of the command `keys`, which `--json` asks for.
 
-ghost use Rattle.std.specs.Prelude.{◌≡◌};
-ghost use Rattle.life_cli.specs.Words.{LeavesSink, WritesText, key_object, object_text, refused_object, unopened_object};
+ghost use Rattle.std.specs.Prelude.{◌≡◌, ◌++◌};
+ghost use Rattle.life_cli.specs.Words.{LeavesSink, WritesText, fault_members, key_members, kind_member, line_member, members_text, object_head, object_text, reason_member};
 
 use super::lines::reason;
 use super::outcome::Outcome;
@@ -9,15 +9,24 @@ use crate::json::{Piece, write_pieces};
 use crate::text_sink::TextSink;
 use fault_sentences::sentence;
 use itoa::Buffer;
-use life_base::{Fault, Kind, Sink, write_text};
+use life_base::{Kind, Sink, write_text, write_texts};
 use std::alloc::Global;
-use std::io::ErrorKind;
 
-/// Writes the object of a file with this key.
-fn write_key_object<W: Sink>(out: &mut W, name: &[u8], key: &[u8; 32]) -> Result<(), Kind>
+/// Writes the beginning of an object, up to the name of the file.
+fn write_head<W: Sink>(out: &mut W, name: &[u8]) -> Result<(), Kind>
     requires { W.failures out.old ≡ 0 }
-    ensures text { WritesText (W.contents out.old) (W.contents out.new)
-        (key_object name.now key.now) result }
+    ensures text { WritesText (W.contents out.old) (W.contents out.new) (object_head name.now)
+        result }
+    ensures sink { LeavesSink W.failures W.stalled out.old out.new result }
+{
+    write_pieces(out, &[Piece::Plain(b"{\"name\":\""), Piece::Name(name)])
+}
+
+/// Writes the rest of the object of a file with this key.
+fn write_key_members<W: Sink>(out: &mut W, key: &[u8; 32]) -> Result<(), Kind>
+    requires { W.failures out.old ≡ 0 }
+    ensures text { WritesText (W.contents out.old) (W.contents out.new) (key_members key.now)
+        result }
     ensures sink { LeavesSink W.failures W.stalled out.old out.new result }
 {
     let mut digits = [0; 64];
@@ -25,8 +34,6 @@ fn write_key_object<W: Sink>(out: &mut W, name: &[u8], key: &[u8; 32]) -> Result
     write_pieces(
         out,
         &[
-            Piece::Plain(b"{\"name\":\""),
-            Piece::Name(name),
             Piece::Plain(b"\",\"key\":\""),
             Piece::Text(&digits),
             Piece::Plain(b"\"}\n"),
@@ -34,71 +41,100 @@ fn write_key_object<W: Sink>(out: &mut W, name: &[u8], key: &[u8; 32]) -> Result
     )
 }
 
-/// Writes the object of a file that is refused by a fault without a line.
-fn write_placeless_object<W: Sink>(out: &mut W, name: &[u8], kind: Kind) -> Result<(), Kind>
+/// Writes the kind of a fault.
+fn write_kind<W: Sink>(out: &mut W, kind: &[u8]) -> Result<(), Kind>
     requires { W.failures out.old ≡ 0 }
-    ensures text { WritesText (W.contents out.old) (W.contents out.new)
-        (refused_object name.now kind 0) result }
+    ensures text { WritesText (W.contents out.old) (W.contents out.new) (kind_member kind.now)
+        result }
     ensures sink { LeavesSink W.failures W.stalled out.old out.new result }
 {
     write_pieces(
         out,
         &[
-            Piece::Plain(b"{\"name\":\""),
-            Piece::Name(name),
             Piece::Plain(b"\",\"kind\":\""),
-            Piece::Text(kind.name().as_bytes()),
-            Piece::Plain(b"\",\"reason\":\""),
-            Piece::Text(sentence(kind).as_bytes()),
-            Piece::Plain(b"\"}\n"),
+            Piece::Text(kind),
+            Piece::Plain(b"\""),
         ],
     )
 }
 
-/// Writes the object of a file that is refused.
-fn write_refused_object<W: Sink>(out: &mut W, name: &[u8], fault: &Fault) -> Result<(), Kind>
+/// Writes the line of a fault, unless that is 0.
+fn write_line<W: Sink>(out: &mut W, line: u64) -> Result<(), Kind>
     requires { W.failures out.old ≡ 0 }
-    ensures text { WritesText (W.contents out.old) (W.contents out.new)
-        (refused_object name.now fault.now.kind fault.now.place.line) result }
+    ensures text { WritesText (W.contents out.old) (W.contents out.new) (line_member line)
+        result }
     ensures sink { LeavesSink W.failures W.stalled out.old out.new result }
 {
-    if fault.place.line == 0 {
-        return write_placeless_object(out, name, fault.kind);
+    if line == 0 {
+        return Ok(());
     }
     let mut buffer = Buffer::new();
-    write_pieces(
-        out,
-        &[
-            Piece::Plain(b"{\"name\":\""),
-            Piece::Name(name),
-            Piece::Plain(b"\",\"kind\":\""),
-            Piece::Text(fault.kind.name().as_bytes()),
-            Piece::Plain(b"\",\"line\":"),
-            Piece::Plain(buffer.format(fault.place.line).as_bytes()),
-            Piece::Plain(b",\"reason\":\""),
-            Piece::Text(sentence(fault.kind).as_bytes()),
-            Piece::Plain(b"\"}\n"),
-        ],
-    )
+    write_texts(out, &[b",\"line\":", buffer.format(line).as_bytes()])
 }
 
-/// Writes the object of a file that can't be opened.
-fn write_unopened_object<W: Sink>(out: &mut W, name: &[u8], kind: ErrorKind) -> Result<(), Kind>
+/// Writes why a file has no key, and the end of its object.
+fn write_reason<W: Sink>(out: &mut W, reason: &[u8]) -> Result<(), Kind>
     requires { W.failures out.old ≡ 0 }
     ensures text { WritesText (W.contents out.old) (W.contents out.new)
-        (unopened_object name.now kind) result }
+        (reason_member reason.now) result }
     ensures sink { LeavesSink W.failures W.stalled out.old out.new result }
 {
     write_pieces(
         out,
         &[
-            Piece::Plain(b"{\"name\":\""),
-            Piece::Name(name),
-            Piece::Plain(b"\",\"kind\":\"ReadFault\",\"reason\":\""),
-            Piece::Text(reason(kind).as_bytes()),
+            Piece::Plain(b",\"reason\":\""),
+            Piece::Text(reason),
             Piece::Plain(b"\"}\n"),
         ],
     )
+}
+
+/// Writes the line of a fault, unless that is 0, and then why the file has no key.
+fn write_line_and_reason<W: Sink>(out: &mut W, line: u64, reason: &[u8]) -> Result<(), Kind>
+    requires { W.failures out.old ≡ 0 }
+    ensures text { WritesText (W.contents out.old) (W.contents out.new)
+        (line_member line ++ reason_member reason.now) result }
+    ensures sink { LeavesSink W.failures W.stalled out.old out.new result }
+{
+    write_line(out, line)?;
+    write_reason(out, reason)
+}
+
+/// Writes the rest of the object of a file without a key.
+fn write_fault_members<W: Sink>(
+    out: &mut W,
+    kind: &[u8],
+    line: u64,
+    reason: &[u8],
+) -> Result<(), Kind>
+    requires { W.failures out.old ≡ 0 }
+    ensures text { WritesText (W.contents out.old) (W.contents out.new)
+        (fault_members kind.now line reason.now) result }
+    ensures sink { LeavesSink W.failures W.stalled out.old out.new result }
+{
+    write_kind(out, kind)?;
+    write_line_and_reason(out, line, reason)
+}
+
+/// Writes the rest of the object of a file.
+fn write_members<W: Sink>(out: &mut W, outcome: &Outcome) -> Result<(), Kind>
+    requires { W.failures out.old ≡ 0 }
+    ensures text { WritesText (W.contents out.old) (W.contents out.new) (members_text outcome.now)
+        result }
+    ensures sink { LeavesSink W.failures W.stalled out.old out.new result }
+{
+    match outcome {
+        Outcome::Key(key) => write_key_members(out, key),
+        Outcome::Refused(fault) => write_fault_members(
+            out,
+            fault.kind.name().as_bytes(),
+            fault.place.line,
+            sentence(fault.kind).as_bytes(),
+        ),
+        Outcome::Unopened(kind) => {
+            write_fault_members(out, b"ReadFault", 0, reason(*kind).as_bytes())
+        }
+    }
 }
 
 /// Writes the object of a file, piece by piece.
@@ -108,11 +144,8 @@ fn write_object<W: Sink>(out: &mut W, name: &[u8], outcome: &Outcome) -> Result<
         (object_text name.now outcome.now) result }
     ensures sink { LeavesSink W.failures W.stalled out.old out.new result }
 {
-    match outcome {
-        Outcome::Key(key) => write_key_object(out, name, key),
-        Outcome::Refused(fault) => write_refused_object(out, name, fault),
-        Outcome::Unopened(kind) => write_unopened_object(out, name, *kind),
-    }
+    write_head(out, name)?;
+    write_members(out, outcome)
 }
 
 /// Writes the object of a file, as one text where there is memory for it, and else piece by piece.
