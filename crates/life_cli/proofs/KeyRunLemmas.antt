@@ -59,6 +59,12 @@ tells_then contents failures stalled false true c x y z s t p q = absurd p
 tells_then contents failures stalled false false true x y z s t p q = absurd q
 tells_then contents failures stalled false false false x y z s t p q = q ∙ p
 
+-- no text is told
+pub tells_none : {E : Type 0} (contents : E → Option (List ℕ)) (failures : E → ℕ) (stalled : E → Bool) (b : Bool) (err : E)
+    → (b ≡ true → failures err ≡ 0) → TellsOn contents failures stalled b b err err []
+tells_none contents failures stalled true err hears = (Appends-nil (contents err), hears refl)
+tells_none contents failures stalled false err hears = refl
+
 -- a sink that goes on taking texts hasn't failed
 pub hears_on : {E : Type 0} (contents : E → Option (List ℕ)) (failures : E → ℕ) (stalled : E → Bool) (a b : Bool) (x y : E) (s : List ℕ)
     → TellsOn contents failures stalled a b x y s → b ≡ true → failures y ≡ 0
@@ -78,11 +84,7 @@ module _ {W E : Type 0} (held : W → Option (List ℕ)) (contents : E → Optio
   pub writes_none : (out : W) (err : E) (outputs : Outputs) → (outputs.tells ≡ true → failures err ≡ 0)
       → Writes held contents failures stalled out out err err outputs outputs (Ok tt) [] [] 0
   writes_none out err outputs hears =
-      record { written = Appends-nil (held out); told = at outputs.tells hears; status = omega arith }
-    where
-      at : (b : Bool) → (b ≡ true → failures err ≡ 0) → TellsOn contents failures stalled b b err err []
-      at true hears = (Appends-nil (contents err), hears refl)
-      at false hears = refl
+      record { written = Appends-nil (held out); told = tells_none contents failures stalled outputs.tells err hears; status = omega arith }
 
   pub writes_then : (u v w : W) (x y z : E) (a b c : Outputs) (result : Result (Unit {0}) Kind) (s s' t t' : List ℕ) (m n : ℕ)
       → Writes held contents failures stalled u v x y a b (Ok tt) s t m → Writes held contents failures stalled v w y z b c result s' t' n
