@@ -74,6 +74,13 @@ pub(crate) fn break_off<E: Sink>(tells: bool, err: &mut E, kind: Kind) -> u8
     }
 }
 
+/// The greater one of two statuses.
+fn greater(first: u8, second: u8) -> u8
+    ensures { result ≡ max first second }
+{
+    if second > first { second } else { first }
+}
+
 impl Outputs {
     /// Nothing is written yet.
     pub(super) fn new(alloc: Global, style: Style) -> Outputs
@@ -87,17 +94,6 @@ impl Outputs {
             status: 0,
             alloc,
             room: Vec::new(alloc),
-        }
-    }
-
-    /// Keeps the status of a file, if it is the greatest so far.
-    fn raise(&mut self, status: u8)
-        ensures status { self.new.status ≡ max self.old.status status }
-        ensures style { self.new.style ≡ self.old.style }
-        ensures tells { self.new.tells ≡ self.old.tells }
-    {
-        if status > self.status {
-            self.status = status;
         }
     }
 
@@ -116,7 +112,7 @@ impl Outputs {
         ensures style { self.new.style ≡ self.old.style }
         ensures tells { self.new.tells ≡ self.old.tells }
     {
-        self.raise(outcome.status());
+        self.status = greater(self.status, outcome.status());
         write_object_whole(self.alloc, out, name, outcome)
     }
 
@@ -140,7 +136,7 @@ impl Outputs {
     {
         let told = make_line(&mut self.room, name, outcome, zero);
         self.tells = tell_outcome(self.tells, err, name, &told);
-        self.raise(told.status());
+        self.status = greater(self.status, told.status());
         write_text(out, self.room.as_slice())
     }
 
