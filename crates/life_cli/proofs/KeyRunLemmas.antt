@@ -229,18 +229,18 @@ module _ {F R W E : Type 0} (step : F → Origin → Result R IoError → F → 
   }
 
   -- the files of the words, and then those of the list
-  pub takes_both : (form form' : Form) (zero : Bool) (words : List (List ℕ)) (list : List ℕ) (rest last : List Name) (f g h : F) (u v w : W)
+  pub takes_both : (form form' : Form) (is_zero : Bool) (words : List (List ℕ)) (list : List ℕ) (rest last : List Name) (f g h : F) (u v w : W)
       (x y z : E) (a b c : Outputs) (result : Result (Unit {0}) Kind) → form' ≡ form → b.style ≡ a.style → rest ≡ []
       → TakesFiles step remaining reads_failed held contents failures stalled form (map Word words) rest f g u v x y a b (Ok tt)
-      → TakesFiles step remaining reads_failed held contents failures stalled form' (map Listed (names_in (end_of zero) list)) last g h v w y z b c result
-      → TakesFiles step remaining reads_failed held contents failures stalled form (names_among zero words list) last f h u w x z a c result
-  takes_both form form' zero words list rest last f g h u v w x y z a b c result is_form is_style all p q =
-      let more = map Listed (names_in (end_of zero) list) in
+      → TakesFiles step remaining reads_failed held contents failures stalled form' (map Listed (names_in (end_of is_zero) list)) last g h v w y z b c result
+      → TakesFiles step remaining reads_failed held contents failures stalled form (names_among is_zero words list) last f h u w x z a c result
+  takes_both form form' is_zero words list rest last f g h u v w x y z a b c result is_form is_style all p q =
+      let more = map Listed (names_in (end_of is_zero) list) in
       let first = subst (λ l. TakesFiles step remaining reads_failed held contents failures stalled form (map Word words ++ more)
       (l ++ more) f g u v x y a b (Ok tt)) all
       (takes_longer form (map Word words) rest more f g u v x y a b (Ok tt) p) in
       let second = subst (λ k. TakesFiles step remaining reads_failed held contents failures stalled k more last g h v w y z b c result) is_form q in
-      takes_more step remaining reads_failed held contents failures stalled form (names_among zero words list) more last f g h u v w x y z a b c result
+      takes_more step remaining reads_failed held contents failures stalled form (names_among is_zero words list) more last f g h u v w x y z a b c result
       is_style first second
 
   -- a flush hands on what was written, or fails, and then all of it was written
