@@ -33,8 +33,8 @@ returns-in_err-take_list-clause-took g c =
     rw p.1 (
       second.0,
       tt,
-      takes_err _ _ _ _ _ _ _ _ _ _ _ _ _ _ _ _ _ _ _ _ (takes_both _ _ _ _ _ _ _ _ _ _ _ _ _ _ _ _ _ _ _ _ _ _ _ _ _ _ _ c.in_ok-take_words.ensures.form
-          c.in_ok-take_words.ensures.style first.1 first.2 second.2),
+      takes_err _ _ _ _ _ _ _ _ _ _ _ _ _ _ _ _ _ _ _ _ (takes_both _ _ _ _ _ _ _ _ _ c.args.zero _ c.args.list.now _ _ _ _ _ _ _ _ _ _ _ _ _ _ _
+          c.in_ok-take_words.ensures.form c.in_ok-take_words.ensures.style first.1 first.2 second.2),
     )
 
 pub returns-clause-took : goal.returns-clause-took
@@ -43,6 +43,6 @@ returns-clause-took g c =
     let second = c.in_ok-take_list.ensures.took in (
       second.0,
       on_ok _ c.flush.result second.1,
-      takes_flushed _ _ _ _ _ _ _ _ _ _ _ _ _ _ _ _ _ _ _ _ (takes_both _ _ _ _ _ _ _ _ _ _ _ _ _ _ _ _ _ _ _ _ _ _ _ _ _ _ _ c.in_ok-take_words.ensures.form
-          c.in_ok-take_words.ensures.style first.1 first.2 second.2) c.flush.ensures.bytes,
+      takes_flushed _ _ _ _ _ _ _ _ _ _ _ _ _ _ _ _ _ _ _ _ (takes_both _ _ _ _ _ _ _ _ _ c.args.zero _ c.args.list.now _ _ _ _ _ _ _ _ _ _ _ _ _ _ _
+          c.in_ok-take_words.ensures.form c.in_ok-take_words.ensures.style first.1 first.2 second.2) c.flush.ensures.bytes,
     )
