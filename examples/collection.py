@@ -82,7 +82,7 @@ def row_of(path: str, member: Optional[str], read: Callable[[], bytes], form: st
             key = golly_canon.key(data, form)
         return path, member, key, None, None, golly_canon.warning_of(data)
     except golly_canon.Refused as why:
-        return path, member, None, why.kind, why.line, str(why)
+        return path, member, None, why.kind, why.line, f"{why}: {why.sentence}"
     except MemoryError:
         return path, member, None, "Memory", None, "Memory"
     except UNREAD as why:

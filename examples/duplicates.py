@@ -1,5 +1,5 @@
-"""The duplicates in a folder: prints `FILE = FILE` for each file that is the same pattern as an earlier one, and `FILE: line N: KIND` for each
-that is no pattern, or why it can't be read, on standard error. Files that gzip packed are unpacked. It keeps the key of each different pattern.
+"""The duplicates in a folder: prints `FILE = FILE` for each file that is the same pattern as an earlier one, and `FILE: line N: KIND: SENTENCE` for
+each that is no pattern, or why it can't be read, on standard error. Files that gzip packed are unpacked. It keeps the key of each different pattern.
 With `moved` a pattern is the same wherever it is, and with `turned` whichever way it is turned or reflected too. The status is 0, or 1 where
 a file has no key. usage: duplicates.py FOLDER [placed|moved|turned]"""
 import gzip
@@ -37,7 +37,8 @@ def main(words):
             data = contents(path)
             key = golly_canon.key(data, form)
         except (OSError, EOFError, zlib.error, golly_canon.Refused) as why:
-            print(f"{path}: {why}", file=sys.stderr)
+            sentence = f": {why.sentence}" if isinstance(why, golly_canon.Refused) else ""
+            print(f"{path}: {why}{sentence}", file=sys.stderr)
             status = 1
             continue
         warning = golly_canon.warning_of(data)

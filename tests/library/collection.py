@@ -196,7 +196,8 @@ def of_one_process(paths):
     check(all(a == b and a and c and a != c for a, b, c in patterns), "two spellings have one key, and the pattern elsewhere another one")
     check(len({a for a, _, _ in patterns}) == len({c for _, _, c in patterns}) == PATTERNS, "each pattern has a key of its own")
     refused = [it[1:] for it in found if it[0].endswith(".mc")]
-    check(refused == [(None, None, "BadChild", 4, "line 4: BadChild")] * 4, f"refusals: {refused}")
+    why = "line 4: BadChild: A child number doesn't refer to an earlier square one level down."
+    check(refused == [(None, None, "BadChild", 4, why)] * 4, f"refusals: {refused}")
     wanted = ["glider.rle = held.rle"] + [f"{number:03}a.rle = {number:03}b.rle" for number in range(PATTERNS)]
     check(output.splitlines() == wanted, f"the duplicates: {output[:200]}")
     counts = "collection: 306 files, 302 keys, 4 refused, 0 unread, 201 patterns, 101 groups\n"

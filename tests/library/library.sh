@@ -25,6 +25,9 @@ if ! sh "$top/scripts/archive" > said 2>&1; then
     exit 1
 fi
 sh "$top/scripts/link_library" "$archive" built || exit 1
+version=$(cat "$top/VERSION")
+verdict "the shared object's file has the name that programs are linked with, and the version" "$(
+    [ "$(readlink built/libgolly_canon.so) $(readlink built/libgolly_canon.so.1)" = "libgolly_canon.so.1 libgolly_canon.so.1.$version" ] || ls -l built)"
 
 built() { # NAME SOURCE WORDS..
     name=$1
@@ -246,7 +249,8 @@ gzip -c files/glider.rle > 'some files/packed.rle.gz'
 head -c 30 'some files/packed.rle.gz' > 'some files/cut.gz'
 printf '[M2]\r#R B3/S23\r$$..*$\r' > 'some files/lost.mc'
 lost='line 1 has a carriage return inside it: the file seems to have lost its line ends, so that most of it is read as a comment'
-printf '%s\n' 'some files/child.mc: line 4: BadChild' 'some files/cut.gz: Compressed file ended before the end-of-stream marker was reached' \
+printf '%s\n' "some files/child.mc: line 4: BadChild: A child number doesn't refer to an earlier square one level down." \
+    'some files/cut.gz: Compressed file ended before the end-of-stream marker was reached' \
     'some files/deeper/a glider.mc = some files/glider.rle' 'some files/deeper/a glider.mc = some files/packed.rle.gz' \
     "some files/lost.mc: warning: $lost" > wanted
 python3 -B "$top/examples/duplicates.py" 'some files' > out 2>&1
