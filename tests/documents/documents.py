@@ -1,9 +1,10 @@
 #!/usr/bin/env python3
-"""Holds the documents against the repository: each file, heading and line of code that they link to, and each file that they name, is there; the table
-of sizes in docs/PROOFS.md is what scripts/sizes prints, and no clause is wider than 100 columns; each deliberate bug of its table is an edit that changes
-what the table says, and nothing else; no line of documents, definitions and proofs is too wide; the man page has a date; each place that repeats the
-version has that of the file VERSION; and each place that names the kinds of fault has them all, with their numbers (scripts/kinds says which places).
-And each check in the folders of tests/ is run, by tests/all or by another one.
+"""Holds the documents against the repository: each file, heading and line of code that they link to, and each file that they name, is there; the pages
+where a newcomer begins link to Golly and to what describes the formats; the table of sizes in docs/PROOFS.md is what scripts/sizes prints, and no clause
+is wider than 100 columns; each deliberate bug of its table is an edit that changes what the table says, and nothing else; no line of documents,
+definitions and proofs is too wide; the man page has a date; each place that repeats the version has that of the file VERSION; and each place that names
+the kinds of fault has them all, with their numbers (scripts/kinds says which places). And each check in the folders of tests/ is run, by tests/all or by
+another one.
 
 usage: tests/documents/documents.py
 """
@@ -24,6 +25,8 @@ SIZES = "docs/PROOFS.md"
 # A path in backticks: of a folder at the top, or of a crate, whose name may stand without `crates/`.
 NAMED = re.compile(r"`((?:docs|tests|scripts|bench|examples|include|completions|packages|python|crates)/[\w./*-]+|(?:[a-z]+_)+[a-z]+/(?:src|specs|proofs)/[\w./+*-]+)`")
 LINKED = re.compile(r"\]\(([^)#:\s]*)(?:#([^)\s]+))?\)")
+# Where a newcomer looks up what a page speaks of: Golly, and both formats.
+ELSEWHERE = ["https://golly.sourceforge.io", "https://conwaylife.com/wiki/Run_Length_Encoded", "https://conwaylife.com/wiki/Macrocell"]
 # A row of the table of deliberate bugs: the crate, the function, what is wrong, what is right, the bug, and the edit.
 PLANTED = re.compile(r"\| `(\w+)` \| `([\w:]+)` \| [^|]+ \| `([^`]+)` \| `([^`]+)` \| `(\w+)` \|")
 BUGS = 20
@@ -140,6 +143,9 @@ def findings():
         for name in sorted(set(NAMED.findall(text))):
             if not PATTERN.search(name):
                 yield f"{document}: {name}", is_there(name)
+    for document in ("README.md", "docs/FORMATS.md"):
+        for address in ELSEWHERE:
+            yield f"{document}: a link to {address}", f"]({address}" in text_of(document)
     planted = PLANTED.findall(text_of(SIZES))
     yield f"{SIZES}: {BUGS} deliberate bugs, and not {len(planted)}", len(planted) == BUGS
     for crate, function, right, wrong, edit in planted:

@@ -275,6 +275,8 @@ OTHERS = [
 UNREAD = [
     (["canon", "absent"], f"absent: {ABSENT}"), (["canon", "tree"], f"tree: {FOLDER}"), (["same", "pair", "absent"], f"absent: {ABSENT}"),
     (["same", "absent", "tree"], f"absent: {ABSENT}"), (["step", "--table", "tree", "pair"], f"tree: {FOLDER}"),
+    (["step", "pair", "--table", "absent"], f"absent: {ABSENT}"), (["step", "absent", "--table", "spread.rule"], f"absent: {ABSENT}"),
+    (["convert", "absent", "--to", "rle"], f"absent: {ABSENT}"),
     (["show", "locked"], f"locked: {LOCKED}"), (["show", "pair/x"], "pair/x: can't be opened"),
 ]
 TWICE = [
@@ -284,20 +286,20 @@ TWICE = [
 ]
 
 
-def on_terminal(place, words, source=b""):
+def on_terminal(place, words, source=b"", **how):
     """A run whose standard error alone is a terminal."""
     with tempfile.TemporaryFile() as given:
         given.write(source)
         given.seek(0)
-        return from_stream(place, words, given)
+        return from_stream(place, words, given, **how)
 
 
-def from_stream(place, words, given):
+def from_stream(place, words, given, **how):
     """The same with this standard input."""
     end, terminal = pty.openpty()
     tty.setraw(terminal)  # no end of a line is turned into two bytes
     with tempfile.TemporaryFile() as output:
-        with subprocess.Popen([place.program, *words], cwd=place.here, stdin=given, stdout=output, stderr=terminal) as run:
+        with subprocess.Popen([place.program, *words], cwd=place.here, stdin=given, stdout=output, stderr=terminal, **how) as run:
             os.close(terminal)
             errors = keys.read_all(end)
         output.seek(0)
@@ -323,6 +325,7 @@ def explanation_rows(place):
     for words, line in UNREAD:
         answer = Answer(3, b"", f"ReadFault\n{line}\n".encode())
         place.holds(f"{' '.join(words)} --explain", [*words, "--explain"], answer, **NOBODY)
+        counting.row(f"{' '.join(words)} on a terminal", problems_of(on_terminal(place, words, **NOBODY), answer))
         place.holds(f"{' '.join(words)} without it", words, Answer(3, b"", b"ReadFault\n"), **NOBODY)
     for words, error in TWICE:
         place.holds(f"standard input twice: {' '.join(words)}", words, Answer(5, b"", error))
