@@ -481,6 +481,19 @@ def rings():
     return [(x + i, y + j) for x, y in loners() for j in (-1, 0, 1) for i in (-1, 0, 1) if i or j]
 
 
+def moved(cells):
+    """Cells whose bounding box begins at (0, 0), or ends with the plane where it would leave that."""
+    east, south = (min(-min(it), HALF - 1 - max(it)) for it in zip(*cells))
+    return [(x + east, y + south) for x, y in cells]
+
+
+@once
+def least_image():
+    """The least text of the eight images of these cells."""
+    images = [[(x ^ a, y ^ b) for x, y in it] for it in (loners(), [(y, x) for x, y in loners()]) for a in (0, -1) for b in (0, -1)]
+    yield min(LIFE + b"".join(node_lines(moved(it), 3)) for it in images)
+
+
 LARGE_RLE = [
     accepted("2^19 teeth over the width of the plane", TEETH, TEETH_TEXT, times=9),
     accepted("100,000 rows of 2^62 cells", [lambda: wide_rows(random_states(100_000))], [lambda: wide_rows_text(random_states(100_000))]),
@@ -496,6 +509,8 @@ LARGE_RLE = [
     accepted("2^13 single cells anywhere that die", DEEP_RLE, canonical(b"B3/S23", 1), "step input", each=4, times=100),
     accepted("2^11 single cells anywhere that become rings", rle_of(loners, b"B1/S"), [canonical(b"B1/S", 1), lambda: lines_of(rings, 3)], "step input",
              each=6, times=240),
+    accepted("2^11 single cells anywhere, moved", rle_of(loners), macrocell_of(lambda: moved(loners())), "canon input --form moved", each=8, times=200),
+    accepted("2^11 single cells anywhere, turned", rle_of(loners), [least_image], "canon input --form turned", each=80, times=400),
     accepted("2^13 cells of many states in a row", [lambda: scattered_rle(scattered())], states_in_nodes(scattered), each=6, times=300),
     Case("2^13 single cells anywhere in both formats", "same input other", output=b"same\n", files={"input": DEEP_RLE, "other": DEEP_TEXT}),
 ]
