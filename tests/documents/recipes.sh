@@ -201,6 +201,7 @@ x = 4, y = 4, rule = WireWorld
     verdict "generations by a table, in $shell" "$problems"
 
     table_recipes
+    mends
     recipe text
     verdict "a script for one text that Golly opens, in $shell" "$problems"
     text_recipe
@@ -281,6 +282,35 @@ END
         equal "the step by it" "$(next_by mended.rule)" 'C2$C!'
         verdict "each form of a variable, in $shell" "$problems"
     done
+}
+
+# What docs/QUESTIONS.md says to do with a file of this kind: the command in its row.
+mend_of() { # TEXT
+    awk -F '|' -v text="$1" 'index($3, text) && match($4, /`.*`/) { print substr($4, RSTART + 1, RLENGTH - 2); exit }' "$top/docs/QUESTIONS.md"
+}
+
+# Files that are refused, and are the glider once they are mended by that command.
+mends() {
+    problems=
+    printf '\357\273\277x = 3, y = 3\nbo$2bo$3o!\n' > marked
+    printf 'x = 3, y = 3\rbo$2bo$3o!\r' > returns
+    printf 'x = 3, y = 3\nbo$%600000s2bo$%600000s3o!\n' '' '' > long
+    printf '!Name: a glider\n.O.\n..O\nOOO\n' > named.cells
+    printf 'x = 3, y = 3\nbo$2bo$3o!\n' > mended.rle
+    while read -r file line kind text; do
+        equal "the fault of $file" "$(golly_canon canon "$file" 2>&1)" "line $line: $kind"
+        command=$(mend_of "$text" | sed "s/FILE/$file/; s/NEW/new/")
+        rm -f new.rle
+        $shell -c "$command" > mended 2>&1
+        [ ! -f new.rle ] || mv new.rle mended
+        equal "$file, mended by $command" "$(golly_canon same mended mended.rle --form moved 2>&1)" same
+    done <<'END'
+marked 1 NoHeader a byte order mark
+returns 1 BadHeader a carriage return alone
+long 2 LineTooLong an RLE of one line
+named.cells 1 NoHeader another format
+END
+    verdict "refused files that are mended, in $shell" "$problems"
 }
 
 # How many cells Golly finds in a file.
