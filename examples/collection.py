@@ -14,6 +14,7 @@ import argparse
 import functools
 import gzip
 import hashlib
+import importlib.util
 import logging
 import lzma
 import os
@@ -41,6 +42,8 @@ MOST_FAILED = 10  # shares, after which a run stops
 PATIENCE = 300.0  # the most seconds without a scheduler
 SPOKEN = 10.0  # the seconds between two lines that say how far the run is
 UNSETTLED = ("Memory", "ReadFault")  # kinds that lie with the machine, so that the next run tries again
+WITHOUT_DASK = (f"Dask isn't installed for {sys.executable}: install it (`apt-get install python3-distributed` for /usr/bin/python3, `pip install distributed` "
+                "for another one), or do all in one process, with --workers 0")
 UNREAD = (OSError, EOFError, zlib.error, lzma.LZMAError, zipfile.BadZipFile, tarfile.TarError, RuntimeError)
 
 
@@ -190,8 +193,8 @@ def dask_on(address: Optional[str], workers: int) -> Work:
     try:
         import distributed
     except ImportError:
-        sys.exit(f"Dask isn't installed for {sys.executable}: `apt-get install python3-distributed` installs it for /usr/bin/python3, `pip install "
-                 "distributed` for another one. --workers 0 does without.")
+        tell(WITHOUT_DASK)
+        sys.exit(1)
     logging.disable(logging.CRITICAL)  # a worker or a scheduler that is lost is no news here
     if address is not None:
         return by_dask(lambda: distributed.Client(address, timeout=5))
@@ -238,7 +241,7 @@ class Table:
                 it.execute("INSERT INTO run VALUES (?, ?, ?)", (mark, form, len(shares)))
             is_ours = it.execute("SELECT 1 FROM sqlite_master WHERE name = 'run'").fetchone()
             if not is_ours or it.execute("SELECT list FROM run").fetchone() != (mark,):
-                raise ValueError("it is the table of another list, form or size of shares")
+                raise ValueError("it is the table of another list, form or size of shares: name another table, or remove this one")
 
     def left(self, shares: Sequence[Share]) -> List[Share]:
         """The shares that are not done, or in which a file couldn't be read."""
@@ -372,6 +375,9 @@ def words_of(arguments: Optional[Sequence[str]]) -> argparse.Namespace:
     words = parser.parse_args(arguments)
     if bool(words.files) == (words.list is not None):
         parser.error("name files, or a list by --from")
+    folder = next(filter(os.path.isdir, words.files), None)
+    if folder is not None:
+        parser.error(f"{shown(folder)} is a folder: name its files, as find {shown(folder)} -type f -print0 | collection.py --from - does")
     if words.share < 1 or (words.workers or 0) < 0:
         parser.error("--share takes a number above 0, and --workers one of 0 or more")
     if words.parquet is not None:
@@ -391,17 +397,21 @@ def words_of(arguments: Optional[Sequence[str]]) -> argparse.Namespace:
 def main(arguments: Optional[Sequence[str]] = None) -> int:
     words = words_of(arguments)
     shares = shares_of(words.files, words.form, words.archive, words.share)
+    workers = os.cpu_count() or 1 if words.workers is None else words.workers
+    wants_dask = words.scheduler is not None or workers > 0
+    if wants_dask and not os.path.exists(words.table) and importlib.util.find_spec("distributed") is None:
+        tell(WITHOUT_DASK)  # before there is a table, so that the next command may have another list or form
+        return 1
     try:
         table = Table(words.table, shares, words.form)
     except (sqlite3.Error, ValueError) as why:
         tell(f"{words.table}: {why}")
         return 2
     left = table.left(shares)
-    workers = os.cpu_count() or 1 if words.workers is None else words.workers
     failed: List[int] = []
     try:
         if left:  # else no worker is wanted
-            failed = run(table, left, by_this_process if workers == 0 and words.scheduler is None else dask_on(words.scheduler, workers))
+            failed = run(table, left, dask_on(words.scheduler, workers) if wants_dask else by_this_process)
     except (ImportError, OSError, sqlite3.Error) as why:  # no library, no scheduler for long, or a disk that is full
         where = " (docs/LIBRARY.md says where it is looked for)" if isinstance(why, ImportError) else ""
         tell(f"{why}{where}; the same command continues where it was")

@@ -324,14 +324,16 @@ def of_interrupt(python, wanted, *words):
 
 def of_words():
     """Words that can't be followed."""
+    os.mkdir("folder")
     for words, said in [
         (["--table", "x.sqlite"], "name files, or a list by --from"),
         (["glider.rle"], "--table"),
+        (["--table", "x.sqlite", "glider.rle", "folder"], "folder is a folder: name its files, as find folder -type f -print0 | collection.py --from - does"),
         (["--table", "x.sqlite", "--from", "no list"], "no list: No such file or directory"),
         (["--table", "x.sqlite", "--form", "shifted", "glider.rle"], "shifted"),
         (["--table", "x.sqlite", "--share", "0", "glider.rle"], "--share takes a number above 0"),
         (["--table", "x.sqlite", "--workers", "2", "--scheduler", "tcp://one:8786", "glider.rle"], "not allowed with"),
-        (["--table", "alone.sqlite", *WITHOUT_DASK, "glider.rle"], "alone.sqlite: it is the table of another list, form or size of shares"),
+        (["--table", "alone.sqlite", *WITHOUT_DASK, "glider.rle"], "alone.sqlite: it is the table of another list, form or size of shares: name another table"),
         (["--table", "glider.rle", *WITHOUT_DASK, "glider.rle"], "glider.rle: file is not a database"),
         (["--table", "no/x.sqlite", *WITHOUT_DASK, "glider.rle"], "no/x.sqlite: unable to open database file"),
     ]:
@@ -340,6 +342,19 @@ def of_words():
     check(not os.path.exists("x.sqlite"), "words that can't be followed make no table")
     status, _, said = ran("--table", "x.sqlite", *WITHOUT_DASK, "glider.rle", GOLLY_CANON_LIBRARY="/nowhere")
     check(status == 1 and "the library of golly_canon isn't found" in said and "Traceback" not in said, f"no library: {said}")
+
+
+def of_lacking_dask():
+    """Where Dask isn't installed, a run that needs it makes no table, so that the next one may be another."""
+    own = sys.modules.get("distributed")
+    sys.modules["distributed"] = None  # so Python finds none
+    with contextlib.redirect_stderr(io.StringIO()) as told:
+        status = collection.main(["--table", "undone.sqlite", "--workers", "2", "glider.rle"])
+    del sys.modules["distributed"]
+    if own is not None:
+        sys.modules["distributed"] = own
+    is_told = told.getvalue().startswith("collection: Dask isn't installed for ") and "--workers 0" in told.getvalue()
+    check(status == 1 and is_told and not os.path.exists("undone.sqlite"), f"without Dask: status {status}, {told.getvalue()}")
 
 
 def of_shares(paths):
@@ -578,6 +593,7 @@ def all_of(paths):
     of_unread()
     of_line_ends()
     of_words()
+    of_lacking_dask()
     of_interrupt(sys.executable, wanted, *WITHOUT_DASK)
     of_shares(paths)
     of_futures()
