@@ -419,7 +419,10 @@ lines.rle' 'end
     cp ../glider.rle one.rle && ln one.rle two.rle
     mkdir folder.rle && mkfifo pipe.rle
     misread mac.mc 1 && misread meant.mc 3 && cp mac.mc meant.mc ..
+    [ "$(id -u)" != 0 ] || chown 65534:65534 y.rle # only root may give a file away
+    owner=$(stat -c %u:%g y.rle)
     in_place y.rle || problems="$problems y.rle isn't replaced;"
+    equal "the owner of y.rle" "$(stat -c %u:%g y.rle)" "$owner"
     equal "y.rle" "$(cat y.rle)" "$(cat ../own/wanted.rle)"
     equal "the mode of y.rle" "$(stat -c %a y.rle)" 640
     for name in WireWorld.rule link.rle broken.rle one.rle two.rle folder.rle pipe.rle mac.mc meant.mc absent.rle ''; do
