@@ -16,7 +16,6 @@ A difference is printed with its seed, its case and the altered text. The lines 
 import argparse
 import collections
 import functools
-import multiprocessing
 import os
 import random
 import sys
@@ -128,7 +127,7 @@ def finding(judged, parent, seed, number):
 def findings(judged, options):
     numbers = [options.only] if options.only is not None else range(options.cases)
     parent = compare.FAST_FOLDER if os.path.isdir(compare.FAST_FOLDER) else None
-    with tempfile.TemporaryDirectory(dir=parent) as folder, multiprocessing.Pool(options.jobs) as pool:
+    with tempfile.TemporaryDirectory(dir=parent) as folder, compare.pool_of(options.jobs) as pool:
         found = pool.imap_unordered(functools.partial(finding, judged, folder, options.seed), numbers)
         yield from (it for it in found if it is not None)
 

@@ -205,6 +205,11 @@ def of_number(judged, parent, seed, given):
     return compared(judged, given if isinstance(given, Case) else random_case(seed, given))
 
 
+def pool_of(jobs):
+    """The processes that look at cases. What `main` does with a signal is not for them: one that exits by it may wait for another's lock for ever."""
+    return multiprocessing.Pool(jobs, signal.signal, (signal.SIGTERM, signal.SIG_DFL))
+
+
 def findings(judged, options):
     """The findings of all cases that were asked for, from several processes."""
     if options.only is not None:
@@ -214,9 +219,7 @@ def findings(judged, options):
     else:
         cases = [*small_cases(), *range(options.cases)]
     parent = FAST_FOLDER if os.path.isdir(FAST_FOLDER) else None
-    # What `main` does with a signal is not for the pool's processes: one that exits by it may wait for another's lock for ever.
-    plain_signals = signal.signal, (signal.SIGTERM, signal.SIG_DFL)
-    with tempfile.TemporaryDirectory(dir=parent) as folder, multiprocessing.Pool(options.jobs, *plain_signals) as pool:
+    with tempfile.TemporaryDirectory(dir=parent) as folder, pool_of(options.jobs) as pool:
         yield from pool.imap_unordered(functools.partial(of_number, judged, folder, options.seed), cases, 16)
 
 

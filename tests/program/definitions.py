@@ -20,7 +20,6 @@ which every byte is cut and changed. A difference is printed with its seed, its 
 import argparse
 import collections
 import functools
-import multiprocessing
 import os
 import random
 import sys
@@ -567,7 +566,7 @@ def findings(judged, options):
         numbers = range(options.first, options.first + options.cases)
         cases = compare.small_cases() if options.small else [*edge_cases(), *numbers] if options.first == 0 else numbers
     parent = compare.FAST_FOLDER if os.path.isdir(compare.FAST_FOLDER) else None
-    with tempfile.TemporaryDirectory(dir=parent) as folder, multiprocessing.Pool(options.jobs) as pool:
+    with tempfile.TemporaryDirectory(dir=parent) as folder, compare.pool_of(options.jobs) as pool:
         yield from pool.imap_unordered(functools.partial(of_case, judged, folder, options.seed), cases, 16)
 
 
