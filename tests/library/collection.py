@@ -622,6 +622,7 @@ def link(archive):
 def main():
     archive = os.path.abspath(sys.argv[1]) if len(sys.argv) > 1 else None
     signal.signal(signal.SIGTERM, lambda *_: sys.exit(1))  # so that what was started ends with the test
+    signal.signal(signal.SIGINT, signal.default_int_handler)  # so that what is started takes Ctrl-C, also where this test was started without
     with tempfile.TemporaryDirectory(ignore_cleanup_errors=True) as folder:
         os.chdir(folder)
         try:
