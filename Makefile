@@ -13,7 +13,7 @@
 #   make fuzz      compares the program with the independent reader on CASES=.. random files by SEED=..
 #   make fuzz_library  the same of the library for C, its streams too, which takes half the time
 #   make times     runs `rt ci`, and says how much processor time it took for each crate, its tests and its edits
-#   make bench     times the program and plain programs in C (with SMALL=1 on smaller inputs, within three minutes)
+#   make bench     times the program beside plain C by gcc and by clang, and a program OTHER=.. (with SMALL=1 on smaller inputs, within five minutes)
 #   make instructions   counts the instructions of both on the smaller inputs, which other work on the machine does not change
 #   make install   puts in place what make and make library have built, and proves nothing: the two below
 #   make install_program  puts ./golly_canon into $(DESTDIR)$(PREFIX)/bin, its man page into $(DESTDIR)$(MANDIR), and its completions into
@@ -89,7 +89,7 @@ times:
 	@RT="$(RT)" python3 scripts/times
 
 bench: golly_canon
-	@RT="$(RT)" SMALL="$(SMALL)" python3 bench/run.py ./golly_canon out/bench
+	@RT="$(RT)" SMALL="$(SMALL)" OTHER="$(OTHER)" python3 bench/run.py ./golly_canon out/bench
 
 instructions: golly_canon
 	@python3 -B bench/instructions.py ./golly_canon out/bench_small

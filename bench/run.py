@@ -1,13 +1,18 @@
 #!/usr/bin/env python3
-"""Times golly_canon beside a plain program in C on the same work, in one run.
+"""Times golly_canon beside plain programs on the same work, in one run.
 
 usage: bench/run.py PROGRAM FOLDER    (PROGRAM: the built golly_canon; FOLDER: where inputs and plain programs are made)
 
-Of each command the two programs take turns, five times each, and the least processor time (user and system) of each counts; their bytes are
-compared first. Golly's bgolly takes turns with it too, where it is installed. The memory is the peak resident size in one more run, which
-/usr/bin/time starts: what this script starts itself is said to be as large as this script. With SMALL=1 in the environment each input has a tenth
-of the size that its row names, and each program has three turns: that ends within three minutes.
+The plain program is bench/plain.c, compiled by gcc and by clang, as far as they are installed. OTHER in the environment names one more program, which takes
+the command line of golly_canon. All of them take turns, nine times each, and the least processor time (user and system) of each counts. The ratio of a row is
+to the fastest of the plain programs, and the row says which one that was. The bytes that they write are compared first: if OTHER refuses an input or writes
+other bytes, then the row goes without it.
+
+Golly's bgolly takes turns with golly_canon too, where it is installed. The memory is the peak resident size in one more run, which /usr/bin/time starts: what
+this script starts itself is said to be as large as this script. With SMALL=1 in the environment each input has a tenth of the size that its row names, and
+each program has three turns: that ends within three minutes.
 """
+import math
 import os
 import shutil
 import subprocess
@@ -17,7 +22,9 @@ import tempfile
 HERE = os.path.dirname(os.path.abspath(__file__))
 TOP = os.path.dirname(HERE)
 IS_SMALL = os.environ.get("SMALL") == "1"
-TURNS = 3 if IS_SMALL else 5
+TURNS = 3 if IS_SMALL else 9
+COMPILERS = ("gcc", "clang")
+OTHER = os.environ.get("OTHER")
 
 
 def peak_of(words):
@@ -49,11 +56,23 @@ def output(words):
     return subprocess.run(words, stdin=subprocess.DEVNULL, stdout=subprocess.PIPE, check=True).stdout
 
 
-def plain(folder, name):
+def writes(words, text):
+    """Whether a command writes this text and ends well."""
+    ran = subprocess.run(words, stdin=subprocess.DEVNULL, stdout=subprocess.PIPE, stderr=subprocess.DEVNULL, check=False)
+    return ran.returncode in (0, 1) and ran.stdout == text
+
+
+def plain(folder, name, compiler=None):
     """A program of bench/ in C, compiled."""
-    path = os.path.join(folder, name)
-    subprocess.run([os.environ.get("CC", "cc"), "-O2", "-o", path, os.path.join(HERE, name + ".c")], check=True)
+    path = os.path.join(folder, f"{name}_{compiler}" if compiler else name)
+    subprocess.run([compiler or os.environ.get("CC", "cc"), "-O2", "-o", path, os.path.join(HERE, name + ".c")], check=True)
     return path
+
+
+def plains(folder):
+    """The plain program by each compiler that is installed: the compiler's name and the program. There is at least one."""
+    found = [(it, plain(folder, "plain", it)) for it in COMPILERS if shutil.which(it)]
+    return found or [("cc", plain(folder, "plain"))]
 
 
 def made(folder, name, kind, size):
@@ -66,14 +85,25 @@ def made(folder, name, kind, size):
     return path
 
 
-def compared(label, words, others):
-    """A row of the tables: a command of the program beside that of the plain one. Answers both processor times."""
-    text = output(words)
-    if text != output(others):
-        sys.exit(f"{label}: the two programs write other bytes")
-    took, base = in_turns(words, others)
-    peak, base_peak = peak_of(words), peak_of(others)
-    print(f"  {label:<48} {took:6.3f} s, plain {base:6.3f} s: {took / base:4.2f}; memory {peak / 1e6:4.0f} MB, plain {base_peak / 1e6:4.0f} MB:"
+# The ratios of each command, to the fastest plain program and in memory to the least.
+ratios = {}
+
+
+def compared(label, program, words, references, others):
+    """A row of the tables: a command of the program beside the plain ones, whose words may differ. Returns both processor times, ours and the least of the
+    others."""
+    text = output([program, *words])
+    rivals = [(name, [reference, *others]) for name, reference in references]
+    for name, rival in rivals:
+        if not writes(rival, text):
+            sys.exit(f"{label}: golly_canon and the plain program of {name} write other bytes")
+    if OTHER and writes([OTHER, *words], text):
+        rivals.append(("other", [OTHER, *words]))
+    took, *times = in_turns([program, *words], *[rival for _, rival in rivals])
+    base, fastest = min((time, rivals[number][0]) for number, time in enumerate(times))
+    peak, base_peak = peak_of([program, *words]), peak_of(rivals[0][1])
+    ratios.setdefault(words[0], []).append(took / base)
+    print(f"  {label:<48} {took:6.3f} s, plain {base:6.3f} s ({fastest}): {took / base:4.2f}; memory {peak / 1e6:4.0f} MB, plain C {base_peak / 1e6:4.0f} MB:"
           f" {peak / base_peak:4.2f}; the same {len(text):,} bytes", flush=True)
     return took, base
 
@@ -118,15 +148,16 @@ def growth(what, times):
     """How the time of both programs grows from one soup to the next."""
     for shorter, longer in zip(SOUPS, SOUPS[1:]):
         ours, plains = (times[longer][of] / times[shorter][of] for of in (0, 1))
-        print(f"  {what}: {megabytes(longer)} take {ours:.1f} times as long as {megabytes(shorter)}, in C {plains:.1f} times")
+        print(f"  {what}: {megabytes(longer)} take {ours:.1f} times as long as {megabytes(shorter)}, in the plain program {plains:.1f} times")
 
 
 def canonical(program, folder):
-    print("golly_canon canon: processor time and peak memory beside a plain program in C that does the whole of the work and checks nothing")
-    reference, soups, trees = plain(folder, "plain"), {}, {}
+    print("golly_canon canon: processor time and peak memory beside the fastest plain program, which does the whole of the work and checks nothing")
+    references, soups, trees = plains(folder), {}, {}
+    reference = references[0][1]
 
     def row(label, path):
-        return compared(label, [program, "canon", path], [reference, "canon", path])
+        return compared(label, program, ["canon", path], references, ["canon", path])
 
     for size in SOUPS:
         soups[size] = row(f"soup of {megabytes(size)}, RLE", soup_of(folder, size))
@@ -163,9 +194,15 @@ def jobs(folder, reference):
 
 def commands(program, folder):
     print(f"the other commands; soups of {megabytes(SOUPS[1])}, and what is converted and stepped has at most 2^20 cells that aren't 0")
-    reference = plain(folder, "plain")
-    for label, words, others in jobs(folder, reference):
-        compared(label, [program, *words], [reference, *others])
+    references = plains(folder)
+    for label, words, others in jobs(folder, references[0][1]):
+        compared(label, program, words, references, others)
+
+
+def means():
+    """The geometric mean and the largest ratio of each command."""
+    for command, found in ratios.items():
+        print(f"{command}: {math.exp(sum(map(math.log, found)) / len(found)):.2f} in the geometric mean of {len(found)}, {max(found):.2f} at most")
 
 
 def beside_golly(program, folder):
@@ -198,6 +235,7 @@ def main():
         print("each input has a tenth of the size that its row names")
     canonical(program, folder)
     commands(program, folder)
+    means()
     beside_golly(program, folder)
 
 
