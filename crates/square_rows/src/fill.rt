@@ -7,8 +7,8 @@ ghost use Rattle.life_strip.specs.Filling.{IsFilling};
 ghost use Rattle.life_strip.specs.Given.{IsBehind, IsNext, IsOnPlane};
 
 use crate::answer::Unanswered;
-use crate::words::{Words, halves, number_of};
-use life_base::{Kind, MAX_LEVEL, Run};
+use crate::step::numbers_of;
+use life_base::{Kind, MAX_LEVEL, Run, split_word};
 use life_quad::{Id, Squares, set_run};
 use life_strip::{Builder, laws};
 use std::alloc::Global;
@@ -47,17 +47,18 @@ pub(crate) fn put<S: Squares>(
     set_run(squares, root, Run { x, y, len, state })
 }
 
+/// The run of a column, a row, a length and a state.
+pub(crate) fn run_at(x: i64, y: i64, len: i64, state: i64) -> Result<Run, Unanswered> {
+    let (Ok(len), Ok(state)) = (u64::try_from(len), u8::try_from(state)) else {
+        return Err(Unanswered::BadRow);
+    };
+    Ok(Run { x, y, len, state })
+}
+
 /// The run that a text writes: its column, its row, its length and its state.
-pub(crate) fn run_of(text: &[u8]) -> Result<Run, Unanswered> {
-    let (x, rest) = halves(text, b',')?;
-    let (y, rest) = halves(rest, b',')?;
-    let (len, state) = halves(rest, b',')?;
-    Ok(Run {
-        x: number_of(x)?,
-        y: number_of(y)?,
-        len: number_of(len)?,
-        state: number_of(state)?,
-    })
+fn run_of(text: &[u8]) -> Result<Run, Unanswered> {
+    let [x, y, len, state, _] = numbers_of(text, 4)?;
+    run_at(x, y, len, state)
 }
 
 /// A builder without runs.
@@ -146,47 +147,53 @@ const FIRST: Run = Run {
 /// Most runs of a step.
 const RUNS: u8 = 100;
 
-/// A builder with the runs that words write, each of which comes after the one before it.
-fn built<S: Squares>(alloc: Global, squares: &mut S, words: &Words) -> Result<Builder, Unanswered>
+/// A builder with the runs of a text, each of which comes after the one before it.
+fn built<S: Squares>(alloc: Global, squares: &mut S, runs: &[u8]) -> Result<Builder, Unanswered>
     ensures filling { IfOk result (λ b. IsFilling (S.knows squares.new) (S.content squares.new) b) }
     ensures keeps { Keeps S.Squares squares.old squares.new }
 {
     let mut builder = begun(alloc, squares);
     let mut last = FIRST;
-    let mut words = Words { rest: words.rest };
+    let mut rest = runs;
     for _run in 0..RUNS {
-        let text = words.word();
+        let (text, others) = split_word(rest);
         if text.is_empty() {
-            break;
+            return Ok(builder);
         }
         let run = run_of(text)?;
         add(squares, &mut builder, last, run)?;
         last = run;
+        rest = others;
     }
-    Ok(builder)
+    Err(Unanswered::BadRow)
 }
 
-/// The plane with the runs that words write.
+/// The plane with the runs of a text.
 pub(crate) fn filled<S: Squares>(
     alloc: Global,
     squares: &mut S,
-    words: &Words,
+    runs: &[u8],
 ) -> Result<Id, Unanswered>
     ensures known { IfOk result (S.knows squares.new) }
     ensures keeps { Keeps S.Squares squares.old squares.new }
 {
-    let builder = built(alloc, squares, words)?;
-    Ok(builder.finish(squares)?)
+    let builder = built(alloc, squares, runs)?;
+    match builder.finish(squares) {
+        Ok(id) => Ok(id),
+        Err(kind) => Err(Unanswered::Refused(kind)),
+    }
 }
 
-/// Gives a builder the runs that words write, and drops it.
+/// Gives a builder the runs of a text, and drops it.
 pub(crate) fn unfinished<S: Squares>(
     alloc: Global,
     squares: &mut S,
-    words: &Words,
+    runs: &[u8],
 ) -> Result<(), Unanswered>
     ensures keeps { Keeps S.Squares squares.old squares.new }
 {
-    let _builder = built(alloc, squares, words)?;
-    Ok(())
+    match built(alloc, squares, runs) {
+        Ok(_) => Ok(()),
+        Err(why) => Err(why),
+    }
 }

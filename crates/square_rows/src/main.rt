@@ -7,6 +7,7 @@ mod asked;
 mod fill;
 mod made;
 mod row;
+mod step;
 mod store;
 mod words;
 

@@ -1,65 +1,61 @@
 //! A row and its answer.
 
-ghost use Rattle.std.specs.Prelude.{◌≤◌, ◌^◌, All, OnOk};
+ghost use Rattle.std.specs.Prelude.{◌≤◌, ◌^◌, All, IfOk, OnOk};
 
-use crate::answer::Unanswered;
-use crate::asked::{asked, show_place};
+use crate::answer::{Answer, Unanswered};
+use crate::asked::{asked, found, measured, remembered, show_place};
 use crate::fill::unfinished;
 use crate::made::made;
+use crate::step::{Make, Step, Verb, step_of};
 use crate::store::Store;
-use crate::words::{Words, first_of, halves, number_of};
-use life_base::Kind;
+use crate::words::{first_of, number_of};
+use life_base::{Kind, split_word};
 use life_quad::{Id, Plain, Seed, Shared};
 use std::alloc::Global;
 
-/// Most steps of a row and most bytes of an answer, for which memory is taken before the first step: so the steps themselves take none but in the store.
+/// Most steps of a row. Memory for their squares is taken before the first step: so the steps themselves take none but in the store.
 const STEPS: usize = 256;
-
-const BYTES: usize = 8192;
 
 /// Most squares of a store.
 const MOST: u64 = 1 << 31;
 
-/// Whether a step makes a square.
-fn makes(call: &[u8]) -> bool {
-    matches!(
-        call,
-        b"empty" | b"cell" | b"small" | b"quarter" | b"rows" | b"join" | b"put" | b"grow" | b"trim"
-    )
-}
-
 /// Takes a step that makes a square: adds it to the list, and its first place there to the answer.
 fn take_square<S: Store>(
     alloc: Global,
-    out: &mut String,
+    out: &mut Answer,
     squares: &mut S,
     ids: &mut Vec<Id>,
-    call: &[u8],
-    words: &mut Words,
+    make: Make,
+    step: &Step,
 ) -> Result<(), Unanswered>
     requires { All (S.knows squares.old) ids.old.items }
     ensures { OnOk result (All (S.knows squares.new) ids.new.items) }
 {
-    let id = made(alloc, squares, ids, call, words)?;
-    ids.push(id)?;
-    show_place(out, ids, id)
+    let id = made(alloc, squares, ids, make, step)?;
+    if ids.push(id).is_err() {
+        return Err(Unanswered::NoMemory);
+    }
+    show_place(out, ids, id);
+    Ok(())
 }
 
 /// Takes a step that a store is to refuse, and adds for what.
 fn take_refused<S: Store>(
     alloc: Global,
-    out: &mut String,
+    out: &mut Answer,
     squares: &mut S,
     ids: &[Id],
-    words: &mut Words,
+    step: &Step,
 ) -> Result<(), Unanswered>
     requires { All (S.knows squares.old) ids.now }
     ensures { OnOk result (All (S.knows squares.new) ids.now) }
 {
-    let call = words.word();
-    match made(alloc, squares, ids, call, words) {
+    let Verb::Make(make) = step.verb else {
+        return Err(Unanswered::BadRow);
+    };
+    match made(alloc, squares, ids, make, step) {
         Err(Unanswered::Refused(kind)) if kind != Kind::Memory => {
-            out.push_str(kind.name())?;
+            out.text(kind.name());
             Ok(())
         }
         Err(why) => Err(why),
@@ -70,24 +66,45 @@ fn take_refused<S: Store>(
 /// Gives a builder runs and drops it.
 fn take_unfinished<S: Store>(
     alloc: Global,
-    out: &mut String,
+    out: &mut Answer,
     squares: &mut S,
     ids: &[Id],
-    words: &Words,
+    runs: &[u8],
 ) -> Result<(), Unanswered>
     requires { All (S.knows squares.old) ids.now }
     ensures { OnOk result (All (S.knows squares.new) ids.now) }
 {
     let _ = ids;
-    unfinished(alloc, squares, words)?;
-    out.push_str("taken")?;
+    unfinished(alloc, squares, runs)?;
+    out.text("taken");
     Ok(())
+}
+
+/// Takes a step that a store is to carry out.
+fn take_step<S: Store>(
+    alloc: Global,
+    out: &mut Answer,
+    squares: &mut S,
+    ids: &mut Vec<Id>,
+    step: &Step,
+) -> Result<(), Unanswered>
+    requires { All (S.knows squares.old) ids.old.items }
+    ensures { OnOk result (All (S.knows squares.new) ids.new.items) }
+{
+    match step.verb {
+        Verb::Make(make) => take_square(alloc, out, squares, ids, make, step),
+        Verb::Ask(question) => asked(out, squares, ids, question, step.numbers[0]),
+        Verb::Measure(measure) => measured(alloc, out, squares, ids, measure, step.numbers),
+        Verb::Find => found(out, squares, ids, step.numbers[0]),
+        Verb::Remember => remembered(alloc, out, ids),
+        Verb::Build => take_unfinished(alloc, out, squares, ids, step.runs),
+    }
 }
 
 /// Takes a step, and adds a space and its answer.
 fn take<S: Store>(
     alloc: Global,
-    out: &mut String,
+    out: &mut Answer,
     squares: &mut S,
     ids: &mut Vec<Id>,
     text: &[u8],
@@ -95,23 +112,18 @@ fn take<S: Store>(
     requires { All (S.knows squares.old) ids.old.items }
     ensures { OnOk result (All (S.knows squares.new) ids.new.items) }
 {
-    let mut words = Words { rest: text };
-    let call = words.word();
-    out.push_str(" ")?;
-    if makes(call) {
-        return take_square(alloc, out, squares, ids, call, &mut words);
+    out.text(" ");
+    let (word, rest) = split_word(text);
+    if word == b"refused".as_slice() {
+        return take_refused(alloc, out, squares, ids, &step_of(rest)?);
     }
-    match call {
-        b"refused" => take_refused(alloc, out, squares, ids, &mut words),
-        b"unfinished" => take_unfinished(alloc, out, squares, ids, &words),
-        _ => asked(alloc, out, squares, ids, call, &mut words),
-    }
+    take_step(alloc, out, squares, ids, &step_of(text)?)
 }
 
 /// Takes steps one after another.
 fn take_all<S: Store>(
     alloc: Global,
-    out: &mut String,
+    out: &mut Answer,
     squares: &mut S,
     ids: &mut Vec<Id>,
     steps: &[u8],
@@ -123,57 +135,118 @@ fn take_all<S: Store>(
         if rest.is_empty() {
             return Ok(());
         }
-        let (step, others) = first_of(rest, b';');
+        let (step, others) = first_of(rest, b";");
         take(alloc, out, squares, ids, step)?;
         rest = others;
     }
     Err(Unanswered::BadRow)
 }
 
-/// Adds the answers of the steps up to the first that is refused and the kind of its refusal, as often as the row says, on one store.
-fn take_times<S: Store + Drop>(
+/// Adds how many squares a store holds, and how many it may hold.
+fn show_nodes<S: Store>(out: &mut Answer, squares: &S) {
+    if let Some((nodes, limit)) = squares.nodes() {
+        out.text(", ");
+        out.number(u128::from(nodes));
+        out.text(" of ");
+        out.number(u128::from(limit));
+        out.text(" nodes");
+    }
+}
+
+/// Adds the answers of the steps up to the first that is refused and the kind of its refusal.
+fn take_row<S: Store>(
     alloc: Global,
-    out: &mut String,
-    store: S,
-    times: u8,
+    out: &mut Answer,
+    squares: &mut S,
+    ids: &mut Vec<Id>,
     steps: &[u8],
 ) -> Result<(), Unanswered> {
+    ids.clear();
+    match take_all(alloc, out, squares, ids, steps) {
+        Ok(()) => {}
+        Err(Unanswered::Refused(kind)) => out.text(kind.name()),
+        Err(why) => return Err(why),
+    }
+    show_nodes(out, squares);
+    Ok(())
+}
+
+/// Takes the steps of a row on one store, as often as the row says.
+fn take_times<S: Store + Drop>(
+    alloc: Global,
+    out: &mut Answer,
+    store: S,
+    row: &Row,
+) -> Result<(), Unanswered> {
     let mut squares = store;
-    let mut ids = Vec::with_capacity(alloc, STEPS)?;
-    for time in 0..times {
-        out.push_str(if time == 0 { "" } else { " /" })?;
-        ids.clear();
-        match take_all(alloc, out, &mut squares, &mut ids, steps) {
-            Ok(()) => {}
-            Err(Unanswered::Refused(kind)) => out.push_str(kind.name())?,
-            Err(why) => return Err(why),
-        }
-        if let Some((nodes, limit)) = squares.nodes() {
-            write!(out, ", {nodes} of {limit} nodes")?;
-        }
+    let Ok(mut ids) = Vec::with_capacity(alloc, STEPS) else {
+        return Err(Unanswered::NoMemory);
+    };
+    for time in 0..row.times {
+        out.text(if time == 0 { "" } else { " /" });
+        take_row(alloc, out, &mut squares, &mut ids, row.steps)?;
     }
     Ok(())
 }
 
-/// The answer of a row.
-pub(crate) fn answer_to(alloc: Global, row: &[u8]) -> Result<String, Unanswered> {
-    let (store, rest) = halves(row, b'|')?;
-    let (limit, rest) = halves(rest, b'|')?;
-    let (times, steps) = halves(rest, b'|')?;
-    let limit = number_of::<u64>(limit)?;
-    let times = number_of::<u8>(times)?;
-    if limit > MOST {
+/// What a row says.
+#[derive(Clone, Copy)]
+struct Row<'a> {
+    /// The kind of store, by its word.
+    store: &'a [u8],
+    limit: u64,
+    times: u8,
+    steps: &'a [u8],
+}
+
+/// The parts of a row.
+fn row_of(text: &[u8]) -> Result<Row<'_>, Unanswered>
+    ensures { IfOk result (λ row. row.limit ≤ 2 ^ 31) }
+{
+    let (store, rest) = first_of(text, b"|");
+    let (limit, rest) = first_of(rest, b"|");
+    let (times, steps) = first_of(rest, b"|");
+    let (Ok(limit), Ok(times)) = (
+        u64::try_from(number_of(limit)?),
+        u8::try_from(number_of(times)?),
+    ) else {
+        return Err(Unanswered::BadRow);
+    };
+    if limit > MOST || steps.is_empty() {
         return Err(Unanswered::BadRow);
     }
-    let mut out = String::with_capacity(alloc, BYTES)?;
-    match store {
-        b"new" => take_times(alloc, &mut out, Shared::new(alloc, limit), times, steps)?,
-        b"shared" => {
-            let store = Shared::seeded(alloc, Seed::fixed(), limit);
-            take_times(alloc, &mut out, store, times, steps)?;
-        }
-        b"plain" => take_times(alloc, &mut out, Plain::new(alloc, limit), times, steps)?,
-        _ => return Err(Unanswered::BadRow),
+    Ok(Row {
+        store,
+        limit,
+        times,
+        steps,
+    })
+}
+
+/// Takes a row on the store that it names.
+fn take_in_store(alloc: Global, out: &mut Answer, row: &Row) -> Result<(), Unanswered>
+    requires { row.now.limit ≤ 2 ^ 31 }
+{
+    if row.store == b"new".as_slice() {
+        take_times(alloc, out, Shared::new(alloc, row.limit), row)
+    } else if row.store == b"shared".as_slice() {
+        take_times(
+            alloc,
+            out,
+            Shared::seeded(alloc, Seed::fixed(), row.limit),
+            row,
+        )
+    } else if row.store == b"plain".as_slice() {
+        take_times(alloc, out, Plain::new(alloc, row.limit), row)
+    } else {
+        Err(Unanswered::BadRow)
     }
-    Ok(out)
+}
+
+/// The answer of a row.
+pub(crate) fn answer_to(alloc: Global, text: &[u8]) -> Result<String, Unanswered> {
+    let row = row_of(text)?;
+    let mut out = Answer::new(alloc)?;
+    take_in_store(alloc, &mut out, &row)?;
+    out.whole()
 }
