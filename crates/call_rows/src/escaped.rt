@@ -22,18 +22,21 @@ enum Escape {
 }
 
 /// The value of a hexadecimal digit.
-fn digit_of(byte: u8) -> Option<u8> {
+fn digit_of(byte: u8) -> Result<u8, Unanswered> {
     match byte {
-        b'0'..=b'9' => Some(byte - b'0'),
-        b'a'..=b'f' => Some(byte - b'a' + 10),
-        _ => None,
+        b'0'..=b'9' => Ok(byte - b'0'),
+        b'a'..=b'f' => Ok(byte - b'a' + 10),
+        _ => Err(Unanswered::BadEscape),
     }
 }
 
-/// The number with one more digit at its end, up to the most.
-fn with_digit(number: u32, digit: u8) -> Option<u32> {
+/// What was read after one more digit of a number, up to the most.
+fn with_digit(number: u32, digit: u8) -> Result<Escape, Unanswered> {
     let number = number.saturating_mul(10).saturating_add(u32::from(digit));
-    if number > MOST { None } else { Some(number) }
+    if number > MOST {
+        return Err(Unanswered::BadEscape);
+    }
+    Ok(Escape::Number(number))
 }
 
 /// Bytes that are read one after another.
@@ -49,7 +52,9 @@ impl Bytes {
     /// Adds a byte, as often as was said before it.
     fn put(&mut self, byte: u8) -> Result<Escape, Unanswered> {
         for _ in 0..self.times {
-            self.read.push(byte)?;
+            if self.read.push(byte).is_err() {
+                return Err(Unanswered::NoMemory);
+            }
         }
         self.times = 1;
         Ok(Escape::Between)
@@ -70,9 +75,7 @@ impl Bytes {
     /// Takes a byte after a backslash and a number.
     fn take_number(&mut self, number: u32, byte: u8) -> Result<Escape, Unanswered> {
         match byte {
-            b'0'..=b'9' => Ok(Escape::Number(with_digit(number, byte - b'0').ok_or(
-                Unanswered::BadEscape,
-            )?)),
+            b'0'..=b'9' => with_digit(number, byte - b'0'),
             b'*' => {
                 self.times = number;
                 Ok(Escape::Between)
@@ -88,11 +91,9 @@ impl Bytes {
             Escape::Between if byte == b';' => self.put(b'\n'),
             Escape::Between => self.put(byte),
             Escape::Backslash => self.take_escape(byte),
-            Escape::Hexadecimal => Ok(Escape::HighDigit(digit_of(byte).ok_or(
-                Unanswered::BadEscape,
-            )?)),
+            Escape::Hexadecimal => Ok(Escape::HighDigit(digit_of(byte)?)),
             Escape::HighDigit(high) => {
-                let low = digit_of(byte).ok_or(Unanswered::BadEscape)?;
+                let low = digit_of(byte)?;
                 self.put((high << 4) | low)
             }
             Escape::Number(number) => self.take_number(number, byte),
@@ -102,8 +103,11 @@ impl Bytes {
 
 /// The bytes that a text writes.
 pub(crate) fn bytes_of(alloc: Global, text: &[u8]) -> Result<Vec<u8>, Unanswered> {
+    let Ok(read) = Vec::with_capacity(alloc, text.len()) else {
+        return Err(Unanswered::NoMemory);
+    };
     let mut bytes = Bytes {
-        read: Vec::with_capacity(alloc, text.len())?,
+        read,
         state: Escape::Between,
         times: 1,
     };

@@ -1,62 +1,123 @@
 //! Calls that are lent a store: in a new one, several on one, and at each limit of one.
 
-ghost use Rattle.std.specs.Prelude.{◌≤◌, ◌^◌};
+ghost use Rattle.std.specs.Prelude.{◌≤◌, ◌^◌, IfOk};
 
-use crate::answer::Unanswered;
-use crate::row::{call_of, halves, number_of};
-use crate::shown::{ROOM, show_bool, show_text};
+use crate::answer::{Answer, Unanswered};
+use crate::calls::{Call, call_named};
+use crate::row::{halves, number_of, parts_of, split_at};
+use crate::shown::show_text;
 use crate::{canon as files, forms, pieces, step};
-use life_base::Kind;
+use life_base::{Fault, Kind};
 use life_canon::{canon, show, to_rle};
 use life_quad::{Seed, Shared};
 use std::alloc::Global;
 
-/// Adds what a call answers that is lent a store.
-fn answer_in(
-    alloc: Global,
-    out: &mut String,
-    store: &mut Shared,
-    call: &str,
-    input: &[u8],
-) -> Result<(), Unanswered> {
+/// More squares than a store may hold in these tests.
+const ROOM: u64 = 1 << 31;
+
+/// A new store, for more squares than it may hold in these tests.
+pub(crate) fn new_store(alloc: Global) -> Shared {
+    Shared::seeded(alloc, Seed::fixed(), ROOM)
+}
+
+/// A call that makes a text of a file.
+#[derive(Clone, Copy)]
+pub(crate) enum Text {
+    Canon,
+    Show,
+    ToRle,
+    Run,
+    RunByBytes,
+    Moved,
+    Turned,
+}
+
+/// The text that a call makes of a file.
+fn text_by(alloc: Global, store: &mut Shared, call: Text, file: &[u8]) -> Result<Vec<u8>, Fault> {
     match call {
-        "canon" => show_text(out, canon(alloc, store, input)),
-        "show" => show_text(out, show(alloc, store, input)),
-        "to_rle" => show_text(out, to_rle(alloc, store, input)),
-        "run" => show_text(out, pieces::text_run(alloc, store, input)),
-        "read" => files::numbered(alloc, out, store, input),
-        "feed" => files::fed(alloc, out, store, input),
-        "is_same" => files::are_same(alloc, out, store, input),
-        "moved" => show_text(out, forms::moved_text(alloc, store, input)),
-        "turned" => show_text(out, forms::turned_text_of(alloc, store, input)),
-        "step_life" => step::by_rule(alloc, out, store, input),
-        "step_table" => step::by_table(alloc, out, store, input),
-        _ => Err(Unanswered::NoCall),
+        Text::Canon => canon(alloc, store, file),
+        Text::Show => show(alloc, store, file),
+        Text::ToRle => to_rle(alloc, store, file),
+        Text::Run => pieces::text_run(alloc, store, file),
+        Text::RunByBytes => pieces::text_run(alloc, store, pieces::Dripping { left: file }),
+        Text::Moved => forms::moved_text(alloc, store, file),
+        Text::Turned => forms::turned_text_of(alloc, store, file),
     }
 }
 
-/// Adds what a call answers in a new store.
-pub(crate) fn in_new_store(
-    alloc: Global,
-    out: &mut String,
-    call: &str,
-    input: &[u8],
-) -> Result<(), Unanswered> {
-    let mut store = Shared::seeded(alloc, Seed::fixed(), ROOM);
-    answer_in(alloc, out, &mut store, call, input)
+/// A call on a file that always has an answer.
+#[derive(Clone, Copy)]
+pub(crate) enum File {
+    Text(Text),
+    Read,
+    Feed,
+    Refused,
+    ReadFrom,
 }
 
-/// Adds the answer of a part, or `Memory`.
+/// Adds what a call answers to a file.
+fn answer_to_file(alloc: Global, out: &mut Answer, store: &mut Shared, call: File, file: &[u8]) {
+    match call {
+        File::Text(text) => show_text(out, text_by(alloc, store, text, file)),
+        File::Read => files::numbered(alloc, out, store, file),
+        File::Feed => files::fed(alloc, out, store, file),
+        File::Refused => files::refused(alloc, out, store, file),
+        File::ReadFrom => pieces::from_source(alloc, out, store, file),
+    }
+}
+
+/// A call that is lent a store.
+#[derive(Clone, Copy)]
+pub(crate) enum Lent {
+    File(File),
+    IsSame,
+    Compared,
+    TwoPieces,
+    EachPiece,
+    RunWithin,
+    StepLife,
+    StepTable,
+    NextByRule,
+    NextByTable,
+}
+
+/// Adds what a call answers that is lent a store.
+fn answer_in(
+    alloc: Global,
+    out: &mut Answer,
+    store: &mut Shared,
+    call: Lent,
+    input: &[u8],
+) -> Result<(), Unanswered> {
+    match call {
+        Lent::File(call) => answer_to_file(alloc, out, store, call, input),
+        Lent::IsSame => return files::are_same(alloc, out, store, input),
+        Lent::Compared => return files::compared(alloc, out, store, input),
+        Lent::TwoPieces => return pieces::two(alloc, out, store, input),
+        Lent::EachPiece => return pieces::each(alloc, out, store, input),
+        Lent::RunWithin => return pieces::within(alloc, out, store, input),
+        Lent::StepLife => return step::by_rule(alloc, out, store, input),
+        Lent::StepTable => return step::by_table(alloc, out, store, input),
+        Lent::NextByRule => return step::next_of_pattern(alloc, out, store, input),
+        Lent::NextByTable => return step::next_of_pattern_by_table(alloc, out, store, input),
+    }
+    Ok(())
+}
+
+/// Adds the answer of a part, or `Memory`. It is a call that is lent a store, `|` and an input.
 fn take_part(
     alloc: Global,
-    out: &mut String,
+    out: &mut Answer,
     store: &mut Shared,
     part: &[u8],
 ) -> Result<(), Unanswered> {
-    let (call, input) = call_of(part)?;
+    let (name, input) = halves(part)?;
+    let Call::Lent(call) = call_named(name)? else {
+        return Err(Unanswered::NoCall);
+    };
     match answer_in(alloc, out, store, call, input) {
-        Err(Unanswered::Refused(Kind::Memory)) => out.push_str("Memory")?,
-        answer => answer?,
+        Err(Unanswered::Refused(Kind::Memory)) => out.text("Memory"),
+        answer => return answer,
     }
     Ok(())
 }
@@ -64,26 +125,28 @@ fn take_part(
 /// Adds the answers of parts, which have `&` between each two.
 fn take_parts(
     alloc: Global,
-    out: &mut String,
+    out: &mut Answer,
     store: &mut Shared,
     parts: &[u8],
 ) -> Result<(), Unanswered> {
-    for part in parts.split(|byte| *byte == b'&') {
+    for part in parts_of(alloc, parts, b'&')?.as_slice() {
         take_part(alloc, out, store, part)?;
-        out.push_str(" & ")?;
+        out.text(" & ");
     }
     Ok(())
 }
 
 /// Adds whether a store is full.
-fn show_full(out: &mut String, store: &Shared) -> Result<(), Unanswered> {
-    let is_full = store.len() == store.limit();
-    out.push_str(if is_full { "full" } else { "not full" })?;
-    Ok(())
+fn show_full(out: &mut Answer, store: &Shared) {
+    out.text(if store.len() == store.limit() {
+        "full"
+    } else {
+        "not full"
+    });
 }
 
 /// Calls on one store of a limit, so many times: their answers, and whether the store is full then.
-pub(crate) fn in_store(alloc: Global, out: &mut String, input: &[u8]) -> Result<(), Unanswered> {
+fn in_store(alloc: Global, out: &mut Answer, input: &[u8]) -> Result<(), Unanswered> {
     let (limit, rest) = halves(input)?;
     let (times, parts) = halves(rest)?;
     let limit = number_of::<u64>(limit)?;
@@ -94,31 +157,39 @@ pub(crate) fn in_store(alloc: Global, out: &mut String, input: &[u8]) -> Result<
     for _ in 0..number_of::<u8>(times)? {
         take_parts(alloc, out, &mut store, parts)?;
     }
-    show_full(out, &store)
+    show_full(out, &store);
+    Ok(())
+}
+
+/// A part, and what comes after its `&`.
+fn first_part(parts: &[u8]) -> Result<(&[u8], &[u8]), Unanswered> {
+    match split_at(parts, b'&') {
+        Some(halves) => Ok(halves),
+        None => Err(Unanswered::BadInput),
+    }
 }
 
 /// How many squares a store holds after a call.
-fn room_of(alloc: Global, part: &[u8]) -> Result<u64, Unanswered> {
-    let mut store = Shared::seeded(alloc, Seed::fixed(), ROOM);
-    take_part(alloc, &mut String::new(alloc), &mut store, part)?;
+fn room_of(alloc: Global, part: &[u8]) -> Result<u64, Unanswered>
+    ensures { IfOk result (λ room. room ≤ 2 ^ 31) }
+{
+    let mut store = new_store(alloc);
+    take_part(
+        alloc,
+        &mut Answer::with_capacity(alloc, 0)?,
+        &mut store,
+        part,
+    )?;
     Ok(store.len().min(ROOM))
 }
 
 /// Calls on a store that the first of them fills: its answer, whether the store is full then, and the answers of the others.
-pub(crate) fn in_full_store(
-    alloc: Global,
-    out: &mut String,
-    parts: &[u8],
-) -> Result<(), Unanswered> {
-    let Some(end) = parts.iter().position(|byte| *byte == b'&') else {
-        return Err(Unanswered::BadInput);
-    };
-    let (first, others) = (&parts[..end], &parts[end + 1..]);
-    let limit = room_of(alloc, first)?.min(ROOM);
-    let mut store = Shared::seeded(alloc, Seed::fixed(), limit);
+fn in_full_store(alloc: Global, out: &mut Answer, parts: &[u8]) -> Result<(), Unanswered> {
+    let (first, others) = first_part(parts)?;
+    let mut store = Shared::seeded(alloc, Seed::fixed(), room_of(alloc, first)?);
     take_parts(alloc, out, &mut store, first)?;
-    show_full(out, &store)?;
-    out.push_str(" & ")?;
+    show_full(out, &store);
+    out.text(" & ");
     take_parts(alloc, out, &mut store, others)
 }
 
@@ -130,9 +201,9 @@ fn answer_at(alloc: Global, part: &[u8], limit: u64) -> Result<(String, u64), Un
     requires { limit ≤ 2 ^ 31 }
 {
     let mut store = Shared::seeded(alloc, Seed::fixed(), limit);
-    let mut out = String::new(alloc);
+    let mut out = Answer::with_capacity(alloc, 0)?;
     take_part(alloc, &mut out, &mut store, part)?;
-    Ok((out, store.len()))
+    Ok((out.whole()?, store.len()))
 }
 
 /// Whether a part has this answer in a store of a limit, or is refused by a store that is full then; nothing where neither holds.
@@ -164,40 +235,85 @@ fn first_limit(alloc: Global, part: &[u8], wanted: &str) -> Result<u64, Unanswer
             _ => return Err(Unanswered::BadInput),
         }
     }
-    first.ok_or(Unanswered::BadInput)
+    match first {
+        Some(first) => Ok(first),
+        None => Err(Unanswered::BadInput),
+    }
+}
+
+/// The first limit that suffices for a part, and the part's answer.
+fn limit_of(alloc: Global, part: &[u8]) -> Result<(u64, String), Unanswered>
+    ensures { IfOk result (λ found. found.0 ≤ 2 ^ 31) }
+{
+    let (answer, _) = answer_at(alloc, part, ROOM)?;
+    let first = first_limit(alloc, part, answer.as_str())?;
+    Ok((first.min(ROOM), answer))
 }
 
 /// The first limit that suffices for a part, and its answer.
-pub(crate) fn least_limit(alloc: Global, out: &mut String, part: &[u8]) -> Result<(), Unanswered> {
-    let (answer, _) = answer_at(alloc, part, ROOM)?;
-    let first = first_limit(alloc, part, answer.as_str())?;
-    write!(out, "{first} {}", answer.as_str())?;
+fn least_limit(alloc: Global, out: &mut Answer, part: &[u8]) -> Result<(), Unanswered> {
+    let (first, answer) = limit_of(alloc, part)?;
+    out.number(first);
+    out.text(" ");
+    out.text(answer.as_str());
     Ok(())
 }
 
 /// Whether the first limit that suffices for a part is above 0, and the part's answer.
-pub(crate) fn takes_room(alloc: Global, out: &mut String, part: &[u8]) -> Result<(), Unanswered> {
-    let (answer, _) = answer_at(alloc, part, ROOM)?;
-    let first = first_limit(alloc, part, answer.as_str())?;
-    show_bool(out, first > 0)?;
-    write!(out, " {}", answer.as_str())?;
+fn takes_room(alloc: Global, out: &mut Answer, part: &[u8]) -> Result<(), Unanswered> {
+    let (first, answer) = limit_of(alloc, part)?;
+    out.flag(first > 0);
+    out.text(" ");
+    out.text(answer.as_str());
     Ok(())
 }
 
 /// A part in the store that just suffices for it, whether that is full then, the part again, another one, which no longer fits, and the first again.
-pub(crate) fn serves(alloc: Global, out: &mut String, input: &[u8]) -> Result<(), Unanswered> {
-    let Some(end) = input.iter().position(|byte| *byte == b'&') else {
-        return Err(Unanswered::BadInput);
-    };
-    let (part, other) = (&input[..end], &input[end + 1..]);
-    let (answer, _) = answer_at(alloc, part, ROOM)?;
-    let limit = first_limit(alloc, part, answer.as_str())?.min(ROOM);
+fn serves(alloc: Global, out: &mut Answer, input: &[u8]) -> Result<(), Unanswered> {
+    let (part, other) = first_part(input)?;
+    let (limit, _) = limit_of(alloc, part)?;
     let mut store = Shared::seeded(alloc, Seed::fixed(), limit);
     take_parts(alloc, out, &mut store, part)?;
-    show_full(out, &store)?;
+    show_full(out, &store);
     for part in [part, other, part] {
-        out.push_str(" & ")?;
+        out.text(" & ");
         take_part(alloc, out, &mut store, part)?;
     }
     Ok(())
+}
+
+/// A call of other calls, which are lent stores.
+#[derive(Clone, Copy)]
+pub(crate) enum Lending {
+    InStore,
+    InFullStore,
+    LeastLimit,
+    TakesRoom,
+    Serves,
+}
+
+/// Adds what a call of other calls answers.
+pub(crate) fn answer_by_parts(
+    alloc: Global,
+    out: &mut Answer,
+    call: Lending,
+    input: &[u8],
+) -> Result<(), Unanswered> {
+    match call {
+        Lending::InStore => in_store(alloc, out, input),
+        Lending::InFullStore => in_full_store(alloc, out, input),
+        Lending::LeastLimit => least_limit(alloc, out, input),
+        Lending::TakesRoom => takes_room(alloc, out, input),
+        Lending::Serves => serves(alloc, out, input),
+    }
+}
+
+/// Adds what a call answers in a new store.
+pub(crate) fn in_new_store(
+    alloc: Global,
+    out: &mut Answer,
+    call: Lent,
+    input: &[u8],
+) -> Result<(), Unanswered> {
+    answer_in(alloc, out, &mut new_store(alloc), call, input)
 }

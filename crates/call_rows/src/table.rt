@@ -2,108 +2,114 @@
 
 ghost use Rattle.std.specs.Prelude.{◌<◌, All, IsTrue};
 
-use crate::answer::Unanswered;
-use crate::row::{halves, number_of};
-use crate::shown::{Show, show_bytes, show_each, show_fault};
+use crate::answer::{Answer, Unanswered};
+use crate::row::{halves, number_of, parts_of};
+use crate::shown::{Show, show_each};
 use life_base::{Fault, State};
 use life_table::{
-    Entry, NameSeed, Neighborhood, Neighbours, Table, Transition, Var, read_table_seeded,
+    Entry, NameSeed, Neighborhood, Neighbours, Symmetry, Table, Transition, Var, read_table_seeded,
 };
 use std::alloc::Global;
 
-/// `read` of a table, or the line and the kind of a fault.
-pub(crate) fn refusal(alloc: Global, out: &mut String, input: &[u8]) -> Result<(), Unanswered> {
-    match read_table_seeded(alloc, NameSeed::fixed(), input) {
-        Ok(_) => out.push_str("read")?,
-        Err(fault) => show_fault(out, &fault)?,
+/// The table that a text is.
+pub(crate) fn table_of(alloc: Global, text: &[u8]) -> Result<Table, Fault> {
+    read_table_seeded(alloc, NameSeed::fixed(), text)
+}
+
+/// The name of a neighbourhood.
+fn name_of_neighborhood(neighborhood: Neighborhood) -> &'static str {
+    match neighborhood {
+        Neighborhood::VonNeumann => "VonNeumann",
+        Neighborhood::Moore => "Moore",
     }
-    Ok(())
+}
+
+/// The name of a symmetry.
+fn name_of_symmetry(symmetry: Symmetry) -> &'static str {
+    match symmetry {
+        Symmetry::Identity => "Identity",
+        Symmetry::Rotate4 => "Rotate4",
+        Symmetry::Rotate4Reflect => "Rotate4Reflect",
+        Symmetry::ReflectHorizontal => "ReflectHorizontal",
+        Symmetry::Permute => "Permute",
+        Symmetry::Rotate8 => "Rotate8",
+        Symmetry::Rotate8Reflect => "Rotate8Reflect",
+    }
 }
 
 /// Adds the name, the number of states, the neighbours and the symmetry of a table.
-fn show_settings(out: &mut String, table: &Table) -> Result<(), Unanswered> {
-    show_bytes(out, table.name.bytes())?;
-    write!(
-        out,
-        " {} {:?} {:?}",
-        table.n_states, table.neighborhood, table.symmetry
-    )?;
-    Ok(())
+fn show_settings(out: &mut Answer, table: &Table) {
+    out.bytes(table.name.bytes());
+    out.text(" ");
+    out.number(u64::from(table.n_states));
+    out.text(" ");
+    out.text(name_of_neighborhood(table.neighborhood));
+    out.text(" ");
+    out.text(name_of_symmetry(table.symmetry));
 }
 
-/// The settings of a table and how many variables and transitions it has; or the line and the kind of a fault.
-pub(crate) fn counts(alloc: Global, out: &mut String, input: &[u8]) -> Result<(), Unanswered> {
-    match read_table_seeded(alloc, NameSeed::fixed(), input) {
-        Ok(table) => {
-            show_settings(out, &table)?;
-            let variables = table.vars.as_slice().len();
-            let transitions = table.lines.as_slice().len();
-            write!(out, " {variables} {transitions}")?;
-        }
-        Err(fault) => show_fault(out, &fault)?,
-    }
-    Ok(())
+/// Adds the settings of a table, and how many variables and transitions it has.
+fn show_counts(out: &mut Answer, table: &Table) {
+    show_settings(out, table);
+    out.text(" ");
+    out.number(table.vars.as_slice().len() as u64);
+    out.text(" ");
+    out.number(table.lines.as_slice().len() as u64);
 }
 
 impl Show for Var {
     /// The name and the four words of the states.
-    fn show(&self, out: &mut String) -> Result<(), Unanswered> {
-        show_bytes(out, self.name.as_slice())?;
-        let [a, b, c, d] = self.states;
-        write!(out, "={a},{b},{c},{d}")?;
-        Ok(())
+    fn show(&self, out: &mut Answer) {
+        out.bytes(self.name.as_slice());
+        let mut mark = "=";
+        for word in self.states {
+            out.text(mark);
+            out.number(word);
+            mark = ",";
+        }
     }
 }
 
 /// Adds a state, or `v` and the number of a variable.
-fn show_entry(out: &mut String, entry: Entry) -> Result<(), Unanswered> {
+fn show_entry(out: &mut Answer, entry: Entry) {
     match entry {
-        Entry::Fixed(state) => write!(out, "{state}")?,
-        Entry::Var(number) => write!(out, "v{number}")?,
+        Entry::Fixed(state) => out.number(u64::from(state)),
+        Entry::Var(number) => {
+            out.text("v");
+            out.number(u64::from(number));
+        }
     }
-    Ok(())
 }
 
 impl Show for Transition {
     /// The line and the entries.
-    fn show(&self, out: &mut String) -> Result<(), Unanswered> {
-        write!(out, "{}:", self.line)?;
+    fn show(&self, out: &mut Answer) {
+        out.number(self.line);
+        out.text(":");
         for entry in self.inputs.as_slice() {
-            show_entry(out, *entry)?;
-            out.push_str(",")?;
+            show_entry(out, *entry);
+            out.text(",");
         }
-        show_entry(out, self.output)
+        show_entry(out, self.output);
     }
 }
 
 /// Adds the settings, the variables and the transitions of a table.
-fn show_table(out: &mut String, table: &Table) -> Result<(), Unanswered> {
-    show_settings(out, table)?;
-    show_each(out, table.vars.as_slice())?;
-    show_each(out, table.lines.as_slice())
+fn show_table(out: &mut Answer, table: &Table) {
+    show_settings(out, table);
+    show_each(out, table.vars.as_slice());
+    show_each(out, table.lines.as_slice());
 }
 
-/// The settings, the variables and the transitions of a table; or the line and the kind of a fault.
-pub(crate) fn whole(alloc: Global, out: &mut String, input: &[u8]) -> Result<(), Unanswered> {
-    match read_table_seeded(alloc, NameSeed::fixed(), input) {
-        Ok(table) => show_table(out, &table),
-        Err(fault) => show_fault(out, &fault),
-    }
-}
-
-/// The cell and its four or eight neighbours that a text writes.
-fn around_of(alloc: Global, text: &[u8]) -> Result<Neighbours, Unanswered> {
+/// The states that a text writes.
+fn states_of(alloc: Global, text: &[u8]) -> Result<Vec<State>, Unanswered> {
     let mut states = Vec::new(alloc);
-    for word in text.split(|byte| *byte == b',') {
-        states.push(number_of::<State>(word)?)?;
+    for word in parts_of(alloc, text, b',')?.as_slice() {
+        if states.push(number_of::<State>(word)?).is_err() {
+            return Err(Unanswered::NoMemory);
+        }
     }
-    match states.as_slice() {
-        [c, n, e, s, w] => Ok(Neighbours::Four([*c, *n, *e, *s, *w])),
-        [c, n, ne, e, se, s, sw, w, nw] => Ok(Neighbours::Eight([
-            *c, *n, *ne, *e, *se, *s, *sw, *w, *nw,
-        ])),
-        _ => Err(Unanswered::BadInput),
-    }
+    Ok(states)
 }
 
 /// Whether each of these states is one of the table's.
@@ -113,7 +119,7 @@ fn has_states(table: &Table, cells: &[State]) -> bool
     cells.iter().all(|state| u16::from(*state) < table.n_states)
 }
 
-/// What a table makes of a cell and its four neighbours; nothing, if they are none of the table.
+/// What a table makes of a cell and its four neighbours.
 fn decided_by_four(table: &Table, cells: [State; 5]) -> Option<Result<State, Fault>> {
     if table.neighborhood != Neighborhood::VonNeumann || !has_states(table, &cells) {
         return None;
@@ -121,7 +127,7 @@ fn decided_by_four(table: &Table, cells: [State; 5]) -> Option<Result<State, Fau
     Some(table.next(&Neighbours::Four(cells)))
 }
 
-/// What a table makes of a cell and its eight neighbours; nothing, if they are none of the table.
+/// What a table makes of a cell and its eight neighbours.
 fn decided_by_eight(table: &Table, cells: [State; 9]) -> Option<Result<State, Fault>> {
     if table.neighborhood != Neighborhood::Moore || !has_states(table, &cells) {
         return None;
@@ -129,22 +135,79 @@ fn decided_by_eight(table: &Table, cells: [State; 9]) -> Option<Result<State, Fa
     Some(table.next(&Neighbours::Eight(cells)))
 }
 
-/// The state that a table makes of a cell and its neighbours; or the line and the kind of a fault.
-pub(crate) fn next(alloc: Global, out: &mut String, input: &[u8]) -> Result<(), Unanswered> {
-    let (states, text) = halves(input)?;
-    let around = around_of(alloc, states)?;
-    let table = match read_table_seeded(alloc, NameSeed::fixed(), text) {
-        Ok(table) => table,
-        Err(fault) => return show_fault(out, &fault),
-    };
-    let decided = match around {
-        Neighbours::Four(cells) => decided_by_four(&table, cells),
-        Neighbours::Eight(cells) => decided_by_eight(&table, cells),
-    };
-    match decided {
-        Some(Ok(state)) => write!(out, "{state}")?,
-        Some(Err(fault)) => show_fault(out, &fault)?,
+/// What a table makes of a cell and its neighbours; nothing, if they are none of the table.
+fn decided(table: &Table, states: &[State]) -> Option<Result<State, Fault>> {
+    match states {
+        &[c, n, e, s, w] => decided_by_four(table, [c, n, e, s, w]),
+        &[c, n, ne, e, se, s, sw, w, nw] => {
+            decided_by_eight(table, [c, n, ne, e, se, s, sw, w, nw])
+        }
+        _ => None,
+    }
+}
+
+/// Adds the state that a table makes of a cell and its neighbours; or the line and the kind of a fault.
+fn show_next(out: &mut Answer, table: &Table, states: &[State]) -> Result<(), Unanswered> {
+    match decided(table, states) {
+        Some(Ok(state)) => out.number(u64::from(state)),
+        Some(Err(fault)) => out.fault(&fault),
         None => return Err(Unanswered::BadInput),
+    }
+    Ok(())
+}
+
+/// The state that a table makes of a cell and its neighbours; or the line and the kind of a fault.
+fn next(alloc: Global, out: &mut Answer, input: &[u8]) -> Result<(), Unanswered> {
+    let (states, text) = halves(input)?;
+    let states = states_of(alloc, states)?;
+    match table_of(alloc, text) {
+        Ok(table) => return show_next(out, &table, &states),
+        Err(fault) => out.fault(&fault),
+    }
+    Ok(())
+}
+
+/// What is reported of a table.
+#[derive(Clone, Copy)]
+pub(crate) enum Report {
+    /// That it is read.
+    Read,
+    /// Its settings and how many variables and transitions it has.
+    Counts,
+    /// Its settings, its variables and its transitions.
+    Whole,
+}
+
+/// What is reported of a table; or the line and the kind of a fault.
+fn reported(alloc: Global, out: &mut Answer, report: Report, input: &[u8]) {
+    let table = match table_of(alloc, input) {
+        Ok(table) => table,
+        Err(fault) => return out.fault(&fault),
+    };
+    match report {
+        Report::Read => out.text("read"),
+        Report::Counts => show_counts(out, &table),
+        Report::Whole => show_table(out, &table),
+    }
+}
+
+/// A call.
+#[derive(Clone, Copy)]
+pub(crate) enum Call {
+    Report(Report),
+    Next,
+}
+
+/// Adds what a call answers to an input.
+pub(crate) fn answer(
+    alloc: Global,
+    out: &mut Answer,
+    call: Call,
+    input: &[u8],
+) -> Result<(), Unanswered> {
+    match call {
+        Call::Report(report) => reported(alloc, out, report, input),
+        Call::Next => return next(alloc, out, input),
     }
     Ok(())
 }
