@@ -1,24 +1,23 @@
 //! Worked files, with the answers that the formats give. More of them are given to the built program, by `tests/program/tasks.py`.
 
-mod canon;
 mod devices;
 mod duplicates;
 mod failures;
-mod forms;
 mod keys;
-mod pieces;
 mod plans;
-mod refusals;
-mod steps;
 mod streams;
-mod texts;
+mod tasks;
 
-use forms::{MOVED_GLIDER, TURNED_GLIDER};
 use life_cli::plans::{Form, Target, Task};
-use steps::{NEXT_LINE, SEED, SPREAD, SPREAD_TEXT};
 
 /// A glider: the rows about the middle of a leaf.
 const GLIDER: &[u8] = b"[M2]\n#R B3/S23\n#C a glider\n$$..*$...*$.***$$$$\n";
+
+/// A glider whose bounding box begins at (0, 0).
+const MOVED_GLIDER: &[u8] = b"[M2] (canonical 1)\n#R B3/S23\n$$$$.....*$......*$....***$$\n";
+
+/// The image of a glider whose moved text is least.
+const TURNED_GLIDER: &[u8] = b"[M2] (canonical 1)\n#R B3/S23\n$$$$....*$....*.*$....**$$\n";
 
 /// A glider to the south and east of the origin, and the five lines on it.
 const EAST_GLIDER: &[u8] = b"x = 3, y = 3, rule = B3/S23\nbo$2bo$3o!\n";
@@ -38,6 +37,19 @@ const TWINS_RUNS: &[u8] = b"#CXRLE Pos=-4,0\nx = 9, y = 1, rule = B3/S23\no7bo!\
 
 /// Three cells in a row.
 const LINE: &[u8] = b"x = 3, y = 1, rule = B3/S23\n3o!\n";
+
+/// The next generation of `LINE`.
+const NEXT_LINE: &[u8] = b"[M2] (canonical 1)\n#R B3/S23\n#G 1\n$$$.....*$.....*$.....*$$$\n";
+
+/// A state spreads to cells that have one cell of it beside them.
+const SPREAD: &[u8] =
+    b"@RULE Spread\n@TABLE\nn_states:3\nneighborhood:vonNeumann\nsymmetries:rotate4\nvar a={1,2}\n0,a,0,0,0,a\n";
+
+/// A cell of state 2, and the text of the next generation by the table `SPREAD`.
+const SEED: &[u8] = b"x = 1, y = 1, rule = Spread\nB!\n";
+
+const SPREAD_TEXT: &[u8] =
+    b"[M2] (canonical 1)\n#R Spread\n#G 1\n1 0 0 2 0\n1 0 2 0 0\n1 2 2 2 0\n2 0 1 2 3\n";
 
 const WIRES: &[u8] = b"#CXRLE Pos=-1,-1 Gen=7\nx = 2, y = 1, rule = WireWorld\nApA!\n";
 

@@ -1,14 +1,13 @@
 //! Readers, writers and devices that fail, and what a task leaves in them.
 
-ghost use Rattle.std.specs.Prelude.{◌≡◌, ◌≤◌, ◌↔◌, Some, IsSome, IfSome, true, false};
+ghost use Rattle.std.specs.Prelude.{◌≡◌, ◌≤◌, ◌↔◌, Some, IsSome, IfSome, IsTrue, true, false};
 ghost use Rattle.std.proofs.Common.{rules};
 ghost use Rattle.life_base.specs.DeviceState.{has_failed};
 ghost use Rattle.life_base.specs.Devices.{count_of};
 ghost use Rattle.life_cli.specs.Plans.{HasSecond};
 
-use super::TASKS;
 use life_base::{Device, Kind, Sink, Source};
-use life_cli::plans::{Form, Task};
+use life_cli::plans::Task;
 use life_cli::{Seeds, work_seeded};
 use std::alloc::Global;
 use std::io::{self, Read, Write};
@@ -132,12 +131,6 @@ impl Sink for Limited {
     }
 }
 
-/// Space for every text that a test writes, in pieces of seven bytes.
-pub(super) const WIDE: (usize, usize) = (9999, 7);
-
-/// What a task leaves whose source fails: that is reported, and nothing is written.
-pub(super) const READ_FAULT: (u8, &[u8], &[u8]) = (3, b"", b"ReadFault\n");
-
 /// A sink for `room` bytes that takes `piece` bytes at a time.
 pub(super) fn sink_with(alloc: Global, room: usize, piece: usize) -> Limited
     ensures failed { result.failed ≡ false }
@@ -165,104 +158,120 @@ pub(super) fn assert_left(
     assert!(rt; !out.failed || status == 3);
 }
 
-/// The status of a task, and what standard error took, which has space for `heard.0` bytes and takes `heard.1` at a time.
-pub(super) fn told<A: Source, B: Source, O: Sink>(
-    alloc: Global,
-    task: &Task,
-    first: &mut A,
-    second: &mut Option<B>,
-    out: &mut O,
-    heard: (usize, usize),
-) -> (u8, Limited)
-    requires first_reads { A.failures first.old ≡ 0 }
-    requires second_reads { IfSome second.old (λ b. B.failures b ≡ 0) }
-    requires second_given { IsSome second.old ↔ HasSecond task.now }
-    requires writes { O.failures out.old ≡ 0 }
-    requires takes { O.stalled out.old ≡ false }
-{
-    let seeds = Seeds::fixed();
-    let mut err = sink_with(alloc, heard.0, heard.1);
-    let status = work_seeded(alloc, &seeds, task, first, second, out, &mut err);
-    (status, err)
+/// A file whose bytes come `piece` at a time, and whose reads fail after `good` ones.
+#[derive(Clone, Copy)]
+pub(super) struct Input<'a> {
+    pub(super) bytes: &'a [u8],
+    pub(super) piece: usize,
+    pub(super) good: usize,
 }
 
-/// A task, where standard output has space for `sink.0` bytes and takes `sink.1` at a time, leaves this: its status, what standard output took, and
-/// what standard error took.
-pub(super) fn assert_task<A: Source, B: Source + Drop>(
-    rt: &impl Abort,
-    alloc: Global,
-    task: &Task,
-    first: &mut A,
-    second: Option<B>,
-    sink: (usize, usize),
-    wanted: (u8, &[u8], &[u8]),
-)
-    requires first_reads { A.failures first.old ≡ 0 }
-    requires second_reads { IfSome second (λ b. B.failures b ≡ 0) }
-    requires second_given { IsSome second ↔ HasSecond task.now }
-{
-    let mut second = second;
-    let mut out = sink_with(alloc, sink.0, sink.1);
-    let (status, err) = told(alloc, task, first, &mut second, &mut out, (99, 3));
-    assert_left(rt, (status, out, err), wanted);
+/// A task and its files.
+#[derive(Clone, Copy)]
+pub(super) struct Case<'a> {
+    pub(super) task: Task,
+    pub(super) first: Input<'a>,
+    pub(super) second: Option<Input<'a>>,
 }
 
-/// Each of the jobs writes its text, where sources give `piece` bytes at a time.
-pub(super) fn assert_tasks(rt: &impl Abort, alloc: Global, piece: usize, sink: (usize, usize)) {
-    for (task, first, second, status, text) in TASKS {
-        let mut first = source_in_pieces(first, piece, 999);
-        let second = second.map(|bytes| source_in_pieces(bytes, piece, 999));
-        let wanted = (status, text, b"".as_slice());
-        assert_task(rt, alloc, &task, &mut first, second, sink, wanted);
-        assert!(rt; !first.failed());
+/// What a task leaves: its status, what standard output and standard error took, and whether a read of the first file failed.
+#[derive(Clone, Copy)]
+pub(super) struct Left<'a> {
+    pub(super) status: u8,
+    pub(super) out: &'a [u8],
+    pub(super) err: &'a [u8],
+    pub(super) first_failed: bool,
+}
+
+/// The source of a file.
+fn device_of(input: Input<'_>) -> Device<Dripping<'_>>
+    ensures { has_failed result ≡ false }
+{
+    source_in_pieces(input.bytes, input.piece, input.good)
+}
+
+/// The source of a second file, if there is one.
+fn second_of(input: Option<Input<'_>>) -> Option<Device<Dripping<'_>>>
+    ensures reads { IfSome result (λ source. has_failed source ≡ false) }
+    ensures given { IsSome result ↔ IsSome input.entry }
+{
+    match input {
+        Some(input) => Some(device_of(input)),
+        None => None,
     }
 }
 
-/// A task of one file leaves this.
-pub(super) fn assert_one<A: Source>(
-    rt: &impl Abort,
-    alloc: Global,
-    task: &Task,
-    first: &mut A,
-    sink: (usize, usize),
-    wanted: (u8, &[u8], &[u8]),
-)
-    requires alone { ¬ HasSecond task.now }
-    requires reads { A.failures first.old ≡ 0 }
+/// Whether a task is one of two files.
+fn takes_two(task: &Task) -> bool
+    ensures { IsTrue result ↔ HasSecond task.now }
 {
-    let second = None::<Device<&[u8]>>;
-    assert_task(rt, alloc, task, first, second, sink, wanted);
+    match task {
+        Task::Same(_) | Task::StepTable => true,
+        _ => false,
+    }
 }
 
-/// A task of two files leaves this.
-pub(super) fn assert_two<A: Source, B: Source + Drop>(
+/// The status of a task, what standard error took, which has space for `heard.0` bytes and takes `heard.1` at a time, and whether a read of the
+/// first file failed.
+pub(super) fn told<O: Sink>(
     rt: &impl Abort,
     alloc: Global,
-    task: &Task,
-    first: &mut A,
-    second: B,
-    sink: (usize, usize),
-    wanted: (u8, &[u8], &[u8]),
-)
-    requires two { HasSecond task.now }
-    requires first_reads { A.failures first.old ≡ 0 }
-    requires second_reads { B.failures second ≡ 0 }
+    case: &Case,
+    out: &mut O,
+    heard: (usize, usize),
+) -> (u8, Limited, bool)
+    requires writes { O.failures out.old ≡ 0 }
+    requires takes { O.stalled out.old ≡ false }
 {
-    assert_task(rt, alloc, task, first, Some(second), sink, wanted);
+    let mut first = device_of(case.first);
+    let mut second = second_of(case.second);
+    assert!(rt;
+        takes_two(&case.task) == second.is_some(),
+        "the files of {:?}",
+        case.task
+    );
+    let mut err = sink_with(alloc, heard.0, heard.1);
+    let seeds = Seeds::fixed();
+    let status = work_seeded(
+        alloc,
+        &seeds,
+        &case.task,
+        &mut first,
+        &mut second,
+        out,
+        &mut err,
+    );
+    (status, err, first.failed())
 }
 
-/// Two files that are compared as they lie leave this.
-pub(super) fn assert_compared<A: Source, B: Source + Drop>(
+/// Ends a test: this task leaves something else where its output takes so many bytes, so many at a time.
+fn refuse(rt: &impl Abort, case: &Case, (room, piece): (usize, usize), status: u8) -> ! {
+    let Case {
+        task,
+        first,
+        second,
+    } = *case;
+    let second = match second {
+        Some(second) => second.good,
+        None => 0,
+    };
+    let reads = (first.piece, first.good, second);
+    panic!(rt; "{task:?}: reads {reads:?}, writes {room} {piece}: status {status}")
+}
+
+/// A task, where standard output has space for `sink.0` bytes and takes `sink.1` at a time, leaves this.
+pub(super) fn assert_case(
     rt: &impl Abort,
     alloc: Global,
-    first: &mut A,
-    second: B,
+    case: &Case,
     sink: (usize, usize),
-    wanted: (u8, &[u8], &[u8]),
-)
-    requires first_reads { A.failures first.old ≡ 0 }
-    requires second_reads { B.failures second ≡ 0 }
-{
-    let task = Task::Same(Form::Placed);
-    assert_two(rt, alloc, &task, first, second, sink, wanted);
+    wanted: &Left,
+) {
+    let mut out = sink_with(alloc, sink.0, sink.1);
+    let (status, err, first_failed) = told(rt, alloc, case, &mut out, (99, 3));
+    let is_told = status == wanted.status && first_failed == wanted.first_failed;
+    let is_taken = out.taken.as_slice() == wanted.out && err.taken.as_slice() == wanted.err;
+    if !is_told || !is_taken || (out.failed && status != 3) {
+        refuse(rt, case, sink, status);
+    }
 }

@@ -54,62 +54,63 @@ const ABSENT: &[u8] = b"absent: no such file\n";
 
 const BAD: &[u8] = b"bad: line 1: BadHeader: The header isn't x = .., y = .., rule = ..\n";
 
+/// Arguments with what is printed of the files that they name, what is reported, and the status.
+const GROUPS: [(&[&str], &[u8], &[u8], u8); 6] = [
+    (&["p", "keys", "glider", "line", "east"], b"", b"", 1),
+    (
+        &["p", "keys", "--form", "moved", "glider", "line", "east"],
+        b"glider\neast\n",
+        b"",
+        0,
+    ),
+    (
+        &[
+            "p",
+            "keys",
+            "line",
+            "twins",
+            "glider",
+            "twins.rle",
+            "line",
+            "twins",
+        ],
+        b"line\nline\n\ntwins\ntwins.rle\ntwins\n",
+        b"",
+        0,
+    ),
+    (
+        &[
+            "p",
+            "keys",
+            "--zero",
+            "line",
+            "twins",
+            "ea\nst",
+            "twins.rle",
+            "line",
+            "east",
+        ],
+        b"line\0line\0\0twins\0twins.rle\0\0ea\nst\0east\0",
+        b"",
+        0,
+    ),
+    (
+        &["p", "keys", "ea\nst", "bad", "east"],
+        b"ea\\nst\neast\n",
+        BAD,
+        2,
+    ),
+    (
+        &["p", "keys", "east", "line", "--from", "-"],
+        b"east\neast\n\nline\nline\n",
+        ABSENT,
+        3,
+    ),
+];
+
 #[test]
 fn groups_of_files(rt: HostRuntime) {
-    let rows: [(&[&str], &[u8], &[u8], u8); 6] = [
-        (&["p", "keys", "glider", "line", "east"], b"", b"", 1),
-        (
-            &["p", "keys", "--form", "moved", "glider", "line", "east"],
-            b"glider\neast\n",
-            b"",
-            0,
-        ),
-        (
-            &[
-                "p",
-                "keys",
-                "line",
-                "twins",
-                "glider",
-                "twins.rle",
-                "line",
-                "twins",
-            ],
-            b"line\nline\n\ntwins\ntwins.rle\ntwins\n",
-            b"",
-            0,
-        ),
-        (
-            &[
-                "p",
-                "keys",
-                "--zero",
-                "line",
-                "twins",
-                "ea\nst",
-                "twins.rle",
-                "line",
-                "east",
-            ],
-            b"line\0line\0\0twins\0twins.rle\0\0ea\nst\0east\0",
-            b"",
-            0,
-        ),
-        (
-            &["p", "keys", "ea\nst", "bad", "east"],
-            b"ea\\nst\neast\n",
-            b"",
-            2,
-        ),
-        (
-            &["p", "keys", "east", "line", "--from", "-"],
-            b"east\neast\n\nline\nline\n",
-            ABSENT,
-            3,
-        ),
-    ];
-    for (words, text, reports, status) in rows {
-        let reports = if status == 2 { BAD } else { reports };
+    for &(words, text, reports, status) in &GROUPS {
         assert_run(&rt, rt.alloc(), words, text, reports, status);
     }
 }

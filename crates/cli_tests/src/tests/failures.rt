@@ -1,75 +1,63 @@
 //! Each call of a device in turn fails: each read, also the one after the last byte, a write after a prefix of the text, and the flush.
 
-ghost use Rattle.std.specs.Prelude.{◌≡◌, ◌↔◌, IsSome, IfSome};
-ghost use Rattle.life_cli.specs.Plans.{HasSecond};
-
 use super::TASKS;
-use super::devices::{
-    End, Limited, Narrow, READ_FAULT, WIDE, assert_left, assert_task, sink_with, source_of, told,
-};
-use life_base::{Device, Source};
+use super::devices::{Case, End, Narrow, assert_case, assert_left, sink_with, told};
+use super::tasks::{WIDE, case_of, dripping, read_fault};
+use life_base::Device;
 use life_cli::plans::{Form, Task};
 use std::alloc::Global;
 use std::io;
 use std::process::Abort;
 
 /// A task whose first file fails at any of its reads reports that.
-fn assert_reads_fail(
-    rt: &impl Abort,
-    alloc: Global,
-    task: &Task,
-    first: &[u8],
-    second: Option<&[u8]>,
-)
-    requires { IsSome second ↔ HasSecond task.now }
-{
-    for good in 0..=first.len() {
-        let mut first = source_of(first, good);
-        let second = second.map(|bytes| Device::new(bytes));
-        assert_task(rt, alloc, task, &mut first, second, WIDE, READ_FAULT);
+fn assert_reads_fail(rt: &impl Abort, alloc: Global, case: &Case) {
+    let bytes = case.first.bytes;
+    for good in 0..=bytes.len() {
+        let case = Case {
+            first: dripping(bytes, good),
+            ..*case
+        };
+        assert_case(rt, alloc, &case, WIDE, &read_fault(true));
     }
 }
 
 #[test]
 fn each_read_fails(rt: HostRuntime) {
-    for (task, first, second, _, _) in TASKS {
-        assert_reads_fail(&rt, rt.alloc(), &task, first, second);
+    for &(task, first, second, _, _) in &TASKS {
+        assert_reads_fail(&rt, rt.alloc(), &case_of(task, first, second, 999));
+    }
+}
+
+/// A task whose second file, of these bytes, fails at any of its reads reports that.
+fn assert_second_reads_fail(rt: &impl Abort, alloc: Global, case: &Case, bytes: &[u8]) {
+    for good in 0..=bytes.len() {
+        let case = Case {
+            second: Some(dripping(bytes, good)),
+            ..*case
+        };
+        assert_case(rt, alloc, &case, WIDE, &read_fault(false));
     }
 }
 
 #[test]
 fn each_read_of_the_second_file_fails(rt: HostRuntime) {
-    for (task, first, second, _, _) in TASKS {
-        let Some(bytes) = second else { continue };
-        for good in 0..=bytes.len() {
-            let second = Some(source_of(bytes, good));
-            let mut first = Device::new(first);
-            assert_task(&rt, rt.alloc(), &task, &mut first, second, WIDE, READ_FAULT);
+    for &(task, first, second, _, _) in &TASKS {
+        if let Some(bytes) = second {
+            let case = case_of(task, first, second, 999);
+            assert_second_reads_fail(&rt, rt.alloc(), &case, bytes);
         }
     }
 }
 
-/// Whether the line of a failed write was reported.
-fn is_write_fault(err: &Limited) -> bool {
-    err.taken.as_slice() == b"WriteFault\n".as_slice()
-}
-
 /// A task whose output takes the text only up to some byte reports that, and has written what was taken.
-fn assert_front<B: Source>(
+fn assert_front(
     rt: &impl Abort,
     alloc: Global,
-    task: &Task,
-    first: &[u8],
-    second: &mut Option<B>,
+    case: &Case,
     text: &[u8],
-    end: (usize, usize, End),
-)
-    requires second_reads { IfSome second.old (λ b. B.failures b ≡ 0) }
-    requires second_given { IsSome second.old ↔ HasSecond task.now }
-{
-    let (room, piece, end) = end;
+    (room, piece, end): (usize, usize, End),
+) {
     let mut taken = Vec::new(alloc);
-    let mut first = Device::new(first);
     let writer = Narrow {
         taken: &mut taken,
         room,
@@ -77,10 +65,11 @@ fn assert_front<B: Source>(
         end,
     };
     let mut out = Device::new(writer);
-    let (status, err) = told(alloc, task, &mut first, second, &mut out, (99, 3));
+    let (status, err, _) = told(rt, alloc, case, &mut out, (99, 3));
     drop(out);
-    assert!(rt; status == 3 && is_write_fault(&err), "{room}");
-    assert!(rt; text.starts_with(&taken) && taken.len() == room, "{room}");
+    let is_fault = status == 3 && err.taken.as_slice() == b"WriteFault\n".as_slice();
+    let is_front = text.starts_with(&taken) && taken.len() == room;
+    assert!(rt; is_fault && is_front, "{:?} {room} {piece}", case.task);
 }
 
 /// How many bytes are taken at most before a write is interrupted, or takes none: whole texts but the last byte, where 999 is said.
@@ -94,16 +83,20 @@ const ENDS: [(usize, End); 4] = [
     (999, End::Fails(io::ErrorKind::Interrupted)),
 ];
 
+/// A task whose output takes the text only up to some byte, in any of these ways, reports that.
+fn assert_fronts(rt: &impl Abort, alloc: Global, case: &Case, text: &[u8], room: usize) {
+    for &(piece, end) in &ENDS {
+        assert_front(rt, alloc, case, text, (room, piece, end));
+    }
+}
+
 #[test]
 fn each_write_fails(rt: HostRuntime) {
-    for (task, first, second, _, text) in TASKS {
+    for &(task, first, second, _, text) in &TASKS {
+        let case = case_of(task, first, second, 999);
         for most in ROOMS {
             let room = text.len().saturating_sub(1).min(most);
-            for (piece, end) in ENDS {
-                let mut second = second.map(|bytes| Device::new(bytes));
-                let end = (room, piece, end);
-                assert_front(&rt, rt.alloc(), &task, first, &mut second, text, end);
-            }
+            assert_fronts(&rt, rt.alloc(), &case, text, room);
         }
     }
 }
@@ -111,21 +104,18 @@ fn each_write_fails(rt: HostRuntime) {
 /// A text that is written whole and can't be flushed is reported.
 #[test]
 fn each_flush_fails(rt: HostRuntime) {
-    for (task, first, second, _, text) in TASKS {
-        let mut second = second.map(|bytes| Device::new(bytes));
+    for &(task, first, second, _, text) in &TASKS {
+        let case = case_of(task, first, second, 999);
         let end = (text.len(), 999, End::Unflushed(io::ErrorKind::Other));
-        assert_front(&rt, rt.alloc(), &task, first, &mut second, text, end);
+        assert_front(&rt, rt.alloc(), &case, text, end);
     }
 }
 
 /// Where standard error takes only a prefix of the fault's line, the status stays.
 fn assert_error_front(rt: &impl Abort, alloc: Global, room: usize, piece: usize, wanted: &[u8]) {
-    let mut first = Device::new(b"o!\n".as_slice());
-    let mut second = None::<Device<&[u8]>>;
     let mut out = sink_with(alloc, 999, 7);
-    let task = Task::Canon(Form::Placed);
-    let heard = (room, piece);
-    let (status, err) = told(alloc, &task, &mut first, &mut second, &mut out, heard);
+    let case = case_of(Task::Canon(Form::Placed), b"o!\n", None, 999);
+    let (status, err, _) = told(rt, alloc, &case, &mut out, (room, piece));
     assert_left(rt, (status, out, err), (2, b"", wanted));
 }
 

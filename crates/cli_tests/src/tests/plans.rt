@@ -5,168 +5,337 @@ use life_cli::plans::{Form, KeysPlan, Request, Task};
 use life_cli::{Job, Target, Usage, plan, request};
 use std::alloc::Global;
 use std::process::Abort;
-use std::test::Fail;
 
-const NAME: &str = "golly_canon";
+/// The arguments that a text writes, which have a space between each two, after the name of the program.
+fn words_of<'a>(rt: &impl Abort, alloc: Global, text: &'a str) -> Vec<&'a str> {
+    let mut words = Vec::new(alloc);
+    words.push("golly_canon").expect(rt, "memory");
+    for word in text.split_whitespace() {
+        words.push(word).expect(rt, "memory");
+    }
+    words
+}
 
-/// The text of a name, if there is one.
-fn text_of(name: &Option<String>) -> Option<&str> {
-    match name {
-        Some(name) => Some(name.as_str()),
-        None => None,
+/// Whether there is this second name, or none.
+fn is_second(name: &Option<String>, wanted: Option<&str>) -> bool {
+    match (name, wanted) {
+        (Some(name), Some(wanted)) => name.as_str() == wanted,
+        (None, None) => true,
+        _ => false,
     }
 }
 
-/// The words ask for this job of these files.
+/// Arguments with the job that they ask for, and its files.
+const PLANS: [(&str, Job, &str, Option<&str>); 19] = [
+    ("canon -", Job::Canon, "-", None),
+    ("canon - --form placed", Job::Canon, "-", None),
+    ("show -", Job::Show, "-", None),
+    ("convert - --to rle", Job::Convert(Target::Rle), "-", None),
+    ("convert --to rle -", Job::Convert(Target::Rle), "-", None),
+    ("convert --to=mc -", Job::Convert(Target::Mc), "-", None),
+    ("show -- -", Job::Show, "-", None),
+    ("step -", Job::Step, "-", None),
+    ("same a.mc -", Job::Same, "a.mc", Some("-")),
+    ("same - b.rle", Job::Same, "-", Some("b.rle")),
+    ("same same same", Job::Same, "same", Some("same")),
+    ("step - --table a.rule", Job::StepTable, "-", Some("a.rule")),
+    ("step --table a.rule -", Job::StepTable, "-", Some("a.rule")),
+    (
+        "step --table=a.rule -- -",
+        Job::StepTable,
+        "-",
+        Some("a.rule"),
+    ),
+    ("canon - --explain", Job::Canon, "-", None),
+    (
+        "convert --explain --to mc -",
+        Job::Convert(Target::Mc),
+        "-",
+        None,
+    ),
+    ("same - --explain b", Job::Same, "-", Some("b")),
+    ("show --explain -- -", Job::Show, "-", None),
+    ("step - --table=a --explain", Job::StepTable, "-", Some("a")),
+];
+
+/// The arguments of a text ask for this job of these files.
 fn assert_plan(
     rt: &impl Abort,
     alloc: Global,
-    words: &[&str],
+    text: &str,
     job: Job,
     first: &str,
     second: Option<&str>,
 ) {
-    let Ok(found) = plan(alloc, words) else {
-        panic!(rt; "refused");
+    let words = words_of(rt, alloc, text);
+    let Ok(found) = plan(alloc, &words) else {
+        panic!(rt; "{text}");
     };
-    let found_second = text_of(&found.second);
-    assert!(rt; found.job == job && found.first.as_str() == first && found_second == second);
+    let is_wanted = found.job == job && found.first.as_str() == first;
+    assert!(rt; is_wanted && is_second(&found.second, second), "{text}");
 }
 
-/// The words ask for this task of these files.
+#[test]
+fn plans(rt: HostRuntime) {
+    for &(text, job, first, second) in &PLANS {
+        assert_plan(&rt, rt.alloc(), text, job, first, second);
+    }
+}
+
+/// Arguments with the task that they ask for and its files, and whether they ask for a sentence about an error. The words after `--` are names.
+const REQUESTS: [(&str, Task, &str, Option<&str>, bool); 22] = [
+    ("canon -", Task::Canon(Form::Placed), "-", None, false),
+    (
+        "canon - --form placed",
+        Task::Canon(Form::Placed),
+        "-",
+        None,
+        false,
+    ),
+    ("show -", Task::Show, "-", None, false),
+    (
+        "convert - --to rle",
+        Task::Convert(Target::Rle),
+        "-",
+        None,
+        false,
+    ),
+    (
+        "convert --to rle -",
+        Task::Convert(Target::Rle),
+        "-",
+        None,
+        false,
+    ),
+    (
+        "convert --to=mc -",
+        Task::Convert(Target::Mc),
+        "-",
+        None,
+        false,
+    ),
+    ("show -- -", Task::Show, "-", None, false),
+    ("step -", Task::Step, "-", None, false),
+    (
+        "same a.mc -",
+        Task::Same(Form::Placed),
+        "a.mc",
+        Some("-"),
+        false,
+    ),
+    (
+        "same - b.rle",
+        Task::Same(Form::Placed),
+        "-",
+        Some("b.rle"),
+        false,
+    ),
+    (
+        "same same same",
+        Task::Same(Form::Placed),
+        "same",
+        Some("same"),
+        false,
+    ),
+    (
+        "canon --form=moved -",
+        Task::Canon(Form::Moved),
+        "-",
+        None,
+        false,
+    ),
+    (
+        "canon --form turned -- -",
+        Task::Canon(Form::Turned),
+        "-",
+        None,
+        false,
+    ),
+    (
+        "same --form moved - b",
+        Task::Same(Form::Moved),
+        "-",
+        Some("b"),
+        false,
+    ),
+    (
+        "same - b --form=turned",
+        Task::Same(Form::Turned),
+        "-",
+        Some("b"),
+        false,
+    ),
+    (
+        "canon - --explain",
+        Task::Canon(Form::Placed),
+        "-",
+        None,
+        true,
+    ),
+    (
+        "convert --explain --to mc -",
+        Task::Convert(Target::Mc),
+        "-",
+        None,
+        true,
+    ),
+    (
+        "same - --explain b",
+        Task::Same(Form::Placed),
+        "-",
+        Some("b"),
+        true,
+    ),
+    ("show --explain -- -", Task::Show, "-", None, true),
+    (
+        "step - --table=a --explain",
+        Task::StepTable,
+        "-",
+        Some("a"),
+        true,
+    ),
+    ("show -- --explain", Task::Show, "--explain", None, false),
+    (
+        "same - b --form moved",
+        Task::Same(Form::Moved),
+        "-",
+        Some("b"),
+        false,
+    ),
+];
+
+/// The arguments of a text ask for this task of these files, and for a sentence about an error or not.
 fn assert_request(
     rt: &impl Abort,
     alloc: Global,
-    words: &[&str],
-    task: Task,
+    text: &str,
+    (task, explain): (Task, bool),
     first: &str,
     second: Option<&str>,
 ) {
-    let Ok(Request::Work(found)) = request(alloc, words) else {
-        panic!(rt; "no task");
+    let words = words_of(rt, alloc, text);
+    let Ok(Request::Work(found)) = request(alloc, &words) else {
+        panic!(rt; "{text}");
     };
-    let found_second = text_of(&found.second);
-    assert!(rt; found.task == task && found.first.as_str() == first && found_second == second);
+    let is_wanted = found.task == task && found.first.as_str() == first;
+    let is_second = is_second(&found.second, second);
+    assert!(rt;
+        is_wanted && is_second && found.explain == explain,
+        "{text}"
+    );
 }
 
 #[test]
-fn plans_of_one_file(rt: HostRuntime) {
-    let rows: [(&[&str], Job); 8] = [
-        (&[NAME, "canon", "-"], Job::Canon),
-        (&[NAME, "canon", "-", "--form", "placed"], Job::Canon),
-        (&[NAME, "show", "-"], Job::Show),
-        (
-            &[NAME, "convert", "-", "--to", "rle"],
-            Job::Convert(Target::Rle),
-        ),
-        (
-            &[NAME, "convert", "--to", "rle", "-"],
-            Job::Convert(Target::Rle),
-        ),
-        (&[NAME, "convert", "--to=mc", "-"], Job::Convert(Target::Mc)),
-        (&[NAME, "show", "--", "-"], Job::Show),
-        (&[NAME, "step", "-"], Job::Step),
-    ];
-    for (words, job) in rows {
-        assert_plan(&rt, rt.alloc(), words, job, "-", None);
-        assert_request(&rt, rt.alloc(), words, Task::from(job), "-", None);
+fn requests(rt: HostRuntime) {
+    for &(text, task, first, second, explain) in &REQUESTS {
+        assert_request(&rt, rt.alloc(), text, (task, explain), first, second);
     }
 }
 
-#[test]
-fn plans_of_two_files(rt: HostRuntime) {
-    for (a, b) in [("a.mc", "-"), ("-", "b.rle"), ("same", "same")] {
-        let words = [NAME, "same", a, b];
-        assert_plan(&rt, rt.alloc(), &words, Job::Same, a, Some(b));
-        let task = Task::Same(Form::Placed);
-        assert_request(&rt, rt.alloc(), &words, task, a, Some(b));
-    }
-}
-
-#[test]
-fn plans_with_a_table(rt: HostRuntime) {
-    let rows: [&[&str]; 3] = [
-        &[NAME, "step", "-", "--table", "a.rule"],
-        &[NAME, "step", "--table", "a.rule", "-"],
-        &[NAME, "step", "--table=a.rule", "--", "-"],
-    ];
-    for words in rows {
-        let table = Some("a.rule");
-        assert_plan(&rt, rt.alloc(), words, Job::StepTable, "-", table);
-    }
-}
-
-/// Words that ask for another form than that of a pattern as it lies have a request and no plan.
-#[test]
-fn requests_in_forms(rt: HostRuntime) {
-    let rows: [(&[&str], Task, Option<&str>); 4] = [
-        (
-            &[NAME, "canon", "--form=moved", "-"],
-            Task::Canon(Form::Moved),
-            None,
-        ),
-        (
-            &[NAME, "canon", "--form", "turned", "--", "-"],
-            Task::Canon(Form::Turned),
-            None,
-        ),
-        (
-            &[NAME, "same", "--form", "moved", "-", "b"],
-            Task::Same(Form::Moved),
-            Some("b"),
-        ),
-        (
-            &[NAME, "same", "-", "b", "--form=turned"],
-            Task::Same(Form::Turned),
-            Some("b"),
-        ),
-    ];
-    for (words, task, second) in rows {
-        assert_request(&rt, rt.alloc(), words, task, "-", second);
-        assert!(rt; refusal_of(rt.alloc(), words) == Some(ErrorKind::InvalidValue));
-    }
-}
-
-/// Whether the words ask for a task whose errors are explained, or don't, or ask for no task.
-fn is_explained(alloc: Global, words: &[&str]) -> Option<bool> {
-    match request(alloc, words) {
-        Ok(Request::Work(plan)) => Some(plan.explain),
-        _ => None,
-    }
-}
-
-/// The plan of words that ask for a sentence about an error is the same; their request says that they do.
-#[test]
-fn explanations(rt: HostRuntime) {
-    let rows: [(&[&str], Job, Option<&str>); 5] = [
-        (&[NAME, "canon", "-", "--explain"], Job::Canon, None),
-        (
-            &[NAME, "convert", "--explain", "--to", "mc", "-"],
-            Job::Convert(Target::Mc),
-            None,
-        ),
-        (&[NAME, "same", "-", "--explain", "b"], Job::Same, Some("b")),
-        (&[NAME, "show", "--explain", "--", "-"], Job::Show, None),
-        (
-            &[NAME, "step", "-", "--table=a", "--explain"],
-            Job::StepTable,
-            Some("a"),
-        ),
-    ];
-    for (words, job, second) in rows {
-        assert_plan(&rt, rt.alloc(), words, job, "-", second);
-        assert_request(&rt, rt.alloc(), words, Task::from(job), "-", second);
-        assert!(rt; is_explained(rt.alloc(), words) == Some(true));
-    }
-    let silent: [&[&str]; 3] = [
-        &[NAME, "canon", "-"],
-        &[NAME, "show", "--", "--explain"],
-        &[NAME, "same", "-", "b", "--form", "moved"],
-    ];
-    for words in silent {
-        assert!(rt; is_explained(rt.alloc(), words) == Some(false));
-    }
-}
+/// Arguments of `keys` and `duplicates` with their form, their files, which of --zero, --recursive and --json (of `keys` alone) they have, and the list
+/// of further files. `keys` takes patterns as they lie, and `duplicates` in the moved form, where none is given.
+const FILES: [(&str, Form, &str, [bool; 3], Option<&str>); 16] = [
+    ("keys a", Form::Placed, "a", [false, false, false], None),
+    (
+        "keys -r b a",
+        Form::Placed,
+        "b a",
+        [false, true, false],
+        None,
+    ),
+    (
+        "keys a --form turned -",
+        Form::Turned,
+        "a -",
+        [false, false, false],
+        None,
+    ),
+    (
+        "keys --from l",
+        Form::Placed,
+        "",
+        [false, false, false],
+        Some("l"),
+    ),
+    (
+        "keys a --zero",
+        Form::Placed,
+        "a",
+        [true, false, false],
+        None,
+    ),
+    ("keys -r a", Form::Placed, "a", [false, true, false], None),
+    (
+        "keys --json a",
+        Form::Placed,
+        "a",
+        [false, false, true],
+        None,
+    ),
+    (
+        "keys a --zero --json -r",
+        Form::Placed,
+        "a",
+        [true, true, true],
+        None,
+    ),
+    (
+        "keys --recursive --from l",
+        Form::Placed,
+        "",
+        [false, true, false],
+        Some("l"),
+    ),
+    (
+        "duplicates a",
+        Form::Moved,
+        "a",
+        [false, false, false],
+        None,
+    ),
+    (
+        "duplicates --zero a -- -r",
+        Form::Moved,
+        "a -r",
+        [true, false, false],
+        None,
+    ),
+    (
+        "duplicates --form=placed a b a",
+        Form::Placed,
+        "a b a",
+        [false, false, false],
+        None,
+    ),
+    (
+        "duplicates --from -",
+        Form::Moved,
+        "",
+        [false, false, false],
+        Some("-"),
+    ),
+    (
+        "duplicates -- a -r",
+        Form::Moved,
+        "a -r",
+        [false, false, false],
+        None,
+    ),
+    (
+        "duplicates a -r",
+        Form::Moved,
+        "a",
+        [false, true, false],
+        None,
+    ),
+    (
+        "duplicates --from=- --zero --recursive",
+        Form::Moved,
+        "",
+        [true, true, false],
+        Some("-"),
+    ),
+];
 
 /// The plan of `keys` or of `duplicates`, and whether it is that of `duplicates`.
 fn plan_of_files<'a>(alloc: Global, words: &'a [&'a str]) -> Option<(KeysPlan<'a>, bool)> {
@@ -177,100 +346,36 @@ fn plan_of_files<'a>(alloc: Global, words: &'a [&'a str]) -> Option<(KeysPlan<'a
     }
 }
 
-/// The words ask for the keys or the duplicates of these files, and have no plan for a job.
+/// Whether files have these names, which have a space between each two.
+fn are_named(rt: &impl Abort, alloc: Global, files: &[&str], names: &str) -> bool {
+    let wanted = words_of(rt, alloc, names);
+    files == &wanted[1..]
+}
+
+/// The arguments of a text ask for the keys or the duplicates of files in this form, with these options, and have no plan for a job.
 fn assert_files(
     rt: &impl Abort,
     alloc: Global,
-    words: &[&str],
+    text: &str,
     form: Form,
-    is_duplicates: bool,
-    files: &[&str],
+    names: &str,
+    options: ([bool; 3], Option<&str>),
 ) {
-    assert!(rt; refusal_of(alloc, words) == Some(ErrorKind::InvalidSubcommand));
-    let Some((found, of_duplicates)) = plan_of_files(alloc, words) else {
-        panic!(rt; "refused");
+    let words = words_of(rt, alloc, text);
+    let Some((found, is_duplicates)) = plan_of_files(alloc, &words) else {
+        panic!(rt; "{text}");
     };
-    assert!(rt; found.form == form && of_duplicates == is_duplicates);
-    assert!(rt; found.files.len() == files.len());
-    for (name, wanted) in found.files.iter().zip(files) {
-        assert!(rt; *name == *wanted);
-    }
+    let is_wanted = found.form == form && is_duplicates == text.starts_with("duplicates");
+    let flags = [found.zero, found.recursive, found.json];
+    assert!(rt; is_wanted && (flags, found.from) == options, "{text}");
+    assert!(rt; are_named(rt, alloc, &found.files, names), "{text}");
 }
 
-/// `keys` takes patterns as they lie, and `duplicates` in the moved form, where none is given.
 #[test]
 fn requests_over_any_files(rt: HostRuntime) {
-    let rows: [(&[&str], Form, bool, &[&str]); 8] = [
-        (&[NAME, "keys", "a"], Form::Placed, false, &["a"]),
-        (
-            &[NAME, "keys", "-r", "b", "a"],
-            Form::Placed,
-            false,
-            &["b", "a"],
-        ),
-        (
-            &[NAME, "keys", "a", "--form", "turned", "-"],
-            Form::Turned,
-            false,
-            &["a", "-"],
-        ),
-        (&[NAME, "keys", "--from", "l"], Form::Placed, false, &[]),
-        (&[NAME, "duplicates", "a"], Form::Moved, true, &["a"]),
-        (
-            &[NAME, "duplicates", "--zero", "a", "--", "-r"],
-            Form::Moved,
-            true,
-            &["a", "-r"],
-        ),
-        (
-            &[NAME, "duplicates", "--form=placed", "a", "b", "a"],
-            Form::Placed,
-            true,
-            &["a", "b", "a"],
-        ),
-        (&[NAME, "duplicates", "--from", "-"], Form::Moved, true, &[]),
-    ];
-    for (words, form, is_duplicates, files) in rows {
-        assert_files(&rt, rt.alloc(), words, form, is_duplicates, files);
-    }
-}
-
-/// The options of a command over any number of files: --zero, --recursive, --json (of `keys` alone) and --from.
-#[test]
-fn options_over_any_files(rt: HostRuntime) {
-    let rows: [(&[&str], [bool; 3], Option<&str>); 10] = [
-        (&[NAME, "keys", "a"], [false, false, false], None),
-        (&[NAME, "keys", "a", "--zero"], [true, false, false], None),
-        (&[NAME, "keys", "-r", "a"], [false, true, false], None),
-        (&[NAME, "keys", "--json", "a"], [false, false, true], None),
-        (
-            &[NAME, "keys", "a", "--zero", "--json", "-r"],
-            [true, true, true],
-            None,
-        ),
-        (
-            &[NAME, "keys", "--recursive", "--from", "l"],
-            [false, true, false],
-            Some("l"),
-        ),
-        (&[NAME, "duplicates", "a"], [false, false, false], None),
-        (
-            &[NAME, "duplicates", "--", "a", "-r"],
-            [false, false, false],
-            None,
-        ),
-        (&[NAME, "duplicates", "a", "-r"], [false, true, false], None),
-        (
-            &[NAME, "duplicates", "--from=-", "--zero", "--recursive"],
-            [true, true, false],
-            Some("-"),
-        ),
-    ];
-    for (words, flags, from) in rows {
-        let Some((found, _)) = plan_of_files(rt.alloc(), words) else {
-            panic!(rt; "refused");
-        };
-        assert!(rt; [found.zero, found.recursive, found.json] == flags && found.from == from);
+    for &(text, form, names, flags, from) in &FILES {
+        assert_files(&rt, rt.alloc(), text, form, names, (flags, from));
+        assert_usage(&rt, rt.alloc(), text, ErrorKind::InvalidSubcommand);
     }
 }
 
@@ -285,114 +390,80 @@ fn refusal_of<'a>(alloc: Global, words: &'a [&'a str]) -> Option<ErrorKind> {
     }
 }
 
+/// The arguments of a text have no plan, for this reason.
+fn assert_usage(rt: &impl Abort, alloc: Global, text: &str, kind: ErrorKind) {
+    let words = words_of(rt, alloc, text);
+    assert!(rt; refusal_of(alloc, &words) == Some(kind), "{text}");
+}
+
+/// Arguments with the kind with which they are refused. Those that ask for another form than that of a pattern as it lies have a request and no plan.
+const USAGES: [(&str, ErrorKind); 40] = [
+    ("", ErrorKind::MissingSubcommand),
+    ("canon", ErrorKind::MissingRequiredArgument),
+    ("canon a b", ErrorKind::UnknownArgument),
+    ("canon a --bogus", ErrorKind::UnknownArgument),
+    ("canon a --help", ErrorKind::DisplayHelp),
+    ("cannon a", ErrorKind::InvalidSubcommand),
+    ("same a", ErrorKind::MissingRequiredArgument),
+    ("show", ErrorKind::MissingRequiredArgument),
+    ("convert a", ErrorKind::MissingRequiredArgument),
+    ("convert --to rle", ErrorKind::MissingRequiredArgument),
+    ("convert a --to", ErrorKind::InvalidValue),
+    ("convert a --to RLE", ErrorKind::InvalidValue),
+    ("canon a --to mc", ErrorKind::UnknownArgument),
+    ("canon a --form", ErrorKind::InvalidValue),
+    ("canon a --form Moved", ErrorKind::InvalidValue),
+    ("same a b --form rle", ErrorKind::InvalidValue),
+    ("show a --form moved", ErrorKind::UnknownArgument),
+    ("same --form moved a", ErrorKind::MissingRequiredArgument),
+    ("step", ErrorKind::MissingRequiredArgument),
+    ("step --table a", ErrorKind::MissingRequiredArgument),
+    ("step a --table", ErrorKind::InvalidValue),
+    ("show a --table b", ErrorKind::UnknownArgument),
+    ("canon -r a", ErrorKind::UnknownArgument),
+    ("keys", ErrorKind::MissingRequiredArgument),
+    ("keys -R a", ErrorKind::UnknownArgument),
+    ("keys --json", ErrorKind::MissingRequiredArgument),
+    ("duplicates a --json", ErrorKind::UnknownArgument),
+    ("keys --explain a", ErrorKind::UnknownArgument),
+    ("duplicates", ErrorKind::MissingRequiredArgument),
+    ("duplicates -r --zero", ErrorKind::MissingRequiredArgument),
+    ("duplicates a --explain", ErrorKind::UnknownArgument),
+    ("duplicates a --form none", ErrorKind::InvalidValue),
+    ("duplicates --help", ErrorKind::DisplayHelp),
+    ("canon a --explain --explain", ErrorKind::ArgumentConflict),
+    ("--help", ErrorKind::DisplayHelp),
+    ("--version", ErrorKind::DisplayVersion),
+    ("canon --form=moved -", ErrorKind::InvalidValue),
+    ("canon --form turned -- -", ErrorKind::InvalidValue),
+    ("same --form moved - b", ErrorKind::InvalidValue),
+    ("same - b --form=turned", ErrorKind::InvalidValue),
+];
+
 #[test]
 fn usages(rt: HostRuntime) {
-    let rows: [(&[&str], ErrorKind); 36] = [
-        (&[NAME], ErrorKind::MissingSubcommand),
-        (&[NAME, "canon"], ErrorKind::MissingRequiredArgument),
-        (&[NAME, "canon", "a", "b"], ErrorKind::UnknownArgument),
-        (&[NAME, "canon", "a", "--bogus"], ErrorKind::UnknownArgument),
-        (&[NAME, "canon", "a", "--help"], ErrorKind::DisplayHelp),
-        (&[NAME, "cannon", "a"], ErrorKind::InvalidSubcommand),
-        (&[NAME, "same", "a"], ErrorKind::MissingRequiredArgument),
-        (&[NAME, "show"], ErrorKind::MissingRequiredArgument),
-        (&[NAME, "convert", "a"], ErrorKind::MissingRequiredArgument),
-        (
-            &[NAME, "convert", "--to", "rle"],
-            ErrorKind::MissingRequiredArgument,
-        ),
-        (&[NAME, "convert", "a", "--to"], ErrorKind::InvalidValue),
-        (
-            &[NAME, "convert", "a", "--to", "RLE"],
-            ErrorKind::InvalidValue,
-        ),
-        (
-            &[NAME, "canon", "a", "--to", "mc"],
-            ErrorKind::UnknownArgument,
-        ),
-        (&[NAME, "canon", "a", "--form"], ErrorKind::InvalidValue),
-        (
-            &[NAME, "canon", "a", "--form", "Moved"],
-            ErrorKind::InvalidValue,
-        ),
-        (
-            &[NAME, "same", "a", "b", "--form", "rle"],
-            ErrorKind::InvalidValue,
-        ),
-        (
-            &[NAME, "show", "a", "--form", "moved"],
-            ErrorKind::UnknownArgument,
-        ),
-        (
-            &[NAME, "same", "--form", "moved", "a"],
-            ErrorKind::MissingRequiredArgument,
-        ),
-        (&[NAME, "step"], ErrorKind::MissingRequiredArgument),
-        (
-            &[NAME, "step", "--table", "a"],
-            ErrorKind::MissingRequiredArgument,
-        ),
-        (&[NAME, "step", "a", "--table"], ErrorKind::InvalidValue),
-        (
-            &[NAME, "show", "a", "--table", "b"],
-            ErrorKind::UnknownArgument,
-        ),
-        (&[NAME, "canon", "-r", "a"], ErrorKind::UnknownArgument),
-        (&[NAME, "keys"], ErrorKind::MissingRequiredArgument),
-        (&[NAME, "keys", "-R", "a"], ErrorKind::UnknownArgument),
-        (
-            &[NAME, "keys", "--json"],
-            ErrorKind::MissingRequiredArgument,
-        ),
-        (
-            &[NAME, "duplicates", "a", "--json"],
-            ErrorKind::UnknownArgument,
-        ),
-        (
-            &[NAME, "keys", "--explain", "a"],
-            ErrorKind::UnknownArgument,
-        ),
-        (&[NAME, "duplicates"], ErrorKind::MissingRequiredArgument),
-        (
-            &[NAME, "duplicates", "-r", "--zero"],
-            ErrorKind::MissingRequiredArgument,
-        ),
-        (
-            &[NAME, "duplicates", "a", "--explain"],
-            ErrorKind::UnknownArgument,
-        ),
-        (
-            &[NAME, "duplicates", "a", "--form", "none"],
-            ErrorKind::InvalidValue,
-        ),
-        (&[NAME, "duplicates", "--help"], ErrorKind::DisplayHelp),
-        (
-            &[NAME, "canon", "a", "--explain", "--explain"],
-            ErrorKind::ArgumentConflict,
-        ),
-        (&[NAME, "--help"], ErrorKind::DisplayHelp),
-        (&[NAME, "--version"], ErrorKind::DisplayVersion),
-    ];
-    for (words, kind) in rows {
-        assert!(rt; refusal_of(rt.alloc(), words) == Some(kind));
+    for &(text, kind) in &USAGES {
+        assert_usage(&rt, rt.alloc(), text, kind);
     }
 }
 
+/// Arguments that name standard input twice.
+const TWICE: [&str; 6] = [
+    "duplicates - a -",
+    "duplicates --from - -r -",
+    "same - -",
+    "same - - --form none",
+    "same -- - -",
+    "step - --table -",
+];
+
 #[test]
-fn standard_input_once(rt: HostRuntime) -> Result<(), Fail> {
-    let rows: [&[&str]; 6] = [
-        &[NAME, "duplicates", "-", "a", "-"],
-        &[NAME, "duplicates", "--from", "-", "-r", "-"],
-        &[NAME, "same", "-", "-"],
-        &[NAME, "same", "-", "-", "--form", "none"],
-        &[NAME, "same", "--", "-", "-"],
-        &[NAME, "step", "-", "--table", "-"],
-    ];
-    for words in rows {
-        match plan(rt.alloc(), words) {
-            Err(Usage::TwoInputs) => {}
-            _ => return Err("not TwoInputs")?,
-        }
+fn standard_input_once(rt: HostRuntime) {
+    for text in &TWICE {
+        let words = words_of(&rt, rt.alloc(), text);
+        assert!(rt;
+            matches!(plan(rt.alloc(), &words), Err(Usage::TwoInputs)),
+            "{text}"
+        );
     }
-    Ok(())
 }
