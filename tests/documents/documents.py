@@ -86,7 +86,7 @@ def of_page():
 
 # Where a file repeats the version that the file VERSION has.
 VERSIONED = {
-    "crates/life_cli/src/plans/commands.rt": r'\.version\("([^"]*)"\)',
+    "crates/command_line/src/plans/commands.rt": r'\.version\("([^"]*)"\)',
     "crates/golly_canon_c/src/names.rt": r'(?m)^const VERSION: .* = b"([^"]*)";$',
     "python/golly_canon.py": r'(?m)^__version__ = "([^"]*)"$',
     "include/golly_canon.h": r"which is that of the program, as `([^`]*)`",

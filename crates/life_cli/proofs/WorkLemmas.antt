@@ -1,5 +1,5 @@
 -- From the parts of a task to what it did, or why it is refused.
-use Rattle.std.proofs.Common.{◌≡◌, ◌≢◌, ◌<◌, ◌+◌, length, Contains, AllPairs, arith, ℕ, ◌^◌, ◌⊎◌, inl, inr, List, [], Bool, true, false, Option, Some, None, IfSome, Result, Ok, Err, IfErr, IfOk, OnOk, IsErrAnd, ap, refl, IsTrue, ◌↔◌, subst, sym, ◌∙◌}
+use Rattle.std.proofs.Common.{◌≡◌, ◌≢◌, ◌<◌, Contains, AllPairs, arith, ℕ, ◌^◌, ◌⊎◌, inl, inr, List, [], Bool, true, false, Option, Some, None, IfSome, Result, Ok, Err, IfErr, IfOk, OnOk, IsErrAnd, ap, refl, IsTrue, ◌↔◌, subst, sym, ◌∙◌}
 use Rattle.std.specs.Option.{option_map_or}
 use Rattle.std.specs.Io.KnownBytes.{Appends}
 use Rattle.life_base.specs.DeviceRuns.{SourceRun, SinkRun}
@@ -10,7 +10,6 @@ use Rattle.life_base.specs.Tree.{Tree, is_blank_tree}
 use Rattle.life_base.specs.declared.cell.TheConstants.{MAX_LEVEL}
 use Rattle.life_base.specs.declared.fault.Fault.{Fault}
 use Rattle.life_base.specs.declared.kind.Kind.{Kind}
-use Rattle.life_base.specs.declared.kind.Kind.TheVariants as kinds
 use Rattle.life_base.specs.declared.kind.Kind.TheVariants.{Full, Memory, TooManyCells, ReadFault, InputTooLong, WriteFault}
 use Rattle.life_base.specs.declared.rule.Rule.{Rule}
 use Rattle.life_quad.specs.Keeping.{AddsOnly}
@@ -19,7 +18,7 @@ use Rattle.life_canon.specs.Files.{Accepted, Reads, Refuses, is_file_kind}
 use Rattle.life_canon.specs.Laws.{RefusalsHaveKinds}
 use Rattle.life_canon.specs.Needs.{IsNew}
 use Rattle.life_canon.specs.ReadWhole.{ReadsWhole}
-use Rattle.life_canon.specs.Room.{AddsFile, IsOfFile, room_for}
+use Rattle.life_canon.specs.Room.{AddsFile, IsOfFile}
 use Rattle.life_canon.specs.Running.{AddsForRead, HasRead, ReadRefuses, ReadsPattern, ReadsSource}
 use Rattle.life_canon.specs.Running as reading
 use Rattle.life_canon.specs.Store.{IsRead, IsWant, content}
@@ -29,63 +28,27 @@ use Rattle.life_canon.specs.declared.pattern.Pattern.{Pattern}
 use Rattle.life_table.specs.Grammar.{IsFile}
 use Rattle.life_table.specs.Reading.{Refuses as RefusesTable}
 use Rattle.life_table.specs.declared.table.Table.{Table}
-use Rattle.life_cli.specs.declared.plans.Form.{Form}
-use Rattle.life_cli.specs.declared.plans.Form.TheVariants.{Placed, Moved, Turned}
-use Rattle.life_cli.specs.declared.plans.Task.{Task}
-use Rattle.life_cli.specs.declared.plans.Task.TheVariants.{Canon, Convert, Same, Show, Step, StepTable}
-use Rattle.life_cli.specs.declared.plans.Target.TheVariants.{Rle, Mc}
-use Rattle.life_cli.specs.declared.refusals.Refusal.{Refusal}
+use Rattle.command_line.specs.declared.plans.Form.{Form}
+use Rattle.command_line.specs.declared.plans.Form.TheVariants.{Placed, Moved, Turned}
+use Rattle.command_line.specs.declared.plans.Task.{Task}
+use Rattle.command_line.specs.declared.plans.Task.TheVariants.{Canon, Convert, Same, Show, Step, StepTable}
+use Rattle.command_line.specs.declared.plans.Target.TheVariants.{Rle, Mc}
+use Rattle.pattern_sources.specs.declared.refusals.Refusal.{Refusal}
 use Rattle.life_cli.specs.declared.jobs.Made.{Made}
 use Rattle.life_cli.specs.declared.jobs.Made.TheVariants.{Comparison, Text}
-use Rattle.life_cli.specs.Faults.{refusal_of, status_of}
-use Rattle.life_cli.specs.Forms.{AreSameIn, HasTooMany, IsTextIn}
-use Rattle.life_cli.specs.Plans.{HasSecond, WritesPlacedText}
+use Rattle.pattern_sources.specs.Faults.{refusal_of}
+use Rattle.life_cli.specs.Forms.{AreSameIn, HasTooMany}
+use Rattle.pattern_sources.specs.Forms.{IsTextIn}
+use Rattle.command_line.specs.Plans.{HasSecond}
+use Rattle.life_cli.specs.Jobs.{WritesPlacedText}
 use Rattle.life_step.specs.Stepped.{IsStepped, IsSteppedBy}
-use Rattle.life_cli.specs.Jobs.{InputRefuses, by_length, by_source, HasNoText, by_input, by_file, by_want, AreUncompared}
-use Rattle.life_cli.specs.Jobs.{by_first, by_second, by_form, by_first_shortage, by_second_shortage, RefusesInForm, RefusesSame}
-use Rattle.life_cli.specs.Jobs.{AreOfInput, HoldsNoneBut, HoldsOneFile, HoldsTwoFiles, IsTooSmallFor, IsTooSmallToMake, IsWantFor, WantsFor, RefusesMany, Compares, made_text, made_status, HasAnswer, TaskMakes, Writes, Worked, BreaksOff, HasText, FileRefuses, ComesOf}
+use Rattle.pattern_sources.specs.Sources.{InputRefuses, by_length, by_source, HasNoText, by_file, by_want, RefusesInForm}
+use Rattle.life_cli.specs.Jobs.{AreUncompared, by_first, by_second, by_form, by_first_shortage, by_second_shortage, RefusesSame}
+use Rattle.pattern_sources.specs.Sources.{AreOfInput, IsTooSmallFor, IsTooSmallToMake, IsWantFor, WantsFor, RefusesMany, HasText, ComesOf}
+use Rattle.life_cli.specs.Jobs.{HoldsTwoFiles, Compares, made_text, made_status, HasAnswer, TaskMakes, Writes, Worked, BreaksOff, FileRefuses}
 use Rattle.life_cli.specs.Jobs.{by_comparing, by_reading, by_writing, by_telling, HasTextByTable, HasNoTextByTable, MadeOf}
-use Rattle.life_cli.specs.Jobs.{RefusesStep, HasTable, HasNoTable, table_by_input, table_by_lines}
-use Rattle.life_cli.specs.Jobs.{table_by_memory, CanonRefuses, OfFile, TaskRan, TaskRefuses}
-
--- which squares a call leaves in the store that reads an input into it
-pub squares_of_input : (old new : Nodes) (input : Option (List ℕ)) → AddsForRead input old new → AllPairs ◌≢◌ (held new)
-    → ((t : Tree) → Contains (held new) t → is_blank_tree t ≡ false) → AreOfInput (held old) input (held new)
-squares_of_input old new input adds distinct not_blank = record {
-  bytes = adds.bytes;
-  left = adds.left;
-  came = adds.came;
-  distinct = distinct;
-  not_blank = not_blank;
-  needed = adds.adds.each;
-}
-
--- a store that got full is too small for the input
-pub too_small : {X : Type 0} (old new : Nodes) (source : SourceRun) (result : Result X Fault) → ReadsSource (2 ^ 30) old new source result
-    → AreOfInput (held old) source.before (held new) → result ≡ Err (fault_of Full) → IsTooSmallFor (held old) source new
-too_small old new source result reads squares full =
-    let room = reads.room full in
-    record {
-      squares = squares;
-      lacks = reads.needed full;
-      read = room.bytes;
-      came = room.came;
-      tight = subst (λ limit. limit < length (held old) + room_for (length room.bytes)) (sym reads.keeps.limit) room.tight;
-    }
-
-pub too_small_alone : {X : Type 0} (old new : Nodes) (source : SourceRun) (result : Result X Fault) → ReadsSource (2 ^ 30) old new source result
-    → AreOfInput (held old) source.before (held new) → held old ≡ [] → result ≡ Err (fault_of Full) → IsTooSmallFor [] source new
-too_small_alone old new source result reads squares empty full =
-    subst (λ base. IsTooSmallFor base source new) empty (too_small old new source result reads squares full)
-
--- nothing comes of an input of which a store makes no pattern
-pub no_pattern : (refuses : List ℕ → Fault → Type 0) (source : SourceRun) (store : Nodes) (fault : Fault) → store.limit ≡ 2 ^ 31
-    → ((bytes : List ℕ) → Refuses MAX_LEVEL bytes fault → refuses bytes fault) → ReadRefuses MAX_LEVEL (2 ^ 30) store source fault
-    → (fault ≡ fault_of Full → IsTooSmallFor [] source store) → HasNoText refuses source fault
-no_pattern refuses source store fault limit f (reading.by_file bytes read h) lacks = by_file bytes read (f bytes h)
-no_pattern refuses source store fault limit f (reading.by_want want) lacks = by_want (inr (store, limit, (want, lacks)))
-no_pattern refuses source store fault limit f (reading.by_length is came) lacks = by_input (by_length is came)
-no_pattern refuses source store fault limit f (reading.by_source is failed) lacks = by_input (by_source is failed)
+use Rattle.life_cli.specs.Jobs.{RefusesStep, HasTable, HasNoTable, table_by_input, table_by_lines, table_by_memory, CanonRefuses, OfFile, TaskRan, TaskRefuses}
+use Rattle.pattern_sources.proofs.SourceLemmas.{holds_more, holds_one}
 
 -- no text for want of memory, or with too many cells
 pub refused_lines : {X : Type 0} (source : SourceRun) (r : Result X Fault) → IfErr r (λ fault. fault ≡ fault_of Memory)
@@ -102,45 +65,12 @@ refused_rle source store pattern (Ok x) has h = tt
 refused_rle source store pattern (Err fault) has (inl memory) = by_want (inl memory)
 refused_rle source store pattern (Err fault) has (inr many) = by_file has.bytes has.read (inr (many.0, many.1 has.bytes has.is))
 
--- a store that held no square holds those that calls have added
-none_held : (old : Nodes) → held old ≡ [] → (t : Tree) → Contains (held old) t → ⊥
-none_held old none t there =
-    let it : Contains [] t = subst (λ (squares : List Tree). Contains squares t) none there in
-    omega (arith, it.1)
-
-pub holds_one : (bytes : List ℕ) (old new : Nodes) → held old ≡ [] → AddsFile bytes old new → HoldsOneFile bytes new
-holds_one bytes old new none adds t there = elim (adds.each t there) [ inl before ↦ absurd (none_held old none t before) | inr own ↦ own ]
-
 pub holds_two : (first second : List ℕ) (old mid new : Nodes) → held old ≡ [] → AddsFile first old mid → AddsFile second mid new
     → HoldsTwoFiles first second new
 holds_two first second old mid new none one other t there = elim (other.each t there) [
   | inl before ↦ inl (holds_one first old mid none one t before)
   | inr own ↦ inr own
 ]
-
--- what a store holds to which a call added squares that its answer needs
-pub holds_more : (IsToRead : Tree → Type 0) (Added ToMake : (Tree → Type 0) → Type 0) (old new : Nodes) → HoldsNoneBut IsToRead old
-    → ((P : Tree → Type 0) → Added P → ToMake P) → AddsOnly held Added old new → HoldsNoneBut (λ t. IsToRead t ⊎ ToMake (λ u. u ≡ t)) new
-holds_more IsToRead Added ToMake old new only f adds t there = elim (adds.each t there) [
-  | inl before ↦ inl (only t before)
-  | inr made ↦ inr (f (λ u. u ≡ t) made)
-]
-
--- no text in a form
-pub refused_in : (form : Form) (bytes : List ℕ) (fault : Fault) → Refuses MAX_LEVEL bytes fault → RefusesInForm form bytes fault
-refused_in Placed bytes fault h = h
-refused_in Moved bytes fault h = inl (inl h)
-refused_in Turned bytes fault h = inl h
-
-pub refused_text : {X : Type 0} (form : Form) (source : SourceRun) (empty store : Nodes) (pattern : Pattern) (r : Result X Fault) → held empty ≡ []
-    → ReadsWhole (2 ^ 30) empty store source pattern
-    → IfErr r (λ fault. (fault ≡ fault_of Memory)
-    ⊎ ((b : List ℕ) → IsRead MAX_LEVEL b store pattern → HoldsOneFile b store → RefusesInForm form b fault))
-    → IfErr r (HasNoText (RefusesInForm form) source)
-refused_text form source empty store pattern (Ok x) none has h = tt
-refused_text form source empty store pattern (Err fault) none has (inl memory) = by_want (inl memory)
-refused_text form source empty store pattern (Err fault) none has (inr refuses) =
-    by_file has.bytes has.read (refuses has.bytes has.is (holds_one has.bytes empty store none has.adds))
 
 -- a fault of a kind that isn't a file's is none of a file
 pub no_file : (base : List Tree) (source : SourceRun) (store : Nodes) (fault : Fault) → RefusalsHaveKinds MAX_LEVEL → ReadRefuses MAX_LEVEL
@@ -232,36 +162,6 @@ module _ (form : Form) (first second : SourceRun) (store : Nodes) (a b : List �
       go (Err fault) (inl memory) = by_second_shortage a [] one (no_squares first a one) (inl memory)
       go (Err fault) (inr refuses) =
           by_form a b one two (reads.universe, reads.reads) (others.universe, others.reads) (refuses a b reads others only)
-
--- all of a file was read, and a call on its pattern gave its text
-text_of_pattern : {X : Type 0} (gives : List ℕ → List ℕ → Type 0) (items : X → List ℕ) (source : SourceRun) (store : Nodes) (pattern : Pattern)
-    (r : Result X Fault) → HasRead MAX_LEVEL (2 ^ 30) store source pattern
-    → IfOk r (λ x. (bytes : List ℕ) → IsRead MAX_LEVEL bytes store pattern → gives bytes (items x)) → IfOk r (λ x. HasText gives source (items x))
-text_of_pattern gives items source store pattern (Ok x) has is = record { bytes = has.bytes; read = has.read; is = is has.bytes has.is }
-text_of_pattern gives items source store pattern (Err fault) has is = tt
-
--- nothing comes of a file whose pattern wasn't read
-pub nothing_comes : {X : Type 0} (items : X → List ℕ) (gives : List ℕ → List ℕ → Type 0) (refuses : List ℕ → Fault → Type 0) (source : SourceRun)
-    (old new : Nodes) (fault : Fault) → old.limit ≡ 2 ^ 31 → held old ≡ [] → AreOfInput (held old) source.before (held new) →
-    ((bytes : List ℕ) → Refuses MAX_LEVEL bytes fault → refuses bytes fault)
-    → ReadsPattern (2 ^ 30) old new source (Err fault) → ComesOf items gives refuses source (Err fault)
-nothing_comes items gives refuses source old new fault limit empty squares f read = record {
-  ok = tt;
-  err = no_pattern refuses source new fault (read.reads.keeps.limit ∙ limit) f read.fault
-      (λ full. too_small_alone old new source (Err fault) read.reads squares empty (ap (λ (e : Fault). Err e) full));
-  told = read.reads.told;
-}
-
--- what a call on the pattern of a file answers comes of the file
-pub comes_of_pattern : {X : Type 0} (items : X → List ℕ) (gives : List ℕ → List ℕ → Type 0) (refuses : List ℕ → Fault → Type 0) (source : SourceRun)
-    (store : Nodes) (pattern : Pattern) (r : Result X Fault) → HasRead MAX_LEVEL (2 ^ 30) store source pattern → source.failures ≡ 0
-    → IfOk r (λ x. (bytes : List ℕ) → IsRead MAX_LEVEL bytes store pattern → gives bytes (items x)) → IfErr r (HasNoText refuses source)
-    → ComesOf items gives refuses source r
-comes_of_pattern items gives refuses source store pattern r has works is err = record {
-  ok = text_of_pattern gives items source store pattern r has is;
-  err = err;
-  told = λ failed. let bad : 0 ≡ 1 = sym works ∙ failed in absurd cc;
-}
 
 -- what the step of a pattern needs, that of its file needs
 of_file : (needs : Rule → Tree → Type 0) (bytes : List ℕ) (store : Nodes) (pattern : Pattern) → IsRead MAX_LEVEL bytes store pattern
@@ -541,11 +441,3 @@ ran_done task first second output made makes written works = record {
   read_told = λ e. absurd (makes.told e);
   write_told = works;
 }
-
--- the status of a fault
-pub fault_status : (kind : Kind) → (status_of kind ≡ 2) ⊎ ((status_of kind ≡ 3) ⊎ (status_of kind ≡ 4))
-fault_status kinds.Full = inr (inr refl)
-fault_status kinds.Memory = inr (inr refl)
-fault_status kinds.ReadFault = inr (inl refl)
-fault_status kinds.WriteFault = inr (inl refl)
-fault_status kind = inl refl

@@ -1,32 +1,11 @@
 -- What files say in a form of their patterns.
 use Rattle.std.specs.Prelude.{◌≡◌, ◌⊎◌, ℕ, ◌^◌, List}
 use Rattle.life_canon.specs.Files.{Reads, Same}
-use Rattle.life_canon.specs.Listing.{canon_text}
-use Rattle.life_canon.specs.Texts.{HasMoreCells, IsCanonical}
+use Rattle.life_canon.specs.Texts.{HasMoreCells}
 use Rattle.life_canon.specs.Universe.{Universe}
-use Rattle.life_forms.specs.Forms.{IsMoved, IsShift, IsTurnedShift}
-use Rattle.life_forms.specs.Images.{IsTurnedText}
-use Rattle.life_cli.specs.declared.plans.Form.{Form}
-use Rattle.life_cli.specs.declared.plans.Form.TheVariants.{Placed, Moved, Turned}
-
--- the text is the canonical text of the moved form
-pub record IsMovedText (top : ℕ) (u : Universe) (text : List ℕ) : Type 0 where
-  pub form : Universe
-  pub moved : IsMoved top u form
-  pub is : text ≡ canon_text top form
-
--- the bytes are a file with no more than 2^20 nonzero cells, and this is a text of what it says
-pub record SaysText (is_text : Universe → List ℕ → Type 0) (top : ℕ) (bytes text : List ℕ) : Type 0 where
-  pub universe : Universe
-  pub reads : Reads top bytes universe
-  pub few : ¬ HasMoreCells top bytes (2 ^ 20)
-  pub is : is_text universe text
-
--- the bytes are a file, and this is the text of its pattern in the form
-abbrev pub IsTextIn : Form → ℕ → List ℕ → List ℕ → Type 0
-IsTextIn Placed top bytes text = IsCanonical top bytes text
-IsTextIn Moved top bytes text = SaysText (IsMovedText top) top bytes text
-IsTextIn Turned top bytes text = SaysText (IsTurnedText top) top bytes text
+use Rattle.life_forms.specs.Forms.{IsShift, IsTurnedShift}
+use Rattle.command_line.specs.declared.plans.Form.{Form}
+use Rattle.command_line.specs.declared.plans.Form.TheVariants.{Placed, Moved, Turned}
 
 -- both are files, and what the first says is related to what the second says
 pub record SayRelated (relates : Universe → Universe → Type 0) (top : ℕ) (a b : List ℕ) : Type 0 where

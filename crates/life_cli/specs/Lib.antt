@@ -1,15 +1,6 @@
-pub mod Faults
 pub mod Forms
 pub mod Jobs
-pub mod CommandLine
-pub mod Plans
 pub mod Origins
+pub mod Plans
 pub mod Usages
-pub mod Json
-pub mod Keys
-pub mod Objects
-pub mod Pieces
-pub mod KeyRuns
-pub mod Groups
-pub mod Duplicates
 pub mod Words

@@ -1,21 +1,12 @@
 -- Which file a word names, and in which order the files of a plan are opened. The project's own.
-use Rattle.std.specs.Prelude.{◌≡◌, ◌≢◌, ◌⊎◌, List, ℕ, Option, Some, None, Result, Ok, Err, codes, string_bytes, option_map}
+use Rattle.std.specs.Prelude.{◌≡◌, ◌⊎◌, List, ℕ, Option, Some, None, Result, Ok, Err, string_bytes, option_map}
 use Rattle.std.specs.declared.io.Error.{Error as IoError}
 use Rattle.life_base.specs.DeviceState.{device_inner}
 use Rattle.life_base.specs.declared.devices.Device.{Device}
 use Rattle.life_cli.specs.declared.origins.Opened.{Opened}
-use Rattle.life_cli.specs.declared.origins.Origin.{Origin}
-use Rattle.life_cli.specs.declared.origins.Origin.TheVariants.{Standard, File}
-use Rattle.life_cli.specs.declared.plans.TaskPlan.{TaskPlan}
-
--- exactly the word `-` names standard input, and each other word the file of that name
-abbrev pub IsOriginOf : List ℕ → Origin → Type 0
-IsOriginOf word Standard = word ≡ codes "-"
-IsOriginOf word (File name) = (name.now ≡ word) × (word ≢ codes "-")
-
--- a call of an opener, from one of its states to the next, gave this for what the word names
-abbrev pub Gives : {F X : Type 0} → (F → Origin → Result X IoError → F → Type 0) → List ℕ → F → Result X IoError → F → Type 0
-Gives step word before given after = (origin : Origin) × IsOriginOf word origin × step before origin given after
+use Rattle.command_line.specs.declared.origins.Origin.{Origin}
+use Rattle.command_line.specs.Origins.{Gives}
+use Rattle.command_line.specs.declared.plans.TaskPlan.{TaskPlan}
 
 module _ {F R : Type 0} (step : F → Origin → Result (Opened R) IoError → F → Type 0) where
   -- the call gave what the device reads

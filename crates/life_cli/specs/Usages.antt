@@ -5,9 +5,9 @@ use Rattle.clap.specs.declared.error.kind.ErrorKind.{ErrorKind}
 use Rattle.clap.specs.declared.error.kind.ErrorKind.TheVariants.{DisplayHelp, DisplayVersion, OutOfMemory}
 use Rattle.life_base.specs.Refusal.{fault_of}
 use Rattle.life_base.specs.declared.kind.Kind.TheVariants as kinds
-use Rattle.life_cli.specs.Faults.{fault_line, refusal_of, status_of}
-use Rattle.life_cli.specs.declared.plans.Usage.{Usage}
-use Rattle.life_cli.specs.declared.plans.Usage.TheVariants.{Words, TwoInputs, Memory}
+use Rattle.pattern_sources.specs.Faults.{fault_line, refusal_of, status_of}
+use Rattle.command_line.specs.declared.plans.Usage.{Usage}
+use Rattle.command_line.specs.declared.plans.Usage.TheVariants.{Words, TwoInputs, Memory}
 
 -- the text was asked for: help or the version, which go to standard output
 abbrev pub is_asked : ErrorKind → Bool

@@ -3,19 +3,17 @@
 ghost use Rattle.std.specs.Prelude.{◌≡◌, ◌≢◌, ◌⊎◌, ◌<◌, ◌↔◌, ◌^◌, IsSome, IfSome, IfOk, IfErr, OnOk, IsErrAnd, IsTrue, Ok, Err, true, false};
 ghost use Rattle.life_cli.specs.Words.{Appends, SourceRun, source_run, optional_source_run, sink_run, Refusal, Refuses, Keeps, held, AreWorking, ReadsPattern, ReadsWhole, RunsCanon, AreOfInput, IsRleOf, IsShown, fault_line, refusal_of, status_of, Tells, made_status, made_text, MadeOf, TaskMakes, Worked, OfFile, InputRefuses, BreaksOff, ComesOf, AreUncompared, CanonRefuses, IsPatternIn, IsWantFor, TaskRan, TaskRefuses, RefusesMany, HasSecond, WritesPlacedText, task_of};
 
-use crate::forms::{are_same_in, text_of_source};
-use crate::plans::{Form, Job, Target, Task};
-use crate::refusals::{Refusal, status, tell};
-use crate::seeds::Seeds;
+use crate::forms::are_same_in;
 use crate::steps::{next_by_table_of, next_of};
+use command_line::{Form, Job, Target, Task};
 use life_base::{Fault, Kind, MAX_LEVEL, Sink, Source, deliver};
 use life_canon::laws::{patterns_stay, refusals_have_kinds};
-use life_canon::{Pattern, five_lines_of, read_from, rle_of, run_canon};
+use life_canon::{Pattern, five_lines_of, rle_of};
 use life_quad::Shared;
+use pattern_sources::{
+    MOST_SQUARES, Refusal, Seeds, pattern_of, status, tell, text_of_source, write_canonical,
+};
 use std::alloc::Global;
-
-/// How many different squares a store of the program holds at most.
-pub(crate) const MOST_SQUARES: u64 = 1 << 31;
 
 /// What a task made of its files, before any of it is written.
 #[derive(Drop)]
@@ -64,47 +62,6 @@ fn write_whole<W: Sink>(writer: &mut W, text: &[u8]) -> Result<(), Refusal>
         Ok(()) => Ok(()),
         Err(kind) => Err(Fault::of(kind).into()),
     }
-}
-
-/// The pattern of a source, read into the store.
-pub(crate) fn pattern_of<A: Source>(
-    alloc: Global,
-    store: &mut Shared,
-    source: &mut A,
-) -> Result<Pattern, Fault>
-    requires { A.failures source.old ≡ 0 }
-    ensures reads { ReadsPattern (2 ^ 30) store.old store.new
-        (source_run A.remaining A.failures source.old source.new) result }
-    ensures only { IfOk result (ReadsWhole (2 ^ 30) store.old store.new
-        (source_run A.remaining A.failures source.old source.new)) }
-    ensures squares { AreOfInput (held store.old) (A.remaining source.old) (held store.new) }
-{
-    let pattern = read_from(alloc, store, source);
-    // Its contract says that a store holds each square once, and none that is blank.
-    let _ = store.len();
-    pattern
-}
-
-/// Reads the pattern of a source into the store, and writes its canonical text.
-pub(crate) fn write_canonical<A: Source, O: Sink>(
-    alloc: Global,
-    store: &mut Shared,
-    source: &mut A,
-    out: &mut O,
-) -> Result<(), Fault>
-    requires { AreWorking A.failures O.failures O.stalled source.old out.old }
-    ensures runs { RunsCanon (2 ^ 30) store.old store.new
-        (source_run A.remaining A.failures source.old source.new)
-        (sink_run O.contents O.failures O.stalled out.old out.new) result }
-    ensures squares { AreOfInput (held store.old) (A.remaining source.old) (held store.new) }
-    ensures flushed { OnOk result (O.flushed out.new ≡ true) }
-    ensures unwritten { IfErr result
-        (λ fault. fault.kind ≢ Kind.WriteFault → out.new ≡ out.old) }
-{
-    let ran = run_canon(alloc, store, source, out);
-    // As in `pattern_of`.
-    let _ = store.len();
-    ran
 }
 
 /// The text in extended RLE of a source's pattern.

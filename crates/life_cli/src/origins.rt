@@ -1,37 +1,17 @@
 //! The files that the words name, and the order in which they are opened.
 
 ghost use Rattle.std.specs.Prelude.{◌≡◌, ◌↔◌, IsSome, IfOk, IfErr, IfSome, OnErr, false};
-ghost use Rattle.life_cli.specs.Words.{has_failed, IsOriginOf, OpensFiles, FailsToOpen};
+ghost use Rattle.life_cli.specs.Words.{has_failed, OpensFiles, FailsToOpen};
 
-use crate::plans::TaskPlan;
+use command_line::{Origin, TaskPlan, origin_of};
 use life_base::{Device, Kind};
 use std::io::{Read, Result as IoResult};
-
-/// What a word names.
-#[derive(Clone, Copy)]
-pub enum Origin<'a> {
-    /// Standard input.
-    Standard,
-    /// The file of this name.
-    File(&'a str),
-}
 
 /// A file that was opened: what it is read from, and about how many bytes it has, or 0.
 #[derive(Drop)]
 pub struct Opened<R> {
     pub input: R,
     pub bytes: u64,
-}
-
-/// What a word names: `-` is standard input, and each other word a file.
-pub(crate) fn origin_of(word: &str) -> Origin<'_>
-    ensures { IsOriginOf word.now result }
-{
-    if word == "-" {
-        Origin::Standard
-    } else {
-        Origin::File(word)
-    }
 }
 
 /// Opens the files of a plan by `opener`, the first one first.

@@ -3,21 +3,10 @@
 ghost use Rattle.std.specs.Prelude.{◌≡◌};
 ghost use Rattle.life_cli.specs.Words.{sink_run, fault_of, fault_line, refusal_of, status_of, Tells, is_asked, is_out_of_memory, text_line, text_status, usage_line, usage_status, words_line, words_status};
 
-use crate::plans::Usage;
-use crate::refusals::{Refusal, status, tell};
 use clap::error::ErrorKind;
-use life_base::{Fault, Kind, Sink, write_text};
-
-/// Writes the line of a fault that is none of a file's text, and returns its status.
-pub fn refuse<E: Sink>(err: &mut E, kind: Kind) -> u8
-    requires { E.failures err.old ≡ 0 }
-    ensures told { Tells (sink_run E.contents E.failures E.stalled err.old err.new)
-        (fault_line (refusal_of (fault_of kind))) }
-    ensures status { result ≡ status_of kind }
-{
-    tell(err, &Refusal::from(Fault::of(kind)));
-    status(kind)
-}
+use command_line::Usage;
+use life_base::{Kind, Sink, write_text};
+use pattern_sources::refuse;
 
 /// Writes the line of words that are at fault, and returns the status.
 fn misuse<E: Sink>(err: &mut E, line: &[u8]) -> u8

@@ -3,13 +3,11 @@
 ghost use Rattle.std.specs.Prelude.{◌≡◌, ◌⊎◌, ◌^◌, IfOk, IfErr, IsErrAnd};
 ghost use Rattle.life_cli.specs.Words.{source_run, ReadAll, fault_of, IsStepped, IsSteppedBy, InputRefuses, OfTable, ComesOf, RefusesStep, RefusesStepBy, HasTable, HasNoTable, HasTextByTable, HasNoTextByTable};
 
-use crate::jobs::{MOST_SQUARES, pattern_of};
-use crate::refusals::Refusal;
-use crate::seeds::Seeds;
 use life_base::{Fault, Kind, Source, read_within};
 use life_quad::Shared;
 use life_step::{next_by_rule, next_by_table};
 use life_table::{Table, read_table_seeded};
+use pattern_sources::{MOST_SQUARES, Refusal, Seeds, pattern_of};
 use std::alloc::Global;
 
 /// The most bytes of a rule table.

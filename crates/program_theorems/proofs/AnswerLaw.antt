@@ -11,14 +11,14 @@ use Rattle.life_canon.specs.Least.{IsLeastText}
 use Rattle.life_canon.specs.Listing.{canon_text, canonical_file}
 use Rattle.life_canon.specs.Texts.{IsCanonical}
 use Rattle.life_canon.specs.Texts.{IsShown as LayerShown}
-use Rattle.life_cli.specs.Forms.{IsTextIn as LayerTextIn}
+use Rattle.pattern_sources.specs.Forms.{IsTextIn as LayerTextIn}
 use Rattle.life_cli.specs.Jobs.{Compares, Writes, HasAnswer}
-use Rattle.life_cli.specs.Plans.{HasSecond as LayerSecond}
-use Rattle.life_cli.specs.declared.plans.Form.{Form}
-use Rattle.life_cli.specs.declared.plans.Form.TheVariants.{Placed, Moved, Turned}
-use Rattle.life_cli.specs.declared.plans.Task.{Task}
-use Rattle.life_cli.specs.declared.plans.Task.TheVariants as tasks
-use Rattle.life_cli.specs.declared.plans.Target.TheVariants.{Rle, Mc}
+use Rattle.command_line.specs.Plans.{HasSecond as LayerSecond}
+use Rattle.command_line.specs.declared.plans.Form.{Form}
+use Rattle.command_line.specs.declared.plans.Form.TheVariants.{Placed, Moved, Turned}
+use Rattle.command_line.specs.declared.plans.Task.{Task}
+use Rattle.command_line.specs.declared.plans.Task.TheVariants as tasks
+use Rattle.command_line.specs.declared.plans.Target.TheVariants.{Rle, Mc}
 use Rattle.claims.specs.Counting.{node_lines, IsCanonicalText}
 use Rattle.claims.specs.Files.{pattern_of, Same}
 use Rattle.claims.specs.Pattern.{Pattern}

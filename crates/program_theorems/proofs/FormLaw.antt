@@ -13,11 +13,10 @@ use Rattle.life_forms.specs.Images.{IsTurnedText}
 use Rattle.life_forms.specs.Turns.{turn_of}
 use Rattle.life_quad.specs.declared.turning.Turn.{Turn}
 use Rattle.life_forms.specs.Turns as layer
-use Rattle.life_cli.specs.Forms.{AreOfOneGeneration, AreSameIn, IsMovedText, SayRelated, SaysText}
-use Rattle.life_cli.specs.Forms.{HasTooMany as LayerTooMany}
-use Rattle.life_cli.specs.Forms.{IsTextIn as LayerTextIn}
-use Rattle.life_cli.specs.declared.plans.Form.{Form}
-use Rattle.life_cli.specs.declared.plans.Form.TheVariants.{Placed, Moved, Turned}
+use Rattle.life_cli.specs.Forms.{AreOfOneGeneration, AreSameIn, SayRelated, HasTooMany as LayerTooMany}
+use Rattle.pattern_sources.specs.Forms.{IsMovedText, SaysText, IsTextIn as LayerTextIn}
+use Rattle.command_line.specs.declared.plans.Form.{Form}
+use Rattle.command_line.specs.declared.plans.Form.TheVariants.{Placed, Moved, Turned}
 use Rattle.claims.specs.Files.{pattern_of}
 use Rattle.claims.specs.Generation.{SaysMoreCells}
 use Rattle.claims.specs.Pattern.{Pattern}

@@ -11,8 +11,7 @@ use Rattle.life_forms.specs.Images.{IsTurnedText as LayerTurnedText}
 use Rattle.life_forms.specs.Turns.{turn_of}
 use Rattle.life_forms.specs.Turns as layer
 use Rattle.life_quad.specs.declared.turning.Turn.{Turn}
-use Rattle.life_cli.specs.Forms.{SaysText}
-use Rattle.life_cli.specs.Forms.{IsMovedText as LayerMovedText}
+use Rattle.pattern_sources.specs.Forms.{SaysText, IsMovedText as LayerMovedText}
 use Rattle.claims.specs.Pattern.{Pattern}
 use Rattle.claims.specs.Shown.{IsLeastBox}
 use Rattle.claims.proofs.RuleLaw.{rule_in}

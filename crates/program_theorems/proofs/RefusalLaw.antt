@@ -20,17 +20,18 @@ use Rattle.life_canon.specs.Running as running
 use Rattle.life_canon.specs.Texts.{IsCanonical, IsRleOf}
 use Rattle.life_canon.specs.Texts.{IsShown as LayerShown}
 use Rattle.life_step.specs.Stepped.{IsStepped as LayerStepped}
-use Rattle.life_cli.specs.Faults.{is_of_table, place_text, Tells}
-use Rattle.life_cli.specs.Faults.{fault_line as layer_line, status_of as layer_status}
+use Rattle.pattern_sources.specs.Faults.{is_of_table, place_text, Tells, fault_line as layer_line, status_of as layer_status}
 use Rattle.life_cli.specs.Jobs as layer
-use Rattle.life_cli.specs.Plans.{HasSecond as LayerSecond}
-use Rattle.life_cli.specs.Forms.{HasTooMany as LayerTooMany, IsTextIn as LayerTextIn}
-use Rattle.life_cli.specs.declared.plans.Form.{Form}
-use Rattle.life_cli.specs.declared.plans.Form.TheVariants.{Placed, Moved, Turned}
-use Rattle.life_cli.specs.declared.plans.Task.{Task}
-use Rattle.life_cli.specs.declared.plans.Task.TheVariants as tasks
-use Rattle.life_cli.specs.declared.plans.Target.TheVariants.{Rle, Mc}
-use Rattle.life_cli.specs.declared.refusals.Refusal.{Refusal}
+use Rattle.pattern_sources.specs.Sources as sources
+use Rattle.command_line.specs.Plans.{HasSecond as LayerSecond}
+use Rattle.life_cli.specs.Forms.{HasTooMany as LayerTooMany}
+use Rattle.pattern_sources.specs.Forms.{IsTextIn as LayerTextIn}
+use Rattle.command_line.specs.declared.plans.Form.{Form}
+use Rattle.command_line.specs.declared.plans.Form.TheVariants.{Placed, Moved, Turned}
+use Rattle.command_line.specs.declared.plans.Task.{Task}
+use Rattle.command_line.specs.declared.plans.Task.TheVariants as tasks
+use Rattle.command_line.specs.declared.plans.Target.TheVariants.{Rle, Mc}
+use Rattle.pattern_sources.specs.declared.refusals.Refusal.{Refusal}
 use Rattle.claims.specs.Pattern.{Pattern}
 use Rattle.claims.specs.Files.{pattern_of, fault_of, IsWant}
 use Rattle.claims.specs.Generation.{SaysMoreCells, IsUnstepped, IsFirstReason}
@@ -128,7 +129,7 @@ pub data Origin (task : Task) (first second : SourceRun) (output : SinkRun) (ref
   from_sink : refusal.fault ≡ fault_of kinds.WriteFault → (status : ℕ) (text : List ℕ) → layer.HasAnswer task first second status text
       → WritesPrefix output.before output.after text → (output.failures ≡ 1) ⊎ (output.stalled ≡ true) → Origin task first second output refusal
 
-wanted : (base : List Tree) (source : SourceRun) (fault : Fault) → layer.Wants base source fault → IsWant fault
+wanted : (base : List Tree) (source : SourceRun) (fault : Fault) → sources.Wants base source fault → IsWant fault
 wanted base source fault (inl e) = inr e
 wanted base source fault (inr h) = want_as h.0 fault h.2.0
 
@@ -150,13 +151,13 @@ module _ (laws : LayersAgree) (task : Task) (first second : SourceRun) (output :
   Told of_table =
       (file other : List ℕ) → first.before ≡ Some file → (HasSecond task → second.before ≡ Some other) → Refuses task file other of_table refusal.fault
 
-  of_first_input : layer.InputRefuses first refusal.fault → Comes
-  of_first_input (layer.by_length is came) = from_length is (inl came)
-  of_first_input (layer.by_source is failed) = from_source is (inl failed)
+  of_first_input : sources.InputRefuses first refusal.fault → Comes
+  of_first_input (sources.by_length is came) = from_length is (inl came)
+  of_first_input (sources.by_source is failed) = from_source is (inl failed)
 
-  of_second_input : HasSecond task → layer.InputRefuses second refusal.fault → Comes
-  of_second_input has (layer.by_length is came) = from_length is (inr (has, came))
-  of_second_input has (layer.by_source is failed) = from_source is (inr failed)
+  of_second_input : HasSecond task → sources.InputRefuses second refusal.fault → Comes
+  of_second_input has (sources.by_length is came) = from_length is (inr (has, came))
+  of_second_input has (sources.by_source is failed) = from_source is (inr failed)
 
   -- a file has a fault
   of_pattern : refusal.in_table ≡ false → (bytes : List ℕ) → LayerRefuses 62 bytes refusal.fault → Told false → Comes
@@ -197,10 +198,10 @@ module _ (laws : LayersAgree) (task : Task) (first second : SourceRun) (output :
   module _ (gives : List ℕ → List ℕ → Type 0) (refuses : List ℕ → Fault → Type 0)
       (writes : (bytes other text : List ℕ) → gives bytes text → layer.Writes task bytes other 0 text) (alone : LayerSecond task → ⊥)
       (by : (bytes : List ℕ) → ReadAll (2 ^ 30) first.before first.after bytes → refuses bytes refusal.fault → Comes) where
-    of_no_text : layer.HasNoText refuses first refusal.fault → Comes
-    of_no_text (layer.by_input h) = of_first_input h
-    of_no_text (layer.by_file bytes read h) = by bytes read h
-    of_no_text (layer.by_want want) = from_want (wanted [] first refusal.fault want)
+    of_no_text : sources.HasNoText refuses first refusal.fault → Comes
+    of_no_text (sources.by_input h) = of_first_input h
+    of_no_text (sources.by_file bytes read h) = by bytes read h
+    of_no_text (sources.by_want want) = from_want (wanted [] first refusal.fault want)
 
     of_file : layer.FileRefuses gives refuses first output refusal.fault → Comes
     of_file (layer.by_reading h) = of_no_text h
@@ -223,7 +224,7 @@ module _ (laws : LayersAgree) (first second : SourceRun) (output : SinkRun) (ref
 
   -- a file whose cells are listed
   of_many : (task : Task) → ((file other : List ℕ) → RefusesMany file false refusal.fault → Refuses task file other false refusal.fault)
-      → refusal.in_table ≡ false → (bytes : List ℕ) → ReadAll (2 ^ 30) first.before first.after bytes → layer.RefusesMany bytes refusal.fault
+      → refusal.in_table ≡ false → (bytes : List ℕ) → ReadAll (2 ^ 30) first.before first.after bytes → sources.RefusesMany bytes refusal.fault
       → Origin task first second output refusal
   of_many task to e bytes read (inl h) =
       of_pattern laws task first second output refusal e bytes h
@@ -236,7 +237,7 @@ module _ (laws : LayersAgree) (first second : SourceRun) (output : SinkRun) (ref
         inr (m.0, subst (SaysMoreCells (2 ^ 20)) (all_read (2 ^ 30) first.before first.after file bytes read f) (says_more bytes m.1)),
       ))
 
-  of_moved : refusal.in_table ≡ false → (bytes : List ℕ) → ReadAll (2 ^ 30) first.before first.after bytes → layer.RefusesInForm Moved bytes refusal.fault
+  of_moved : refusal.in_table ≡ false → (bytes : List ℕ) → ReadAll (2 ^ 30) first.before first.after bytes → sources.RefusesInForm Moved bytes refusal.fault
       → Origin (tasks.Canon Moved) first second output refusal
   of_moved e bytes read (inl h) = of_many (tasks.Canon Moved) (λ file other h. h) e bytes read h
   of_moved e bytes read (inr want) = from_want (want_as want.0 refusal.fault want.2)
@@ -363,10 +364,10 @@ module _ (laws : LayersAgree) (first second : SourceRun) (output : SinkRun) (ref
           | inr none ↦ line_of_none refusal true none
         ])
 
-    of_table_text : layer.HasNoText (layer.RefusesStepBy table) first refusal.fault → Origin tasks.StepTable first second output refusal
-    of_table_text (layer.by_input h) = of_first_input laws tasks.StepTable first second output refusal h
-    of_table_text (layer.by_file bytes read h) = of_step_by bytes read h
-    of_table_text (layer.by_want want) = from_want (wanted [] first refusal.fault want)
+    of_table_text : sources.HasNoText (layer.RefusesStepBy table) first refusal.fault → Origin tasks.StepTable first second output refusal
+    of_table_text (sources.by_input h) = of_first_input laws tasks.StepTable first second output refusal h
+    of_table_text (sources.by_file bytes read h) = of_step_by bytes read h
+    of_table_text (sources.by_want want) = from_want (wanted [] first refusal.fault want)
 
   of_table_task : layer.TaskRefuses tasks.StepTable first second output refusal → Origin tasks.StepTable first second output refusal
   of_table_task (inl (inl h)) = of_no_table h.0.0 h.0.1
@@ -394,13 +395,13 @@ origin_of laws (tasks.Convert Mc) first second output refusal h =
     of_canon laws (tasks.Convert Mc) first second output refusal (λ bytes other text c. (refl, c)) (λ has. has) h.0 (λ file other r. (r.0, refl, r.1)) h.1.0
     h.1.2
 origin_of laws (tasks.Canon Moved) first second output refusal h =
-    of_file laws (tasks.Canon Moved) first second output refusal (LayerTextIn Moved 62) (layer.RefusesInForm Moved) (λ bytes other text is. (refl, is))
+    of_file laws (tasks.Canon Moved) first second output refusal (LayerTextIn Moved 62) (sources.RefusesInForm Moved) (λ bytes other text is. (refl, is))
     (λ has. has) (of_moved laws first second output refusal h.0) h.1
 origin_of laws (tasks.Canon Turned) first second output refusal h =
-    of_file laws (tasks.Canon Turned) first second output refusal (LayerTextIn Turned 62) (layer.RefusesInForm Turned) (λ bytes other text is. (refl, is))
+    of_file laws (tasks.Canon Turned) first second output refusal (LayerTextIn Turned 62) (sources.RefusesInForm Turned) (λ bytes other text is. (refl, is))
     (λ has. has) (of_many laws first second output refusal (tasks.Canon Turned) (λ file other h. h) h.0) h.1
 origin_of laws (tasks.Convert Rle) first second output refusal h =
-    of_file laws (tasks.Convert Rle) first second output refusal (IsRleOf 62 (2 ^ 20)) layer.RefusesMany (λ bytes other text is. (refl, is)) (λ has. has)
+    of_file laws (tasks.Convert Rle) first second output refusal (IsRleOf 62 (2 ^ 20)) sources.RefusesMany (λ bytes other text is. (refl, is)) (λ has. has)
     (of_many laws first second output refusal (tasks.Convert Rle) (λ file other h. h) h.0) h.1
 origin_of laws (tasks.Same form) first second output refusal h = of_same laws first second output refusal form h.0 h.1
 origin_of laws tasks.Show first second output refusal h =

@@ -3,11 +3,11 @@ use Rattle.std.specs.Prelude.{◌≡◌, ◌⊎◌, ◌↔◌, ℕ, ◌^◌, ◌
 use Rattle.life_base.specs.Text.{begins_with}
 use Rattle.life_base.specs.declared.fault.Fault.{Fault}
 use Rattle.life_base.specs.declared.kind.Kind.TheVariants.{ReadFault, WriteFault, InputTooLong, TooManyCells}
-use Rattle.life_cli.specs.declared.plans.Form.{Form}
-use Rattle.life_cli.specs.declared.plans.Form.TheVariants.{Placed, Moved, Turned}
-use Rattle.life_cli.specs.declared.plans.Task.{Task}
-use Rattle.life_cli.specs.declared.plans.Task.TheVariants as tasks
-use Rattle.life_cli.specs.declared.plans.Target.TheVariants.{Rle, Mc}
+use Rattle.command_line.specs.declared.plans.Form.{Form}
+use Rattle.command_line.specs.declared.plans.Form.TheVariants.{Placed, Moved, Turned}
+use Rattle.command_line.specs.declared.plans.Task.{Task}
+use Rattle.command_line.specs.declared.plans.Task.TheVariants as tasks
+use Rattle.command_line.specs.declared.plans.Target.TheVariants.{Rle, Mc}
 use Rattle.claims.specs.Pattern.{Pattern}
 use Rattle.claims.specs.Files.{pattern_of, fault_of, Same, IsWant}
 use Rattle.claims.specs.Counting.{node_lines, IsCanonicalText}

@@ -1,5 +1,5 @@
 use Rattle.std.proofs.lemmas.Result.{err_from_is_err_and}
-use Rattle.life_cli.specs.Plans.{WritesPlacedText}
+use Rattle.life_cli.specs.Jobs.{WritesPlacedText}
 use Rattle.life_cli.proofs.WorkLemmas.{none_failed, not_so, ran_canonical, ran_done, ran_unmade, ran_unwritten}
 use Rattle.life_cli.proofs.jobs.carry_out.Goals as goal
 

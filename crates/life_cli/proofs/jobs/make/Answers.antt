@@ -3,11 +3,12 @@ use Rattle.life_base.specs.declared.cell.TheConstants.{MAX_LEVEL}
 use Rattle.life_canon.specs.Files.{Refuses}
 use Rattle.life_canon.specs.Texts.{IsRleOf, IsShown}
 use Rattle.life_step.specs.Stepped.{IsStepped}
-use Rattle.life_cli.specs.Forms.{IsTextIn}
-use Rattle.life_cli.specs.Jobs.{by_reading, RefusesInForm, RefusesMany, RefusesStep}
+use Rattle.pattern_sources.specs.Forms.{IsTextIn}
+use Rattle.life_cli.specs.Jobs.{by_reading, RefusesStep}
+use Rattle.pattern_sources.specs.Sources.{RefusesInForm, RefusesMany}
 use Rattle.life_cli.specs.declared.jobs.Made.TheVariants.{Text}
-use Rattle.life_cli.specs.declared.plans.Task.TheVariants.{Canon, Convert, Show, Step}
-use Rattle.life_cli.specs.declared.plans.Target.TheVariants.{Rle}
+use Rattle.command_line.specs.declared.plans.Task.TheVariants.{Canon, Convert, Show, Step}
+use Rattle.command_line.specs.declared.plans.Target.TheVariants.{Rle}
 use Rattle.life_cli.proofs.WorkLemmas.{made_of_comparison, made_of_step, made_of_text, none_failed, refused_form}
 use Rattle.life_cli.proofs.jobs.make.Goals as goal
 use Rattle.life_cli.proofs.jobs.make.Goals.{in-Canon-default, in-Convert-Rle-default, in-Same-Some, in-Show-default, in-Step-default, in-StepTable-Some}

@@ -1,6 +1,7 @@
 use Rattle.std.proofs.Common.{ap, Err}
 use Rattle.life_base.specs.declared.fault.Fault.{Fault}
-use Rattle.life_cli.proofs.WorkLemmas.{no_file, too_small}
+use Rattle.life_cli.proofs.WorkLemmas.{no_file}
+use Rattle.pattern_sources.proofs.SourceLemmas.{too_small}
 use Rattle.life_cli.proofs.jobs.pattern_in.Goals as goal
 
 pub returns-in-Ok-clause-pattern : goal.returns-in-Ok-clause-pattern

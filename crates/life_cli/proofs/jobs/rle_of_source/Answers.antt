@@ -2,8 +2,9 @@ use Rattle.std.proofs.Common.{◌^◌, inl}
 use Rattle.std.proofs.lemmas.Result.{err_from_is_err_and}
 use Rattle.life_base.specs.declared.cell.TheConstants.{MAX_LEVEL}
 use Rattle.life_canon.specs.Texts.{IsRleOf}
-use Rattle.life_cli.specs.Jobs.{RefusesMany}
-use Rattle.life_cli.proofs.WorkLemmas.{comes_of_pattern, nothing_comes, refused_rle}
+use Rattle.pattern_sources.specs.Sources.{RefusesMany}
+use Rattle.pattern_sources.proofs.SourceLemmas.{comes_of_pattern, nothing_comes}
+use Rattle.life_cli.proofs.WorkLemmas.{refused_rle}
 use Rattle.life_cli.proofs.jobs.rle_of_source.Goals as goal
 
 pub returns-in_err-pattern : goal.returns-in_err-pattern

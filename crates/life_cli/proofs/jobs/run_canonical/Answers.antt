@@ -1,7 +1,7 @@
 use Rattle.std.proofs.Common.{◌∙◌, ap, refl, Err}
 use Rattle.std.proofs.lemmas.Result.{err_from_is_err_and}
 use Rattle.life_base.specs.declared.fault.Fault.{Fault}
-use Rattle.life_cli.proofs.WorkLemmas.{too_small_alone}
+use Rattle.pattern_sources.proofs.SourceLemmas.{too_small_alone}
 use Rattle.life_cli.proofs.jobs.run_canonical.Goals as goal
 
 pub returns-in_err-write_canonical-clause-unwritten : goal.returns-in_err-write_canonical-clause-unwritten

@@ -6,7 +6,8 @@ use Rattle.life_canon.specs.Universe.{Universe}
 use Rattle.life_step.specs.Refusals.{SomeByTable, TableRefusal}
 use Rattle.life_step.specs.Stepped.{IsSteppedBy}
 use Rattle.life_cli.specs.Jobs.{RefusesStepBy}
-use Rattle.life_cli.proofs.WorkLemmas.{comes_of_pattern, nothing_comes, refused_step}
+use Rattle.pattern_sources.proofs.SourceLemmas.{comes_of_pattern, nothing_comes}
+use Rattle.life_cli.proofs.WorkLemmas.{refused_step}
 use Rattle.life_cli.proofs.steps.next_by.Goals as goal
 
 pub returns-in_err-pattern : goal.returns-in_err-pattern

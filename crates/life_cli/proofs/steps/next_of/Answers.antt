@@ -6,7 +6,8 @@ use Rattle.life_canon.specs.Universe.{Universe}
 use Rattle.life_step.specs.Refusals.{LifeRefusal, SomeByRule}
 use Rattle.life_step.specs.Stepped.{IsStepped}
 use Rattle.life_cli.specs.Jobs.{RefusesStep}
-use Rattle.life_cli.proofs.WorkLemmas.{comes_of_pattern, nothing_comes, refused_step}
+use Rattle.pattern_sources.proofs.SourceLemmas.{comes_of_pattern, nothing_comes}
+use Rattle.life_cli.proofs.WorkLemmas.{refused_step}
 use Rattle.life_cli.proofs.steps.next_of.Goals as goal
 
 pub returns-in_err-pattern : goal.returns-in_err-pattern

@@ -1,7 +1,7 @@
 use Rattle.std.proofs.Common.{◌≡◌, ◌⊎◌, ◌<◌, ℕ, take, arith, inl, inr, sym, subst, ◌∙◌, IsSomeAnd}
 use Rattle.life_base.specs.declared.kind.Kind.TheVariants.{ReadFault}
 use Rattle.life_base.specs.DeviceRuns.{source_run, optional_source_run, sink_run}
-use Rattle.life_cli.specs.Faults.{fault_line}
+use Rattle.pattern_sources.specs.Faults.{fault_line}
 use Rattle.theorems.proofs.StreamLaw.{appended}
 use Rattle.program_theorems.proofs.AnswerLaw.{given_second, second_before, second_after, answered, first_ended, second_ended}
 use Rattle.program_theorems.proofs.RefusalLaw.{origin_of, reason_of, cut_of, no_cause, held_by, some_failed, told_of_some, same_status}

@@ -1,0 +1,3 @@
+pub mod MatchesLemmas
+pub mod LineLemmas
+pub mod Faultless

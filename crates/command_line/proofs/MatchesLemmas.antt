@@ -1,0 +1,130 @@
+-- From what the getters of `clap` read to the matches that it states.
+use Rattle.std.specs.Prelude.{unwrap_or}
+use Rattle.std.proofs.Common.{◌≡◌, ◌≢◌, codes, ◌↔◌, ◌+◌, cond, fold, ◌∙◌, option_map, refl, ℕ, Bool, map, count_by, Bor, List, [], ◌∷◌, Option, Some, None, IsSome, IfOk, IfErr, Result, Ok, Err, true, ap, sym, subst, inl, inr}
+use Rattle.clap.specs.Words.{App, Kinds, FailsBy, fault_of, is_simple_and_free}
+use Rattle.clap.specs.Words.{Row, Text, first_of, matched_of, raw_values, rows_of}
+use Rattle.clap.specs.declared.parser.matches.Found.{Found}
+use Rattle.clap.proofs.WalkLemmas.{raw_values-rows}
+use Rattle.clap.specs.declared.error.Error.{Error}
+use Rattle.clap.specs.declared.error.kind.ErrorKind.{ErrorKind}
+use Rattle.clap.specs.declared.error.kind.ErrorKind.TheVariants.{InvalidSubcommand, InvalidValue}
+use Rattle.command_line.specs.Plans.{AreOfAnyFiles, Explains, ExplainsPlan, HasSecond, HoldsForm, HoldsMatches, IfWork, IsKeysPlanOf, IsRequestOf, IsTaskPlanOf, NamesInputTwice}
+use Rattle.command_line.specs.Plans.{NamesOtherForm, RefusesAs, RefusesWord, TakesAnyFiles, TakesOtherForm, command_of, form_word, values_of}
+use Rattle.command_line.specs.declared.plans.Form.{Form}
+use Rattle.command_line.specs.declared.plans.Form.TheVariants.{Placed}
+use Rattle.command_line.specs.declared.plans.KeysPlan.{KeysPlan}
+use Rattle.command_line.specs.declared.plans.Task.{Task}
+use Rattle.command_line.specs.declared.plans.Task.TheVariants.{Canon, Convert, Same, Show, Step, StepTable}
+use Rattle.command_line.specs.declared.plans.TaskPlan.{TaskPlan}
+use Rattle.command_line.specs.declared.plans.Request.{Request}
+use Rattle.command_line.specs.declared.plans.Request.TheVariants.{Work, Keys, Duplicates}
+use Rattle.command_line.specs.declared.plans.Usage.{Usage}
+use Rattle.command_line.specs.declared.plans.Usage.TheVariants.{Words, TwoInputs, Memory}
+
+has_none : {X : Type 0} (o : Option X) → o ≡ None → ¬ IsSome o
+has_none None none some = absurd cc
+has_none (Some x) none some = absurd cc
+
+-- a plan has a second file exactly if its task does
+files_of_task : (task : Task) (rows : List Row) (p : TaskPlan) → HoldsMatches task rows p → IsSome p.second ↔ HasSecond task
+files_of_task (Canon form) rows p ((file, none), is) = (λ some. absurd (has_none p.second none some), λ bad. absurd bad)
+files_of_task (Convert target) rows p ((file, none), to) = (λ some. absurd (has_none p.second none some), λ bad. absurd bad)
+files_of_task (Same form) rows p ((first, second, some), is) = (λ there. tt, λ has. some)
+files_of_task Show rows p (file, none) = (λ some. absurd (has_none p.second none some), λ bad. absurd bad)
+files_of_task Step rows p ((file, none), table) = (λ some. absurd (has_none p.second none some), λ bad. absurd bad)
+files_of_task StepTable rows p (first, second, some) = (λ there. tt, λ has. some)
+
+files_of : (matches : Option (Text × List Row)) (p : TaskPlan) → IsTaskPlanOf matches p → IsSome p.second ↔ HasSecond p.task
+files_of None p is = absurd is
+files_of (Some m) p is = files_of_task p.task m.1 p is.1
+
+files_of_one : (matches : Option (Text × List Row)) (q : Request) → IsRequestOf matches q → IfWork (λ p. IsSome p.second ↔ HasSecond p.task) q
+files_of_one matches (Work p) is = files_of matches p is
+files_of_one matches (Keys p) is = tt
+files_of_one matches (Duplicates p) is = tt
+
+pub files_of_request : (matches : Option (Text × List Row)) (r : Result Request Usage) → IfOk r (IsRequestOf matches)
+    → IfOk r (IfWork (λ p. IsSome p.second ↔ HasSecond p.task))
+files_of_request matches (Ok q) is = files_of_one matches q is
+files_of_request matches (Err u) is = tt
+
+-- the refusal of words of which this holds, and so that
+refuses_weaker : {A B : Type 0} (kind : ErrorKind) (usage : Usage) → (A → B) → RefusesAs kind A usage → RefusesAs kind B usage
+refuses_weaker kind (Words error) f (inl h) = inl (f h.0, h.1)
+refuses_weaker kind (Words error) f (inr out) = inr out
+refuses_weaker kind TwoInputs f h = absurd h
+refuses_weaker kind Memory f h = absurd h
+
+pub such_as : (kind : ErrorKind) (is_such : Type 0) (usage : Usage) → RefusesAs kind (Unit {0}) usage → is_such → RefusesAs kind is_such usage
+such_as kind is_such usage h such = refuses_weaker kind usage (λ any. such) h
+
+-- names that are counted behind references
+counted_from : (test : List ℕ → Bool) (a : ℕ) (names : List (Bor (List ℕ))) → fold (λ (n : ℕ) (name : Bor (List ℕ)). n + cond (test name.now) 1 0) a names
+    ≡ fold (λ (n : ℕ) (name : List ℕ). n + cond (test name) 1 0) a (map (λ name. name.now) names)
+counted_from test a [] = refl
+counted_from test a (name ∷ names) = counted_from test (a + cond (test name.now) 1 0) names
+
+pub count_behind : (test : List ℕ → Bool) (names : List (Bor (List ℕ))) → count_by (λ name. test name.now) names ≡ count_by test (map (λ name. name.now) names)
+count_behind test names = counted_from test 0 names
+
+-- the refusal of a word that is such a one
+pub such_word : (is_such : Type 0) (usage : Usage) → RefusesWord (Unit {0}) usage → is_such → RefusesWord is_such usage
+such_word is_such usage h such = such_as InvalidValue is_such usage h such
+
+-- the same refusal by other words for the matches, where there is no fault
+pub in_matches : {X : Type 0} (faults : Kinds) (found matches : Option (Text × List Row)) (r : Result X Usage) → faults ≡ [] → found ≡ matches
+    → IfErr r (Explains [] found) → IfErr r (Explains faults matches)
+in_matches faults found matches (Ok x) none same h = tt
+in_matches faults found matches (Err u) none same h =
+    let here = subst (λ (m : Option (Text × List Row)). Explains [] m u) same h in
+    subst (λ (k : Kinds). Explains k matches u) (sym none) here
+
+-- another form than that of a pattern as it lies is one that was asked for
+form_found : (rows : List Row) (form : Form) → HoldsForm Placed rows form → form ≢ Placed
+    → (f : Form) × (f ≢ Placed) × (first_of (codes "form") rows ≡ Some (form_word f))
+form_found rows form (inl (none, placed)) other = absurd (other placed)
+form_found rows form (inr is) other = (form, other, is)
+
+form_named : (task : Task) (m : Text × List Row) (p : TaskPlan) → m.0 ≡ command_of task → HoldsMatches task m.1 p → TakesOtherForm task
+    → NamesOtherForm (Some m)
+form_named (Canon form) m p is (file, held) other = (inl is, form_found m.1 form held other)
+form_named (Convert target) m p is held other = absurd other
+form_named (Same form) m p is (files, held) other = (inr is, form_found m.1 form held other)
+form_named Show m p is held other = absurd other
+form_named Step m p is held other = absurd other
+form_named StepTable m p is held other = absurd other
+
+form_of_plan : (matches : Option (Text × List Row)) (p : TaskPlan) → IsTaskPlanOf matches p → TakesOtherForm p.task → NamesOtherForm matches
+form_of_plan None p is other = absurd is
+form_of_plan (Some m) p is other = form_named p.task m p is.0 is.1 other
+
+-- why words that ask for a task in another form have no plan for a job
+pub no_plan_of_form : {X : Type 0} (faults : Kinds) (matches : Option (Text × List Row)) (p : TaskPlan) (r : Result X Usage) → faults ≡ []
+    → IsTaskPlanOf matches p → ¬ NamesInputTwice matches → IfErr r (RefusesWord (TakesOtherForm p.task)) → IfErr r (ExplainsPlan faults matches)
+no_plan_of_form faults matches p (Ok x) none is once h = tt
+no_plan_of_form faults matches p (Err u) none is once h = inr (none, once, inr (refuses_weaker InvalidValue u (form_of_plan matches p is) h))
+
+-- why words that ask for keys or duplicates have none
+pub no_plan_of_files : (command : Text) (default : Form) (faults : Kinds) (matches : Option (Text × List Row)) (p : KeysPlan) (u : Usage)
+    → TakesAnyFiles command → faults ≡ [] → IsKeysPlanOf command default matches p → ¬ NamesInputTwice matches → RefusesAs InvalidSubcommand (Unit {0}) u
+    → ExplainsPlan faults matches u
+no_plan_of_files command default faults None p u takes none is once h = absurd is
+no_plan_of_files command default faults (Some m) p u takes none is once h =
+    let takes_here = subst TakesAnyFiles (sym is.0) takes in
+    inr (none, once, inl (such_as InvalidSubcommand (AreOfAnyFiles (Some m)) u h takes_here))
+
+-- the same of a command that is read as this line
+pub fails_by_line : {X : Type 0} (line app : App) (words : List Text) (r : Result X Error) → app ≡ line
+    → (is_simple_and_free app ≡ true → FailsBy (fault_of app words) r) → is_simple_and_free line ≡ true → FailsBy (fault_of line words) r
+fails_by_line line app words r e f simple =
+    let P : App → Type 0 = λ a. is_simple_and_free a ≡ true → FailsBy (fault_of a words) r in
+    let fails = subst P e f in
+    fails simple
+
+-- what was found for all values under a name, and for none
+pub values_found : (f : Found) (id : Text) (names : List (Bor (List ℕ))) → Some (map (λ name. name.now) names) ≡ option_map raw_values (matched_of f id)
+    → map (λ name. name.now) names ≡ values_of id (rows_of f)
+values_found f id names e = ap (λ (o : Option (List Text)). unwrap_or o []) (e ∙ raw_values-rows f id)
+
+pub values_missing : (f : Found) (id : Text) → None ≡ option_map raw_values (matched_of f id) → [] ≡ values_of id (rows_of f)
+values_missing f id e = ap (λ (o : Option (List Text)). unwrap_or o []) (e ∙ raw_values-rows f id)

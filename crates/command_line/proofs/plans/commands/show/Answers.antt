@@ -1,0 +1,6 @@
+use Rattle.std.proofs.Common.{codes}
+use Rattle.command_line.specs.CommandLine.{one_file_line}
+use Rattle.command_line.proofs.plans.commands.show.Goals as goal
+
+pub returns : goal.returns
+returns c = c.with_explain.ensures (one_file_line (codes "show")) c.in_ok-command.ensures

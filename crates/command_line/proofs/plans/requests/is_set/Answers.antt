@@ -1,0 +1,12 @@
+use Rattle.std.proofs.Common.{◌∙◌}
+use Rattle.clap.specs.Words.{found_of}
+use Rattle.clap.proofs.WalkLemmas.{one_text-rows}
+use Rattle.command_line.proofs.plans.requests.is_set.Goals as goal
+
+pub returns : goal.returns
+returns c =
+    let same = one_text-rows (found_of c.args.found.now) c.args.id.now in (
+      λ is. c.get_flag.ensures.value (same ∙ is),
+      λ is. c.get_flag.ensures.other (same ∙ is),
+      λ is. c.get_flag.ensures.none (same ∙ is),
+    )

@@ -1,0 +1,4 @@
+pub mod CommandLine
+pub mod Origins
+pub mod Plans
+pub mod Words

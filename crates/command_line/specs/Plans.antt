@@ -1,0 +1,248 @@
+-- What the words of a command line ask for.
+use Rattle.std.specs.Prelude.{◌≡◌, ◌≢◌, ◌⊎◌, ◌<◌, ◌+◌, [], ℕ, Bool, true, false, List, Option, Some, None, IsSome, MatchOption, codes, string_bytes, option_map, unwrap_or, map, count_by}
+use Rattle.std.specs.Str.{bytes_eq}
+use Rattle.clap.specs.Words.{Row, Text, Kinds, IsAmong, all_of, first_of, kind_of, one_of}
+use Rattle.clap.specs.declared.error.kind.ErrorKind.{ErrorKind}
+use Rattle.clap.specs.declared.error.kind.ErrorKind.TheVariants.{InvalidSubcommand, InvalidValue, MissingRequiredArgument, OutOfMemory}
+use Rattle.command_line.specs.declared.plans.Form.{Form}
+use Rattle.command_line.specs.declared.plans.Form.TheVariants.{Placed, Moved, Turned}
+use Rattle.command_line.specs.declared.plans.Job.{Job}
+use Rattle.command_line.specs.declared.plans.Job.TheVariants as jobs
+use Rattle.command_line.specs.declared.plans.Task.{Task}
+use Rattle.command_line.specs.declared.plans.Task.TheVariants.{Canon, Convert, Same, Show, Step, StepTable}
+use Rattle.command_line.specs.declared.plans.Target.{Target}
+use Rattle.command_line.specs.declared.plans.Target.TheVariants.{Rle, Mc}
+use Rattle.command_line.specs.declared.plans.Plan.{Plan}
+use Rattle.command_line.specs.declared.plans.TaskPlan.{TaskPlan}
+use Rattle.command_line.specs.declared.plans.KeysPlan.{KeysPlan}
+use Rattle.command_line.specs.declared.plans.Request.{Request}
+use Rattle.command_line.specs.declared.plans.Request.TheVariants.{Work, Keys, Duplicates}
+use Rattle.command_line.specs.declared.plans.Usage.{Usage}
+use Rattle.command_line.specs.declared.plans.Usage.TheVariants.{Words, TwoInputs, Memory}
+
+-- the word of a format
+abbrev pub target_word : Target → Text
+target_word Rle = codes "rle"
+target_word Mc = codes "mc"
+
+-- the word of a form
+abbrev pub form_word : Form → Text
+form_word Placed = codes "placed"
+form_word Moved = codes "moved"
+form_word Turned = codes "turned"
+
+-- the value whose word this is, or none where it is that of no value
+abbrev pub IsValueOf : {X : Type 0} → (X → Text) → Text → Option X → Type 0
+IsValueOf {X = X} word_of word value = MatchOption value ((x : X) → word ≢ word_of x) (λ x. word ≡ word_of x)
+
+-- the task of a job: the job, on patterns as they lie
+abbrev pub task_of : Job → Task
+task_of jobs.Show = Show
+task_of jobs.Canon = Canon Placed
+task_of (jobs.Convert target) = Convert target
+task_of jobs.Same = Same Placed
+task_of jobs.Step = Step
+task_of jobs.StepTable = StepTable
+
+-- the same plan, with the task of its job, and with this for whether an error is explained
+abbrev pub task_plan_of : Bool → Plan → TaskPlan
+task_plan_of explain p = record { task = task_of p.job; first = p.first; second = p.second; explain = explain }
+
+-- the task takes patterns in another form than as they lie
+abbrev pub TakesOtherForm : Task → Type 0
+TakesOtherForm (Canon form) = form ≢ Placed
+TakesOtherForm (Same form) = form ≢ Placed
+TakesOtherForm _ = ⊥
+
+-- the command of a task
+abbrev pub command_of : Task → Text
+command_of (Canon form) = codes "canon"
+command_of (Convert target) = codes "convert"
+command_of (Same form) = codes "same"
+command_of Show = codes "show"
+command_of Step = codes "step"
+command_of StepTable = codes "step"
+
+-- the task has a second file
+abbrev pub HasSecond : Task → Type 0
+HasSecond (Same form) = Unit {0}
+HasSecond StepTable = Unit {0}
+HasSecond _ = ⊥
+
+-- the only file is FILE
+abbrev pub HoldsFile : List Row → TaskPlan → Type 0
+HoldsFile rows p = (first_of (codes "FILE") rows ≡ Some (string_bytes p.first)) × (p.second ≡ None)
+
+-- the files are those under these two names
+abbrev pub HoldsFiles : Text → Text → List Row → TaskPlan → Type 0
+HoldsFiles first second rows p = (first_of first rows ≡ Some (string_bytes p.first))
+    × (first_of second rows ≡ option_map string_bytes p.second) × IsSome p.second
+
+-- the form is the one that was asked for, or where none was, the default one
+abbrev pub HoldsForm : Form → List Row → Form → Type 0
+HoldsForm default rows form =
+    ((first_of (codes "form") rows ≡ None) × (form ≡ default)) ⊎ (first_of (codes "form") rows ≡ Some (form_word form))
+
+-- the plan's files and options are those that were found for the task's command
+abbrev pub HoldsMatches : Task → List Row → TaskPlan → Type 0
+HoldsMatches (Canon form) rows p = HoldsFile rows p × HoldsForm Placed rows form
+HoldsMatches (Convert target) rows p = HoldsFile rows p × (first_of (codes "to") rows ≡ Some (target_word target))
+HoldsMatches (Same form) rows p = HoldsFiles (codes "A") (codes "B") rows p × HoldsForm Placed rows form
+HoldsMatches Show rows p = HoldsFile rows p
+HoldsMatches Step rows p = HoldsFile rows p × (first_of (codes "table") rows ≡ None)
+HoldsMatches StepTable rows p = HoldsFiles (codes "FILE") (codes "table") rows p
+
+-- all values that were found under this name
+abbrev pub values_of : Text → List Row → List Text
+values_of id rows = unwrap_or (all_of id rows) []
+
+-- the flag was given, or not
+abbrev pub HoldsFlag : Text → List Row → Bool → Type 0
+HoldsFlag id rows flag = (one_of id rows ≡ Some (codes "true") → flag ≡ true)
+    × (one_of id rows ≡ Some (codes "false") → flag ≡ false) × (one_of id rows ≡ None → flag ≡ false)
+
+-- neither a file nor a list of files was found
+abbrev pub LacksFiles : List Row → Type 0
+LacksFiles rows = (values_of (codes "FILE") rows ≡ []) × (first_of (codes "from") rows ≡ None)
+
+-- the plan of a command over any number of files has those and the options that were found for it; its form is the default one where none was found
+pub record HoldsKeys (default : Form) (rows : List Row) (p : KeysPlan) : Type 0 where
+  pub form : HoldsForm default rows p.form
+  pub files : map (λ name. name.now) p.files.items ≡ values_of (codes "FILE") rows
+  pub from : option_map (λ name. name.now) p.from ≡ first_of (codes "from") rows
+  pub zero : HoldsFlag (codes "zero") rows p.zero
+  pub json : HoldsFlag (codes "json") rows p.json
+  pub recursive : HoldsFlag (codes "recursive") rows p.recursive
+  pub some : ¬ LacksFiles rows
+
+-- the command is one over any number of files
+abbrev pub TakesAnyFiles : Text → Type 0
+TakesAnyFiles command = (command ≡ codes "keys") ⊎ (command ≡ codes "duplicates")
+
+-- the matches are those of such a command
+abbrev pub AreOfAnyFiles : Option (Text × List Row) → Type 0
+AreOfAnyFiles None = ⊥
+AreOfAnyFiles (Some matches) = TakesAnyFiles matches.0
+
+-- the plan holds the command, files and options of the matches: a command's name, and what was found for it
+abbrev pub IsTaskPlanOf : Option (Text × List Row) → TaskPlan → Type 0
+IsTaskPlanOf None p = ⊥
+IsTaskPlanOf (Some matches) p =
+    (matches.0 ≡ command_of p.task) × HoldsMatches p.task matches.1 p × HoldsFlag (codes "explain") matches.1 p.explain
+
+-- the same of a plan for a job, which doesn't store whether an error is explained: the form of the matches is that of the pattern as it lies
+abbrev pub IsPlanOf : Option (Text × List Row) → Plan → Type 0
+IsPlanOf matches p = (explain : Bool) × IsTaskPlanOf matches (task_plan_of explain p)
+
+-- the same of this command over any number of files, which takes patterns in the default form where none was asked for
+abbrev pub IsKeysPlanOf : Text → Form → Option (Text × List Row) → KeysPlan → Type 0
+IsKeysPlanOf command default None p = ⊥
+IsKeysPlanOf command default (Some matches) p = (matches.0 ≡ command) × HoldsKeys default matches.1 p
+
+-- the same of what the words ask for: `keys` takes patterns as they lie, and `duplicates` in the moved form
+abbrev pub IsRequestOf : Option (Text × List Row) → Request → Type 0
+IsRequestOf matches (Work p) = IsTaskPlanOf matches p
+IsRequestOf matches (Keys p) = IsKeysPlanOf (codes "keys") Placed matches p
+IsRequestOf matches (Duplicates p) = IsKeysPlanOf (codes "duplicates") Moved matches p
+
+-- this holds of a plan for a task, if the words ask for one
+abbrev pub IfWork : (TaskPlan → Type 0) → Request → Type 0
+IfWork Holds (Work p) = Holds p
+IfWork Holds (Keys p) = Unit {0}
+IfWork Holds (Duplicates p) = Unit {0}
+
+-- something was found under this name
+abbrev pub IsFound : Text → List Row → Type 0
+IsFound id rows = IsSome (first_of id rows)
+
+-- the files and options were found without which the task can't be done
+abbrev pub HasWanted : Task → List Row → Type 0
+HasWanted (Convert target) rows = IsFound (codes "FILE") rows × IsFound (codes "to") rows
+HasWanted (Same form) rows = IsFound (codes "A") rows × IsFound (codes "B") rows
+HasWanted _ rows = IsFound (codes "FILE") rows
+
+-- the matches are those of a task's command, with what the task wants
+abbrev pub AreOfTask : Option (Text × List Row) → Type 0
+AreOfTask None = ⊥
+AreOfTask (Some matches) = (task : Task) × (matches.0 ≡ command_of task) × HasWanted task matches.1
+
+-- the same, or those of a command over any number of files, in which `clap` wants nothing
+abbrev pub AreWhole : Option (Text × List Row) → Type 0
+AreWhole matches = AreOfTask matches ⊎ AreOfAnyFiles matches
+
+-- the word behind --to is that of no format
+abbrev pub HasNoFormat : List Row → Type 0
+HasNoFormat rows = (word : Text) × (first_of (codes "to") rows ≡ Some word) × ((t : Target) → word ≢ target_word t)
+
+-- the word behind --form is that of no form
+abbrev pub HasNoForm : List Row → Type 0
+HasNoForm rows = (word : Text) × (first_of (codes "form") rows ≡ Some word) × ((f : Form) → word ≢ form_word f)
+
+-- the refusal of words of which this holds, as this kind; or where `clap` was out of memory, as an OutOfMemory
+abbrev pub RefusesAs : ErrorKind → Type 0 → Usage → Type 0
+RefusesAs kind is_such (Words error) = (is_such × (kind_of error ≡ kind)) ⊎ (kind_of error ≡ OutOfMemory)
+RefusesAs kind is_such TwoInputs = ⊥
+RefusesAs kind is_such Memory = ⊥
+
+-- the same of such a word
+abbrev pub RefusesWord : Type 0 → Usage → Type 0
+RefusesWord is_such usage = RefusesAs InvalidValue is_such usage
+
+-- why what was found for a command over any number of files has no plan: neither a file nor a list was found, or the word behind --form is that of no form
+abbrev pub RefusesKeys : List Row → Usage → Type 0
+RefusesKeys rows usage = RefusesAs MissingRequiredArgument (LacksFiles rows) usage ⊎ RefusesWord (HasNoForm rows) usage
+
+-- the matches are those of `convert` with a word that is that of no format
+abbrev pub NamesNoFormat : Option (Text × List Row) → Type 0
+NamesNoFormat None = ⊥
+NamesNoFormat (Some matches) = (matches.0 ≡ codes "convert") × HasNoFormat matches.1
+
+-- the matches are those of `canon`, `same`, `keys` or `duplicates` with a word that is that of no form
+abbrev pub NamesNoForm : Option (Text × List Row) → Type 0
+NamesNoForm None = ⊥
+NamesNoForm (Some matches) = ((matches.0 ≡ codes "canon") ⊎ ((matches.0 ≡ codes "same") ⊎ TakesAnyFiles matches.0)) × HasNoForm matches.1
+
+-- the matches are those of `keys` or `duplicates`, with neither a file nor a list of files
+abbrev pub NamesNoFiles : Option (Text × List Row) → Type 0
+NamesNoFiles None = ⊥
+NamesNoFiles (Some matches) = TakesAnyFiles matches.0 × LacksFiles matches.1
+
+-- the matches are those of `canon` or `same` with the word of another form than that of a pattern as it lies
+abbrev pub NamesOtherForm : Option (Text × List Row) → Type 0
+NamesOtherForm None = ⊥
+NamesOtherForm (Some matches) = ((matches.0 ≡ codes "canon") ⊎ (matches.0 ≡ codes "same"))
+    × ((form : Form) × (form ≢ Placed) × (first_of (codes "form") matches.1 ≡ Some (form_word form)))
+
+-- how many of the values under this name are standard input
+abbrev pub input_count_under : Text → List Row → ℕ
+input_count_under id rows = count_by (λ text. bytes_eq text (codes "-")) (values_of id rows)
+
+-- how many of the files are standard input
+abbrev pub input_count : List Row → ℕ
+input_count rows = input_count_under (codes "FILE") rows + input_count_under (codes "A") rows + input_count_under (codes "B") rows
+    + input_count_under (codes "table") rows + input_count_under (codes "from") rows
+
+-- the matches name standard input twice
+abbrev pub NamesInputTwice : Option (Text × List Row) → Type 0
+NamesInputTwice None = ⊥
+NamesInputTwice (Some matches) = 1 < input_count matches.1
+
+-- Why words are refused in which `clap` finds these faults and these matches: since `clap` is out of memory; by the kind of a fault; in words
+-- without a fault, since the word behind --to is that of no format or the one behind --form that of no form, since `keys` or `duplicates` is given
+-- neither a file nor a list, or since standard input is named twice, which is reported before these. Memory comes only where none of that is so, and the
+-- words ask for a task: all that is left to do is to copy the names of its files.
+abbrev pub Explains : Kinds → Option (Text × List Row) → Usage → Type 0
+Explains faults matches (Words error) = (kind_of error ≡ OutOfMemory)
+    ⊎ (IsAmong (kind_of error) faults
+    ⊎ ((faults ≡ []) × (NamesNoFormat matches ⊎ NamesNoForm matches) × ¬ NamesInputTwice matches × (kind_of error ≡ InvalidValue))
+    ⊎ ((faults ≡ []) × NamesNoFiles matches × ¬ NamesInputTwice matches × (kind_of error ≡ MissingRequiredArgument)))
+Explains faults matches TwoInputs = (faults ≡ []) × NamesInputTwice matches
+Explains faults matches Memory =
+    (faults ≡ []) × AreOfTask matches × (¬ NamesNoFormat matches) × (¬ NamesNoForm matches) × (¬ NamesInputTwice matches)
+
+-- why words have no plan for a job: the same; or words without a fault that name standard input once at most ask for keys or duplicates, as an
+-- InvalidSubcommand, or for another form than that of a pattern as it lies, as an InvalidValue
+abbrev pub ExplainsPlan : Kinds → Option (Text × List Row) → Usage → Type 0
+ExplainsPlan faults matches usage = Explains faults matches usage
+    ⊎ ((faults ≡ []) × (¬ NamesInputTwice matches)
+    × (RefusesAs InvalidSubcommand (AreOfAnyFiles matches) usage ⊎ RefusesWord (NamesOtherForm matches) usage))

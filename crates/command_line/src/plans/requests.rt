@@ -1,0 +1,438 @@
+//! The plan that the words ask for.
+
+ghost use Rattle.std.specs.Prelude.{◌≡◌, ◌↔◌, ◌<◌, [], IfOk, IfErr, OnOk, MatchOption, Some, IsSome, IsTrue, map, option_map, string_bytes, codes, count_by};
+ghost use Rattle.command_line.specs.Words.{bytes_eq, found_of, first_of, rows_of, subcommand_of, subcommand_rows_of, program, AreOfTask, AreWhole, IfWork, IsFound, IsPlanOf, IsRequestOf, IsTaskPlanOf, TakesOtherForm, task_of, task_plan_of, IsValueOf, HasNoForm, HasNoFormat, HasSecond, HoldsFile, HoldsFiles, HoldsFlag, HoldsForm, HoldsKeys, NamesInputTwice, Explains, ExplainsPlan, RefusesAs, RefusesKeys, RefusesWord, form_word, input_count, input_count_under, target_word, values_of};
+ghost use Rattle.clap.specs.Words.{fault_of, kind_of};
+
+use super::commands::parse;
+use super::{Form, Job, KeysPlan, Plan, Request, Target, Task, TaskPlan, Usage};
+use clap::error::ErrorKind;
+use clap::{ArgMatches, Command, Error};
+use std::alloc::Global;
+use std::convert::AsStr;
+
+/// How the program is called, and each command with an option whose value may be wrong.
+const CALL: &str = "golly_canon <COMMAND>";
+
+const CANON: &str = "golly_canon canon [OPTIONS] <FILE>";
+
+const CONVERT: &str = "golly_canon convert --to <FORMAT> <FILE>";
+
+const SAME: &str = "golly_canon same [OPTIONS] <A> <B>";
+
+const KEYS: &str = "golly_canon keys [OPTIONS] [FILE]...";
+
+const DUPLICATES: &str = "golly_canon duplicates [OPTIONS] [FILE]...";
+
+/// The refusal of the arguments as this kind, with how the command is called and a message.
+fn refusal_as(alloc: Global, kind: ErrorKind, call: &str, message: &str) -> Usage
+    ensures { RefusesAs kind (Unit {0}) result }
+{
+    let mut command = Command::new(alloc, "golly_canon").override_usage(call);
+    match command.error(kind, message) {
+        Ok(error) => Usage::Words(error),
+        Err(refused) => Usage::Words(Error::from(refused)),
+    }
+}
+
+/// The refusal of the value of an option, with how the command is called and the message that says which values there are.
+fn refusal(alloc: Global, call: &str, message: &str) -> Usage
+    ensures { RefusesWord (Unit {0}) result }
+{
+    refusal_as(alloc, ErrorKind::InvalidValue, call, message)
+}
+
+/// The first value of an option or a file.
+fn value<'a>(found: &ArgMatches<'a>, id: &str) -> Option<&'a str>
+    ensures { option_map (λ text. text.now) result
+        ≡ first_of id.now (rows_of (found_of found.now)) }
+{
+    found.get_str(id)
+}
+
+fn required(alloc: Global, found: &ArgMatches<'_>, id: &str) -> Result<String, Usage>
+    requires { IsFound id.now (rows_of (found_of found.now)) }
+    ensures ok { IfOk result
+        (λ s. first_of id.now (rows_of (found_of found.now)) ≡ Some (string_bytes s)) }
+    ensures err { IfErr result (λ usage. usage ≡ Usage.Memory) }
+{
+    let Some(text) = value(found, id) else {
+        unreachable!()
+    };
+    Ok(String::from_str(alloc, text)?)
+}
+
+/// The format of a word.
+fn target_named(word: &str) -> Option<Target>
+    ensures { IsValueOf target_word word.now result }
+{
+    match word {
+        "rle" => Some(Target::Rle),
+        "mc" => Some(Target::Mc),
+        _ => None,
+    }
+}
+
+/// The format that `--to` names.
+fn target(alloc: Global, found: &ArgMatches<'_>) -> Result<Target, Usage>
+    requires { IsFound (codes "to") (rows_of (found_of found.now)) }
+    ensures ok { IfOk result
+        (λ t. first_of (codes "to") (rows_of (found_of found.now)) ≡ Some (target_word t)) }
+    ensures err { IfErr result (RefusesWord (HasNoFormat (rows_of (found_of found.now)))) }
+{
+    match value(found, "to") {
+        Some(word) => match target_named(word) {
+            Some(target) => Ok(target),
+            None => Err(refusal(alloc, CONVERT, "the value of --to is rle or mc")),
+        },
+        None => unreachable!(),
+    }
+}
+
+/// The form of a word.
+fn form_named(word: &str) -> Option<Form>
+    ensures { IsValueOf form_word word.now result }
+{
+    match word {
+        "placed" => Some(Form::Placed),
+        "moved" => Some(Form::Moved),
+        "turned" => Some(Form::Turned),
+        _ => None,
+    }
+}
+
+/// The form that `--form` names, or where it isn't given, the default one. A refusal says how the command is called.
+fn form(
+    alloc: Global,
+    found: &ArgMatches<'_>,
+    default_form: Form,
+    call: &str,
+) -> Result<Form, Usage>
+    ensures ok { IfOk result (HoldsForm default_form (rows_of (found_of found.now))) }
+    ensures err { IfErr result (RefusesWord (HasNoForm (rows_of (found_of found.now)))) }
+{
+    match value(found, "form") {
+        Some(word) => match form_named(word) {
+            Some(form) => Ok(form),
+            None => Err(refusal(
+                alloc,
+                call,
+                "the value of --form is placed, moved or turned",
+            )),
+        },
+        None => Ok(default_form),
+    }
+}
+
+/// Whether a flag was given.
+fn is_set(found: &ArgMatches<'_>, id: &str) -> bool
+    ensures { HoldsFlag id.now (rows_of (found_of found.now)) result }
+{
+    found.get_flag(id)
+}
+
+/// The plan of a task over one file.
+fn over_file(alloc: Global, found: &ArgMatches<'_>, task: Task) -> Result<TaskPlan, Usage>
+    requires { IsFound (codes "FILE") (rows_of (found_of found.now)) }
+    ensures ok { IfOk result (λ p. (p.task ≡ task) × HoldsFile (rows_of (found_of found.now)) p
+        × HoldsFlag (codes "explain") (rows_of (found_of found.now)) p.explain) }
+    ensures err { IfErr result (λ usage. usage ≡ Usage.Memory) }
+{
+    let first = required(alloc, found, "FILE")?;
+    Ok(TaskPlan {
+        task,
+        first,
+        second: None,
+        explain: is_set(found, "explain"),
+    })
+}
+
+/// The plan of a task over the files of these names.
+fn over_files(
+    alloc: Global,
+    found: &ArgMatches<'_>,
+    task: Task,
+    first: &str,
+    second: &str,
+) -> Result<TaskPlan, Usage>
+    requires first { IsFound first.now (rows_of (found_of found.now)) }
+    requires second { IsFound second.now (rows_of (found_of found.now)) }
+    ensures ok { IfOk result
+        (λ p. (p.task ≡ task) × HoldsFiles first.now second.now (rows_of (found_of found.now)) p
+        × HoldsFlag (codes "explain") (rows_of (found_of found.now)) p.explain) }
+    ensures err { IfErr result (λ usage. usage ≡ Usage.Memory) }
+{
+    let first = required(alloc, found, first)?;
+    let second = required(alloc, found, second)?;
+    Ok(TaskPlan {
+        task,
+        first,
+        second: Some(second),
+        explain: is_set(found, "explain"),
+    })
+}
+
+fn step(alloc: Global, found: &ArgMatches<'_>) -> Result<TaskPlan, Usage>
+    requires { IsFound (codes "FILE") (rows_of (found_of found.now)) }
+    ensures ok { IfOk result (IsTaskPlanOf (Some (codes "step", rows_of (found_of found.now)))) }
+    ensures err { IfErr result (λ usage. usage ≡ Usage.Memory) }
+{
+    match value(found, "table") {
+        Some(_) => over_files(alloc, found, Task::StepTable, "FILE", "table"),
+        None => over_file(alloc, found, Task::Step),
+    }
+}
+
+/// The refusal of a command that is no job over one file or two.
+fn no_job(alloc: Global) -> Usage
+    ensures { RefusesAs ErrorKind.InvalidSubcommand (Unit {0}) result }
+{
+    let message = "the command is none over one file or two";
+    refusal_as(alloc, ErrorKind::InvalidSubcommand, CALL, message)
+}
+
+/// The refusal of words that name no file, with how the command is called.
+fn lacks_files(alloc: Global, call: &str) -> Usage
+    ensures { RefusesAs ErrorKind.MissingRequiredArgument (Unit {0}) result }
+{
+    let message = "a FILE or --from LIST has to be given";
+    refusal_as(alloc, ErrorKind::MissingRequiredArgument, call, message)
+}
+
+/// A copy of a list of names.
+fn copied<'a>(alloc: Global, names: &[&'a str]) -> Result<Vec<&'a str>, Error>
+    ensures ok { IfOk result (λ copy. copy.items ≡ names.now) }
+    ensures err { IfErr result (λ error. kind_of error ≡ ErrorKind.OutOfMemory) }
+{
+    let mut copy = Vec::new(alloc);
+    copy.extend_from_slice(names)?;
+    Ok(copy)
+}
+
+/// All values of an option or of files.
+fn values<'a>(alloc: Global, found: &ArgMatches<'a>, id: &str) -> Result<Vec<&'a str>, Error>
+    ensures ok { IfOk result (λ values. map (λ value. value.now) values.items
+        ≡ values_of id.now (rows_of (found_of found.now))) }
+    ensures err { IfErr result (λ error. kind_of error ≡ ErrorKind.OutOfMemory) }
+{
+    match found.get_strs(id) {
+        Some(names) => copied(alloc, names),
+        None => Ok(Vec::new(alloc)),
+    }
+}
+
+/// The plan of a command over any number of files. A refusal says how the command is called.
+fn any_files<'a>(
+    alloc: Global,
+    found: &ArgMatches<'a>,
+    default_form: Form,
+    call: &str,
+) -> Result<KeysPlan<'a>, Usage>
+    ensures ok { IfOk result (HoldsKeys default_form (rows_of (found_of found.now))) }
+    ensures err { IfErr result (RefusesKeys (rows_of (found_of found.now))) }
+{
+    let files = match values(alloc, found, "FILE") {
+        Ok(files) => files,
+        Err(error) => return Err(Usage::Words(error)),
+    };
+    let from = value(found, "from");
+    if files.is_empty() && from.is_none() {
+        return Err(lacks_files(alloc, call));
+    }
+    let form = match form(alloc, found, default_form, call) {
+        Ok(form) => form,
+        Err(usage) => return Err(usage),
+    };
+    Ok(KeysPlan {
+        form,
+        zero: is_set(found, "zero"),
+        json: is_set(found, "json"),
+        recursive: is_set(found, "recursive"),
+        from,
+        files,
+    })
+}
+
+/// How many of these names are standard input.
+fn inputs_among(names: &[&str]) -> u64
+    ensures { result ≡ count_by (λ name. bytes_eq name.now (codes "-")) names.now }
+{
+    let mut count = 0;
+    for name in names {
+        if *name == "-" {
+            count += 1;
+        }
+    }
+    count
+}
+
+/// How many of the values under a name are standard input.
+fn inputs(found: &ArgMatches<'_>, id: &str) -> u64
+    ensures { result ≡ input_count_under id.now (rows_of (found_of found.now)) }
+{
+    match found.get_strs(id) {
+        Some(names) => inputs_among(names),
+        None => 0,
+    }
+}
+
+/// Whether standard input is named twice.
+fn names_input_twice(found: &ArgMatches<'_>) -> bool
+    ensures { IsTrue result ↔ (1 < input_count (rows_of (found_of found.now))) }
+{
+    let files = u128::from(inputs(found, "FILE"));
+    let pair = u128::from(inputs(found, "A")) + u128::from(inputs(found, "B"));
+    let table = u128::from(inputs(found, "table"));
+    let list = u128::from(inputs(found, "from"));
+    files + pair + table + list > 1
+}
+
+/// The plan of matches that name standard input once at most.
+fn from_command(alloc: Global, matches: &ArgMatches<'_>) -> Result<TaskPlan, Usage>
+    requires task { AreOfTask (subcommand_rows_of matches.now) }
+    requires once { ¬ NamesInputTwice (subcommand_rows_of matches.now) }
+    ensures ok { IfOk result (IsTaskPlanOf (subcommand_rows_of matches.now)) }
+    ensures refused { IfErr result (Explains [] (subcommand_rows_of matches.now)) }
+{
+    if let Some(found) = matches.subcommand_matches("canon") {
+        return over_file(
+            alloc,
+            found,
+            Task::Canon(form(alloc, found, Form::Placed, CANON)?),
+        );
+    }
+    if let Some(found) = matches.subcommand_matches("convert") {
+        return over_file(alloc, found, Task::Convert(target(alloc, found)?));
+    }
+    if let Some(found) = matches.subcommand_matches("same") {
+        return over_files(
+            alloc,
+            found,
+            Task::Same(form(alloc, found, Form::Placed, SAME)?),
+            "A",
+            "B",
+        );
+    }
+    if let Some(found) = matches.subcommand_matches("show") {
+        return over_file(alloc, found, Task::Show);
+    }
+    if let Some(found) = matches.subcommand_matches("step") {
+        return step(alloc, found);
+    }
+    unreachable!()
+}
+
+/// What matches ask for that name standard input once at most.
+fn request_of<'a>(alloc: Global, matches: &ArgMatches<'a>) -> Result<Request<'a>, Usage>
+    requires whole { AreWhole (subcommand_rows_of matches.now) }
+    requires once { ¬ NamesInputTwice (subcommand_rows_of matches.now) }
+    ensures ok { IfOk result (IsRequestOf (subcommand_rows_of matches.now)) }
+    ensures refused { IfErr result (Explains [] (subcommand_rows_of matches.now)) }
+{
+    if let Some(found) = matches.subcommand_matches("keys") {
+        return match any_files(alloc, found, Form::Placed, KEYS) {
+            Ok(plan) => Ok(Request::Keys(plan)),
+            Err(usage) => Err(usage),
+        };
+    }
+    if let Some(found) = matches.subcommand_matches("duplicates") {
+        return match any_files(alloc, found, Form::Moved, DUPLICATES) {
+            Ok(plan) => Ok(Request::Duplicates(plan)),
+            Err(usage) => Err(usage),
+        };
+    }
+    match from_command(alloc, matches) {
+        Ok(plan) => Ok(Request::Work(plan)),
+        Err(usage) => Err(usage),
+    }
+}
+
+/// What matches ask for that have what their command wants.
+fn from_matches<'a>(alloc: Global, matches: &ArgMatches<'a>) -> Result<Request<'a>, Usage>
+    requires { AreWhole (subcommand_rows_of matches.now) }
+    ensures ok { IfOk result (IsRequestOf (subcommand_rows_of matches.now)) }
+    ensures once { OnOk result (¬ NamesInputTwice (subcommand_rows_of matches.now)) }
+    ensures refused { IfErr result (Explains [] (subcommand_rows_of matches.now)) }
+{
+    if let Some((_, found)) = matches.subcommand() {
+        if names_input_twice(found) {
+            return Err(Usage::TwoInputs);
+        }
+    }
+    request_of(alloc, matches)
+}
+
+/// What the words ask for. They begin with the program's own name.
+///
+/// # Errors
+///
+/// `Words` with the text to show, where `clap` finds a fault in the words, as which `--help` and `--version` count too, by its kind; where the
+/// word after `--to` is that of no format or the one after `--form` that of no form, as `InvalidValue`; where `keys` or `duplicates` is given
+/// neither a file nor a list, as `MissingRequiredArgument`; and where `clap`, or the list of their files, gets no memory, as `OutOfMemory`.
+/// `TwoInputs` where words without a fault name `-` for two files, whatever follows these options. `Memory` where all is right but there is
+/// no memory for the copy of a file's name.
+pub fn request<'a, S: AsStr>(alloc: Global, words: &'a [S]) -> Result<Request<'a>, Usage>
+    ensures faultless { OnOk result (fault_of program (map S.text words.entry.now) ≡ []) }
+    ensures ok { IfOk result (IsRequestOf (subcommand_of program (map S.text words.entry.now))) }
+    ensures files { IfOk result (IfWork (λ p. IsSome p.second ↔ HasSecond p.task)) }
+    ensures once { OnOk result
+        (¬ NamesInputTwice (subcommand_of program (map S.text words.entry.now))) }
+    ensures refused { IfErr result (Explains (fault_of program (map S.text words.entry.now))
+        (subcommand_of program (map S.text words.entry.now))) }
+{
+    let matches = parse(alloc, words)?;
+    from_matches(alloc, &matches)
+}
+
+/// The job of a task that takes patterns as they lie.
+fn job_of(task: Task) -> Option<Job>
+    ensures { MatchOption result (TakesOtherForm task) (λ job. task ≡ task_of job) }
+{
+    match task {
+        Task::Show => Some(Job::Show),
+        Task::Canon(Form::Placed) => Some(Job::Canon),
+        Task::Convert(target) => Some(Job::Convert(target)),
+        Task::Same(Form::Placed) => Some(Job::Same),
+        Task::Step => Some(Job::Step),
+        Task::StepTable => Some(Job::StepTable),
+        Task::Canon(_) | Task::Same(_) => None,
+    }
+}
+
+/// The plan of the job, where the task of the plan takes patterns as they lie.
+fn as_they_lie(alloc: Global, plan: TaskPlan) -> Result<Plan, Usage>
+    ensures ok { IfOk result (λ p. plan ≡ task_plan_of plan.explain p) }
+    ensures err { IfErr result (RefusesWord (TakesOtherForm plan.task)) }
+{
+    match job_of(plan.task) {
+        Some(job) => Ok(Plan {
+            job,
+            first: plan.first,
+            second: plan.second,
+        }),
+        None => Err(refusal(alloc, CALL, "the value of --form is placed")),
+    }
+}
+
+/// The plan of words that ask for a job, as `request` has it.
+///
+/// # Errors
+///
+/// Those of `request`, and `Words` of words that ask for keys or duplicates, as `InvalidSubcommand`, or for another form than `placed`, as
+/// `InvalidValue`: `request` has a plan for these too. That `--explain` is given isn't stored.
+pub fn plan<S: AsStr>(alloc: Global, words: &[S]) -> Result<Plan, Usage>
+    ensures faultless { OnOk result (fault_of program (map S.text words.entry.now) ≡ []) }
+    ensures ok { IfOk result (IsPlanOf (subcommand_of program (map S.text words.entry.now))) }
+    ensures files { IfOk result (λ p. IsSome p.second ↔ HasSecond (task_of p.job)) }
+    ensures once { OnOk result
+        (¬ NamesInputTwice (subcommand_of program (map S.text words.entry.now))) }
+    ensures refused { IfErr result (ExplainsPlan (fault_of program (map S.text words.entry.now))
+        (subcommand_of program (map S.text words.entry.now))) }
+{
+    match request(alloc, words) {
+        Ok(Request::Work(plan)) => as_they_lie(alloc, plan),
+        Ok(Request::Keys(_)) => Err(no_job(alloc)),
+        Ok(Request::Duplicates(_)) => Err(no_job(alloc)),
+        Err(usage) => Err(usage),
+    }
+}

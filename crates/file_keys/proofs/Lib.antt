@@ -1,0 +1,11 @@
+pub mod Rows
+pub mod ObjectRows
+pub mod JsonLemmas
+pub mod KeyLines
+pub mod KeyLemmas
+pub mod KeyRunLemmas
+pub mod GroupLemmas
+pub mod DuplicateLemmas
+pub mod GatherLemmas
+pub mod GroupLaws
+pub mod GroupRows

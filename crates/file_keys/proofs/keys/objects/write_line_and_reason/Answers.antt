@@ -1,0 +1,15 @@
+use Rattle.std.proofs.lemmas.Result.{err_from_is_err_and}
+use Rattle.life_base.proofs.WritingLemmas.{prefix-grows}
+use Rattle.file_keys.specs.Objects.{line_member, reason_member}
+use Rattle.file_keys.proofs.KeyLines.{then_text}
+use Rattle.file_keys.proofs.keys.objects.write_line_and_reason.Goals as goal
+
+pub returns-in_err-write_line-clause-text : goal.returns-in_err-write_line-clause-text
+returns-in_err-write_line-clause-text g c =
+    let p = err_from_is_err_and c.from_residual.result c.from_residual.ensures.1 in
+    rw p.1 (prefix-grows _ _ _ (reason_member c.args.reason.now) c.in_err-write_line.ensures.text)
+
+pub returns-clause-text : goal.returns-clause-text
+returns-clause-text g c =
+    then_text _ _ _ (line_member c.args.line) (reason_member c.args.reason.now) c.write_reason.result
+    c.in_ok-write_line.ensures.text c.write_reason.ensures.text

@@ -1,0 +1,245 @@
+-- What a run of the command `keys` comes to, file by file, and what it writes of that. The project's own.
+use Rattle.std.specs.Prelude.{◌≡◌, ◌⊎◌, ◌↔◌, ◌^◌, ℕ, Bool, true, false, not, max, List, [], ◌∷◌, ◌++◌, map, filter, flat_map, option_map, Option, Some, None, Result, Ok, Err, OnOk, IsUtf8, if◌then◌else◌}
+use Rattle.std.specs.List.{FoldsTo}
+use Rattle.std.specs.IoError.{error_kind}
+use Rattle.std.specs.Io.KnownBytes.{Appends}
+use Rattle.std.specs.declared.io.Error.{Error as IoError}
+use Rattle.std.specs.declared.io.ErrorKind.TheVariants as io
+use Rattle.life_base.specs.DeviceRuns.{SinkRun, SourceRun, source_run}
+use Rattle.life_base.specs.Inputs.{ReadAll}
+use Rattle.life_base.specs.Refusal.{fault_of}
+use Rattle.life_base.specs.Text.{is_empty}
+use Rattle.life_base.specs.Writing.{WritesPrefix, WritesText}
+use Rattle.life_base.specs.declared.cell.TheConstants.{MAX_LEVEL}
+use Rattle.life_base.specs.declared.kind.Kind.{Kind}
+use Rattle.life_base.specs.declared.kind.Kind.TheVariants as kinds
+use Rattle.pattern_sources.specs.Faults.{fault_line, refusal_of, status_of, Tells}
+use Rattle.pattern_sources.specs.Sources.{HasNoText, HasText, InputRefuses, RefusesInForm}
+use Rattle.file_keys.specs.Keys.{end_of, IsKeyIn, key_line, pieces_of, refused_line, unopened_line}
+use Rattle.file_keys.specs.Objects.{object_text}
+use Rattle.command_line.specs.Origins.{Gives, IsOriginOf}
+use Rattle.file_keys.specs.declared.keys.outputs.Outputs.{Outputs}
+use Rattle.file_keys.specs.declared.keys.runs.Run.{Run}
+use Rattle.file_keys.specs.declared.keys.style.Style.{Style}
+use Rattle.file_keys.specs.declared.keys.style.Style.TheVariants.{Lines, Zero, Json}
+use Rattle.file_keys.specs.declared.keys.outcome.Outcome.{Outcome}
+use Rattle.file_keys.specs.declared.keys.outcome.Outcome.TheVariants.{Key, Refused, Unopened}
+use Rattle.command_line.specs.declared.origins.Origin.{Origin}
+use Rattle.command_line.specs.declared.origins.Origin.TheVariants.{Standard, File}
+use Rattle.command_line.specs.declared.plans.Form.{Form}
+use Rattle.command_line.specs.declared.plans.KeysPlan.{KeysPlan}
+
+-- a name of a run: a word of the command line, or a name in a list
+pub data Name : Type 0 where
+  Word : List ℕ → Name
+  Listed : List ℕ → Name
+
+abbrev pub bytes_of : Name → List ℕ
+bytes_of (Word word) = word
+bytes_of (Listed name) = name
+
+-- the names in a list: its pieces that aren't empty
+abbrev pub names_in : ℕ → List ℕ → List (List ℕ)
+names_in end list = filter (λ (piece : List ℕ). not (is_empty piece)) (pieces_of end list)
+
+-- a file that was taken: its name, and what it came to
+pub record Taken : Type 0 where
+  pub name : Name
+  pub outcome : Outcome
+
+-- the line of a file's key, where it has one
+abbrev pub outcome_line : Bool → List ℕ → Outcome → List ℕ
+outcome_line zero name (Key key) = key_line zero key name
+outcome_line zero name _ = []
+
+-- the style in which a run of this plan writes
+abbrev pub style_of : KeysPlan → Style
+style_of plan = if plan.json then Json else (if plan.zero then Zero else Lines)
+
+-- what standard output gets of a file: the line of its key, where it has one, or an object
+abbrev pub output_line : Style → List ℕ → Outcome → List ℕ
+output_line Lines name outcome = outcome_line false name outcome
+output_line Zero name outcome = outcome_line true name outcome
+output_line Json name outcome = object_text name outcome
+
+-- why a file has no key
+abbrev pub error_line : List ℕ → Outcome → List ℕ
+error_line name (Key key) = []
+error_line name (Refused fault) = refused_line name fault
+error_line name (Unopened kind) = unopened_line name kind
+
+-- what standard error gets of a file: why it has no key, unless its object says so
+abbrev pub report_line : Style → List ℕ → Outcome → List ℕ
+report_line Lines name outcome = error_line name outcome
+report_line Zero name outcome = error_line name outcome
+report_line Json name outcome = []
+
+-- the status of a file
+abbrev pub outcome_status : Outcome → ℕ
+outcome_status (Key key) = 0
+outcome_status (Refused fault) = status_of fault.kind
+outcome_status (Unopened kind) = 3
+
+-- the lines of the files on standard output, in their order
+abbrev pub output_of : Style → List Taken → List ℕ
+output_of style taken = flat_map (λ (t : Taken). output_line style (bytes_of t.name) t.outcome) taken
+
+-- and on standard error
+abbrev pub reports_of : Style → List Taken → List ℕ
+reports_of style taken = flat_map (λ (t : Taken). report_line style (bytes_of t.name) t.outcome) taken
+
+-- the same of `duplicates`, which has no style
+abbrev pub errors_of : List Taken → List ℕ
+errors_of taken = flat_map (λ (t : Taken). error_line (bytes_of t.name) t.outcome) taken
+
+-- the greatest status of the files, or 0
+abbrev pub greatest_status : List Taken → ℕ
+greatest_status [] = 0
+greatest_status (t ∷ taken) = max (outcome_status t.outcome) (greatest_status taken)
+
+-- the names of the files, in their order
+abbrev pub names_of : List Taken → List Name
+names_of taken = map (λ (t : Taken). t.name) taken
+
+-- What is reported on a sink that goes from `old` to `new`. It takes texts before (`tells`) and after (`goes_on`), or not any more: where it fails or
+-- takes no bytes a prefix of the text is written, and from then on nothing.
+abbrev pub TellsOn : {E : Type 0} → (E → Option (List ℕ)) → (E → ℕ) → (E → Bool) → (tells goes_on : Bool) → (old new : E) → List ℕ → Type 0
+TellsOn contents failures stalled true true old new text = Appends (contents old) (contents new) text × (failures new ≡ 0)
+TellsOn contents failures stalled true false old new text =
+    WritesPrefix (contents old) (contents new) text × ((failures new ≡ 1) ⊎ (stalled new ≡ true))
+TellsOn contents failures stalled false false old new text = new ≡ old
+TellsOn contents failures stalled false true old new text = ⊥
+
+-- What was written of files: their lines on standard output, or at a refusal a prefix of these; their lines on standard error, as far as that takes
+-- them; and the greatest status is kept.
+pub record Writes {W E : Type 0} (held : W → Option (List ℕ)) (contents : E → Option (List ℕ)) (failures : E → ℕ) (stalled : E → Bool)
+    (out_old out_new : W) (err_old err_new : E) (old new : Outputs) (result : Result (Unit {0}) Kind) (keys faults : List ℕ) (greatest : ℕ) : Type 0 where
+  pub written : WritesText (held out_old) (held out_new) keys result
+  pub told : TellsOn contents failures stalled old.tells new.tells err_old err_new faults
+  pub status : new.status ≡ max old.status greatest
+
+-- what is reported of a file: what it came to, or that memory was refused for the line of its key
+abbrev pub IsToldAs : Outcome → Outcome → Type 0
+IsToldAs outcome told = (told ≡ outcome) ⊎ ((key : List ℕ) × (outcome ≡ Key key) × (told ≡ Refused (fault_of kinds.Memory)))
+
+-- what a name names: of a list always a file, and nothing where it is no UTF-8 text
+abbrev pub IsNamed : Name → Origin → Type 0
+IsNamed (Word word) origin = IsOriginOf word origin
+IsNamed (Listed name) Standard = ⊥
+IsNamed (Listed name) (File text) = text.now ≡ name
+
+-- a name in a list that is no UTF-8 text can't be opened
+abbrev pub IsNoText : Taken → Type 0
+IsNoText taken = (bytes : List ℕ) × (taken.name ≡ Listed bytes) × (¬ IsUtf8 bytes) × (taken.outcome ≡ Unopened io.InvalidFilename)
+
+-- what comes of a source that was opened: its key in the form, or why it has none
+abbrev pub ComesOfSource : Form → SourceRun → Outcome → Type 0
+ComesOfSource form source (Key key) = HasText (IsKeyIn form MAX_LEVEL) source key
+ComesOfSource form source (Refused fault) = HasNoText (RefusesInForm form) source fault
+ComesOfSource form source (Unopened kind) = ⊥
+
+-- the file is reported as one of which a read failed
+abbrev pub IsReadFault : Outcome → Type 0
+IsReadFault (Refused fault) = fault.kind ≡ kinds.ReadFault
+IsReadFault _ = ⊥
+
+-- This comes of a source that was opened, and it is reported as a read fault exactly where a read of it failed.
+pub record IsOutcomeOf (form : Form) (source : SourceRun) (outcome : Outcome) : Type 0 where
+  pub comes : ComesOfSource form source outcome
+  pub read_fault : IsReadFault outcome ↔ (source.failures ≡ 1)
+
+module _ {F R : Type 0} (step : F → Origin → Result R IoError → F → Type 0) (remaining : R → Option (List ℕ)) (reads_failed : R → ℕ)
+    (form : Form) where
+  -- What comes of what an opener gave. A source that was opened is `end` after it was read. A contract says this for every type R, so that it can
+  -- have an `end` that has failed only from a read that failed.
+  abbrev pub Comes : Result R IoError → Outcome → Type 0
+  Comes (Ok source) outcome = (end : R) × IsOutcomeOf form (source_run remaining reads_failed source end) outcome
+  Comes (Err error) (Unopened kind) = kind ≡ error_kind error
+  Comes _ _ = ⊥
+
+  -- a file was taken: the opener was called for what the name names, and this came of it; or the name is no text, and it wasn't called
+  pub data Takes (before : F) (taken : Taken) (after : F) : Type 0 where
+    by_call : (origin : Origin) (given : Result R IoError) → IsNamed taken.name origin → step before origin given after
+        → Comes given taken.outcome → Takes before taken after
+    by_name : IsNoText taken → after ≡ before → Takes before taken after
+
+  -- the files were taken one after another, in this order
+  abbrev pub TakesAll : F → List Taken → F → Type 0
+  TakesAll before taken after = FoldsTo Takes before taken after
+
+-- a run can take files: its opener can be called, standard output hasn't failed, nor has standard error as long as it takes reports
+pub record CanTake {F : Type 0} (is_callable : F → Type 0) (run : Run F) (out_failures err_failures : ℕ) : Type 0 where
+  pub callable : is_callable run.files.opener
+  pub works : out_failures ≡ 0
+  pub hears : run.outputs.tells ≡ true → err_failures ≡ 0
+
+-- the names of a run: the words, and then those in the list
+abbrev pub names_among : Bool → (words : List (List ℕ)) (list : List ℕ) → List Name
+names_among zero words list = map Word words ++ map Listed (names_in (end_of zero) list)
+
+-- the words of a plan that name files, and the one that names a list
+abbrev pub words_of : KeysPlan → List (List ℕ)
+words_of plan = map (λ word. word.now) plan.files.items
+
+abbrev pub list_word : KeysPlan → Option (List ℕ)
+list_word plan = option_map (λ word. word.now) plan.from
+
+-- Why a list that was opened isn't read: too much came, a read failed, or memory was refused. It is a read fault exactly where a read of it failed.
+pub record LacksBytes (source : SourceRun) (kind : Kind) : Type 0 where
+  pub why : InputRefuses source (fault_of kind) ⊎ (kind ≡ kinds.Memory)
+  pub read_fault : (kind ≡ kinds.ReadFault) ↔ (source.failures ≡ 1)
+
+module _ {F R : Type 0} (step : F → Origin → Result R IoError → F → Type 0) (remaining : R → Option (List ℕ)) (reads_failed : R → ℕ) where
+  -- the bytes of the list that a word names, of which no read failed; without such a word there are none
+  abbrev pub ReadsList : Option (List ℕ) → F → List ℕ → F → Type 0
+  ReadsList None before bytes after = (bytes ≡ []) × (after ≡ before)
+  ReadsList (Some word) before bytes after = (source : R) × (end : R) × Gives step word before (Ok source) after
+      × ReadAll (2 ^ 30) (remaining source) (remaining end) bytes × (reads_failed end ≡ 0)
+
+  -- why there is no list: it can't be opened, or it was opened and isn't read
+  pub data LacksList (word : List ℕ) (before : F) (kind : Kind) : Type 0 where
+    by_opening : (error : IoError) (after : F) → Gives step word before (Err error) after → kind ≡ kinds.ReadFault → LacksList word before kind
+    by_reading : (source : R) (after : F) (end : R) → Gives step word before (Ok source) after
+        → LacksBytes (source_run remaining reads_failed source end) kind → LacksList word before kind
+
+  -- After the list was read files were taken, one after another, in the order of the names, but for the last names, `rest`.
+  pub record Took (plan : KeysPlan) (opener : F) (taken : List Taken) (rest : List Name) : Type 0 where
+    pub list : List ℕ
+    pub ready : F
+    pub last : F
+    pub read : ReadsList (list_word plan) opener list ready
+    pub names : names_among plan.zero (words_of plan) list ≡ names_of taken ++ rest
+    pub takes : TakesAll step remaining reads_failed plan.form ready taken last
+
+  -- What a run did with its files and outputs, and the status that it answered.
+  pub data Ran (plan : KeysPlan) (opener : F) (output error : SinkRun) (flushed : Bool) (status : ℕ) : Type 0 where
+    -- All files were taken: their lines were written, or reported, and the greatest status is answered.
+    through : (taken : List Taken) → Took plan opener taken [] → Appends output.before output.after (output_of (style_of plan) taken) → flushed ≡ true
+        → Tells error (reports_of (style_of plan) taken) → status ≡ greatest_status taken → Ran plan opener output error flushed status
+    -- Standard output failed, or took no bytes: the first files were taken, and a prefix of their lines was written.
+    broken_off : (taken : List Taken) (rest : List Name) → Took plan opener taken rest
+        → WritesPrefix output.before output.after (output_of (style_of plan) taken) → (output.failures ≡ 1) ⊎ (output.stalled ≡ true)
+        → Tells error (reports_of (style_of plan) taken ++ fault_line (refusal_of (fault_of kinds.WriteFault)))
+        → status ≡ status_of kinds.WriteFault
+        → Ran plan opener output error flushed status
+    -- There is no list, and no file was taken.
+    without_list : (word : List ℕ) (kind : Kind) → list_word plan ≡ Some word → LacksList word opener kind
+        → Tells error (fault_line (refusal_of (fault_of kind))) → status ≡ status_of kind → output.after ≡ output.before
+        → Ran plan opener output error flushed status
+
+module _ {F R W E : Type 0} (step : F → Origin → Result R IoError → F → Type 0) (remaining : R → Option (List ℕ)) (reads_failed : R → ℕ)
+    (held : W → Option (List ℕ)) (contents : E → Option (List ℕ)) (failures : E → ℕ) (stalled : E → Bool) where
+  -- Files were taken, one after another, in the order of these names, but for the last names, `rest`; and this was written of them.
+  pub record TakesFiles (form : Form) (names rest : List Name) (opener_old opener_new : F) (out_old out_new : W) (err_old err_new : E)
+      (old new : Outputs) (result : Result (Unit {0}) Kind) : Type 0 where
+    pub taken : List Taken
+    pub split : names ≡ names_of taken ++ rest
+    pub takes : TakesAll step remaining reads_failed form opener_old taken opener_new
+    pub writes : Writes held contents failures stalled out_old out_new err_old err_new old new result (output_of old.style taken)
+        (reports_of old.style taken) (greatest_status taken)
+
+  -- The same of all these names, or at a refusal of the first ones.
+  abbrev pub TakesNames : Form → List Name → (opener_old opener_new : F) (out_old out_new : W) (err_old err_new : E) (old new : Outputs)
+      → Result (Unit {0}) Kind → Type 0
+  TakesNames form names opener_old opener_new out_old out_new err_old err_new old new result =
+      (rest : List Name) × OnOk result (rest ≡ []) × TakesFiles form names rest opener_old opener_new out_old out_new err_old err_new old new result

@@ -1,0 +1,32 @@
+//! What a file of the command `keys` comes to.
+
+ghost use Rattle.std.specs.Prelude.{◌≡◌};
+ghost use Rattle.file_keys.specs.Words.{outcome_status};
+
+use life_base::Fault;
+use pattern_sources::status;
+use std::io::ErrorKind;
+
+/// What a file comes to.
+#[derive(Clone, Copy)]
+pub enum Outcome {
+    /// It has this key.
+    Key([u8; 32]),
+    /// It has none because of this fault; a full store and memory that ran out are faults too.
+    Refused(Fault),
+    /// It can't be opened.
+    Unopened(ErrorKind),
+}
+
+impl Outcome {
+    /// The status of the file.
+    pub(crate) fn status(&self) -> u8
+        ensures { result ≡ outcome_status self.now }
+    {
+        match self {
+            Outcome::Key(_) => 0,
+            Outcome::Refused(fault) => status(fault.kind),
+            Outcome::Unopened(_) => 3,
+        }
+    }
+}

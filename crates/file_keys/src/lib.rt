@@ -1,0 +1,11 @@
+//! The commands over any number of files: the key of each, and the groups of those with equal keys.
+#![tactic(auto)]
+
+mod duplicates;
+mod json;
+mod keys;
+pub mod laws;
+mod text_sink;
+
+pub use duplicates::write_duplicates;
+pub use keys::write_keys;

@@ -1,8 +1,0 @@
-use Rattle.std.proofs.Common.{codes}
-use Rattle.life_cli.specs.Keys.{escaped}
-use Rattle.life_cli.proofs.KeyLines.{then_text}
-use Rattle.life_cli.proofs.duplicates.texts.write_name.Goals as goal
-
-pub returns-clause-text : goal.returns-clause-text
-returns-clause-text g c =
-    rw c.if-zero.false (then_text _ _ _ (escaped c.args.name.now) (codes "\n") c.write_text.result c.in_ok-write_escaped.ensures.text c.write_text.ensures.text)

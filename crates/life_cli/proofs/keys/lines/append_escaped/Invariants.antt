@@ -1,9 +1,0 @@
-use Rattle.std.proofs.Common.{◌≡◌, ◌++◌, length}
-use Rattle.life_cli.specs.Keys.{escaped}
-use Rattle.life_cli.proofs.keys.lines.append_escaped.Given as goal
-
-abbrev pub invariant-loop-rest : goal.invariant-loop-rest
-invariant-loop-rest l = l.initial.line.items ++ escaped l.name ≡ l.line.items ++ escaped l.rest
-
-abbrev pub decreases-loop-rest : goal.decreases-loop-rest
-decreases-loop-rest l = length l.rest

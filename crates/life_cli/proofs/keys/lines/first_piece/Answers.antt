@@ -1,5 +1,0 @@
-use Rattle.life_cli.proofs.KeyLines.{escaped_behind}
-use Rattle.life_cli.proofs.keys.lines.first_piece.Goals as goal
-
-pub returns-in_default-clause-piece : goal.returns-in_default-clause-piece
-returns-in_default-clause-piece c = escaped_behind c.args.name.now c.plain_front.result c.plain_front.ensures.plain

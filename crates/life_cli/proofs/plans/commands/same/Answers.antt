@@ -1,8 +1,0 @@
-use Rattle.std.proofs.Common.{codes}
-use Rattle.life_cli.specs.CommandLine.{option, two_files_line}
-use Rattle.life_cli.proofs.plans.commands.same.Goals as goal
-
-pub returns : goal.returns
-returns c =
-    let one = c.in_ok-command-2.ensures (two_files_line (codes "same")) (option (codes "form")) c.in_ok-command.ensures c.form.ensures in
-    c.with_explain.ensures _ one

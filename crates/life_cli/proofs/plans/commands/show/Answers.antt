@@ -1,6 +1,0 @@
-use Rattle.std.proofs.Common.{codes}
-use Rattle.life_cli.specs.CommandLine.{one_file_line}
-use Rattle.life_cli.proofs.plans.commands.show.Goals as goal
-
-pub returns : goal.returns
-returns c = c.with_explain.ensures (one_file_line (codes "show")) c.in_ok-command.ensures

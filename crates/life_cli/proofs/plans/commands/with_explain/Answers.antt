@@ -1,6 +1,0 @@
-use Rattle.std.proofs.Common.{codes}
-use Rattle.life_cli.specs.CommandLine.{flag}
-use Rattle.life_cli.proofs.plans.commands.with_explain.Goals as goal
-
-pub returns : goal.returns
-returns c = λ line reads. c.with_argument.ensures line (flag (codes "explain")) reads c.explain.ensures
