@@ -5,7 +5,7 @@ use Rattle.std.specs.declared.io.Error.{Error}
 use Rattle.std.specs.declared.io.ErrorKind.TheVariants.{OutOfMemory}
 use Rattle.life_base.specs.Refusal.{fault_of}
 use Rattle.life_base.specs.declared.kind.Kind.TheVariants as kinds
-use Rattle.life_cli.specs.Faults.{fault_line, refusal_of, status_of}
+use Rattle.pattern_sources.specs.Faults.{fault_line, refusal_of, status_of}
 use Rattle.golly_canon.specs.declared.arguments.Unreadable.{Unreadable}
 use Rattle.golly_canon.specs.declared.arguments.Unreadable.TheVariants.{NoText, Memory}
 
