@@ -2,15 +2,16 @@
 
 use super::devices::{assert_left, sink_with};
 use super::{EAST_GLIDER, GLIDER, LINE, TWINS, TWINS_IN_RLE};
+use file_keys::{write_duplicates, write_keys};
 use life_base::Device;
 use life_cli::plans::Request;
-use life_cli::{Origin, Seeds, request, write_duplicates};
+use life_cli::{Origin, Seeds, request};
 use std::alloc::Global;
 use std::io::{self, Result as IoResult};
 use std::process::Abort;
 
 /// The bytes of the file that has this name.
-pub(super) fn bytes_of(origin: Origin<'_>) -> IoResult<&'static [u8]> {
+fn bytes_of(origin: Origin<'_>) -> IoResult<&'static [u8]> {
     let Origin::File(name) = origin else {
         return Ok(b"east\n\nline\nabsent\n");
     };
@@ -25,29 +26,35 @@ pub(super) fn bytes_of(origin: Origin<'_>) -> IoResult<&'static [u8]> {
     }
 }
 
-/// A run over the files that these words name to the command `keys` prints this, reports this, and ends with this status.
-fn assert_run(
+/// What a run over files writes of them.
+#[derive(Clone, Copy)]
+pub(super) enum Listing {
+    /// What the command `keys` writes.
+    Keys,
+    /// What the command `duplicates` writes.
+    Groups,
+}
+
+/// A run over the files that these words name to the command `keys` ends with this status, prints this text, and reports that one.
+pub(super) fn assert_run(
     rt: &impl Abort,
     alloc: Global,
+    listing: Listing,
     words: &[&str],
-    text: &[u8],
-    reports: &[u8],
-    status: u8,
+    wanted: (u8, &[u8], &[u8]),
 ) {
     let Ok(Request::Keys(plan)) = request(alloc, words) else {
         panic!(rt; "no keys");
     };
+    let seeds = Seeds::fixed();
+    let opener = |origin: Origin<'_>| Ok(Device::new(bytes_of(origin)?));
     let mut out = sink_with(alloc, 1000, 7);
     let mut err = sink_with(alloc, 1000, 7);
-    let got = write_duplicates(
-        alloc,
-        &Seeds::fixed(),
-        &plan,
-        |origin| Ok(Device::new(bytes_of(origin)?)),
-        &mut out,
-        &mut err,
-    );
-    assert_left(rt, (got, out, err), (status, text, reports));
+    let status = match listing {
+        Listing::Keys => write_keys(alloc, &seeds, &plan, opener, &mut out, &mut err),
+        Listing::Groups => write_duplicates(alloc, &seeds, &plan, opener, &mut out, &mut err),
+    };
+    assert_left(rt, (status, out, err), wanted);
 }
 
 const ABSENT: &[u8] = b"absent: no such file\n";
@@ -111,6 +118,7 @@ const GROUPS: [(&[&str], &[u8], &[u8], u8); 6] = [
 #[test]
 fn groups_of_files(rt: HostRuntime) {
     for &(words, text, reports, status) in &GROUPS {
-        assert_run(&rt, rt.alloc(), words, text, reports, status);
+        let wanted = (status, text, reports);
+        assert_run(&rt, rt.alloc(), Listing::Groups, words, wanted);
     }
 }

@@ -1,37 +1,6 @@
 //! The keys of files, as lines and as objects of JSON.
 
-use super::devices::{assert_left, sink_with};
-use super::duplicates::bytes_of;
-use life_base::Device;
-use life_cli::plans::Request;
-use life_cli::{Seeds, request, write_keys};
-use std::alloc::Global;
-use std::process::Abort;
-
-/// A run over the files that these words name prints this, reports this, and ends with this status.
-fn assert_run(
-    rt: &impl Abort,
-    alloc: Global,
-    words: &[&str],
-    text: &[u8],
-    reports: &[u8],
-    status: u8,
-) {
-    let Ok(Request::Keys(plan)) = request(alloc, words) else {
-        panic!(rt; "no keys");
-    };
-    let mut out = sink_with(alloc, 1000, 7);
-    let mut err = sink_with(alloc, 1000, 7);
-    let got = write_keys(
-        alloc,
-        &Seeds::fixed(),
-        &plan,
-        |origin| Ok(Device::new(bytes_of(origin)?)),
-        &mut out,
-        &mut err,
-    );
-    assert_left(rt, (got, out, err), (status, text, reports));
-}
+use super::duplicates::{Listing, assert_run};
 
 /// Arguments with what is printed of the files that they name, and what is reported.
 const ROWS: [(&[&str], &[u8], &[u8]); 3] = [
@@ -56,6 +25,6 @@ const ROWS: [(&[&str], &[u8], &[u8]); 3] = [
 #[test]
 fn lines_and_objects(rt: HostRuntime) {
     for &(words, text, reports) in &ROWS {
-        assert_run(&rt, rt.alloc(), words, text, reports, 3);
+        assert_run(&rt, rt.alloc(), Listing::Keys, words, (3, text, reports));
     }
 }
