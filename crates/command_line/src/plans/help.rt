@@ -64,7 +64,7 @@ both files are -.
   BadRule          the rule is empty, too long or has a byte that no rule has
   BoundedGrid      the rule has a `:`, for a bounded grid
   UnsupportedRule  the rule is of a kind that isn't supported
-  BirthOnZero      the rule lets cells be born from nothing
+  BirthOnZero      the rule lets a cell be born that has no live neighbour
   BadNumber        a position or the generation isn't a number
   TooLarge         the generation is 2^64 or more, or a count is above 2^62
   LateHeader       a line #CXRLE after the header, or #R or #G after a square
@@ -182,8 +182,8 @@ the same state of every cell of the plane. It writes the line `same` or the line
 `different`.
 
 The files may be of different formats. The position of each cell counts: a pattern that
-is moved or turned is another one. So is one under another name of its rule (`Life`
-and `B3/S23`), but the same digits written in two ways (`23/3` and `b3s23`) are one rule.
+is moved or turned is another one. So is one whose rule has another name (`Life` in place
+of `B3/S23`), but the same digits written in two ways (`23/3` and `b3s23`) are one rule.
 
 --form says in which form the patterns are compared: `placed` (the default); `moved`,
 in which a pattern is the same as each of its shifts; or `turned`, in which it is the
