@@ -167,6 +167,11 @@ module _ {F R : Type 0} (step : F → Origin → Result R IoError → F → Type
   abbrev pub TakesAll : F → List Taken → F → Type 0
   TakesAll before taken after = FoldsTo Takes before taken after
 
+-- a run can begin: its opener can be called, and neither output has failed, or has taken no bytes
+abbrev pub CanBegin : {F W E : Type 0} → (F → Type 0) → (W → ℕ) → (W → Bool) → (E → ℕ) → (E → Bool) → F → W → E → Type 0
+CanBegin is_callable out_failures out_stalled err_failures err_stalled opener out err = is_callable opener × (out_failures out ≡ 0)
+    × (out_stalled out ≡ false) × (err_failures err ≡ 0) × (err_stalled err ≡ false)
+
 -- a run can take files: its opener can be called, standard output hasn't failed, nor has standard error as long as it takes reports
 pub record CanTake {F : Type 0} (is_callable : F → Type 0) (run : Run F) (out_failures err_failures : ℕ) : Type 0 where
   pub callable : is_callable run.files.opener

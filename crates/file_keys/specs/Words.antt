@@ -2,7 +2,7 @@
 pub use Rattle.file_keys.specs.Duplicates.{CanGather, classes_in, Gathers, kept_groups, kept_names, next_names, Puts, RanDuplicates, with_name, with_outcome}
 pub use Rattle.file_keys.specs.Groups.{ended_name, groups_text, GroupsAreByKey, IsGroupStatus, names_text, status_by}
 pub use Rattle.file_keys.specs.Json.{control_text, hex_digits, json_byte, json_text, name_text}
-pub use Rattle.file_keys.specs.KeyRuns.{CanTake, Comes, error_line, IsOutcomeOf, IsToldAs, LacksBytes, LacksList, Listed, names_among, names_in, outcome_line}
+pub use Rattle.file_keys.specs.KeyRuns.{CanBegin, CanTake, Comes, error_line, IsOutcomeOf, IsToldAs, LacksBytes, LacksList, Listed, names_among, names_in, outcome_line}
 pub use Rattle.file_keys.specs.KeyRuns.{outcome_status, output_line, Ran, ReadsList, report_line, style_of, Takes, TakesNames, TellsOn, Word, Writes}
 pub use Rattle.file_keys.specs.Keys.{end_of, escaped, escaped_byte, fault_text, is_special, IsKeyIn, IsStatus, key_line, name_mark, pieces_of, reason_of}
 pub use Rattle.file_keys.specs.Keys.{refused_line, unopened_line}

@@ -1,7 +1,7 @@
 //! The command `duplicates`: its files, one after another, and then the groups.
 
 ghost use Rattle.std.specs.Prelude.{◌≡◌, [], false, map};
-ghost use Rattle.file_keys.specs.Words.{sink_run, CanGather, end_of, Gathers, IsGroupStatus, Listed, names_in, RanDuplicates, Word};
+ghost use Rattle.file_keys.specs.Words.{sink_run, CanBegin, CanGather, end_of, Gathers, IsGroupStatus, Listed, names_in, RanDuplicates, Word};
 
 use super::gathered::Gathered;
 use super::texts::write_groups;
@@ -77,11 +77,8 @@ where
     F: FnMut(Origin<'_>) -> IoResult<R> + Drop,
     W: Sink,
     E: Sink,
-    requires callable { F.IsAlwaysCallable opener }
-    requires works { W.failures out.old ≡ 0 }
-    requires takes { W.stalled out.old ≡ false }
-    requires tells { E.failures err.old ≡ 0 }
-    requires hears { E.stalled err.old ≡ false }
+    requires { CanBegin F.IsAlwaysCallable W.failures W.stalled E.failures E.stalled
+        opener out.old err.old }
     ensures ran { RanDuplicates F.step R.remaining R.failures plan.now opener
         (sink_run W.contents W.failures W.stalled out.old out.new)
         (sink_run E.contents E.failures E.stalled err.old err.new) (W.flushed out.new) result }

@@ -1,7 +1,7 @@
 //! The command `keys`: its files, one after another.
 
 ghost use Rattle.std.specs.Prelude.{◌≡◌, OnOk, false, true, map};
-ghost use Rattle.file_keys.specs.Words.{sink_run, CanTake, LeavesSink, IsStatus, end_of, Listed, names_among, names_in, Ran, TakesNames, Word};
+ghost use Rattle.file_keys.specs.Words.{sink_run, CanBegin, CanTake, LeavesSink, IsStatus, end_of, Listed, names_among, names_in, Ran, TakesNames, Word};
 
 use super::files::Files;
 use super::names::first_name;
@@ -117,11 +117,8 @@ where
     F: FnMut(Origin<'_>) -> IoResult<R> + Drop,
     W: Sink,
     E: Sink,
-    requires callable { F.IsAlwaysCallable opener }
-    requires works { W.failures out.old ≡ 0 }
-    requires takes { W.stalled out.old ≡ false }
-    requires tells { E.failures err.old ≡ 0 }
-    requires hears { E.stalled err.old ≡ false }
+    requires { CanBegin F.IsAlwaysCallable W.failures W.stalled E.failures E.stalled
+        opener out.old err.old }
     ensures ran { Ran F.step R.remaining R.failures plan.now opener
         (sink_run W.contents W.failures W.stalled out.old out.new)
         (sink_run E.contents E.failures E.stalled err.old err.new) (W.flushed out.new) result }
