@@ -1,4 +1,4 @@
-//! The files in folders, which the option `--recursive` asks for.
+//! The files in folders, for the option `--recursive`.
 
 use std::alloc::AllocError;
 use std::collections::BTreeMap;

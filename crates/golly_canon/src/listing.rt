@@ -5,7 +5,7 @@ use crate::counting::NameCount;
 use crate::folders::{Found, take_list, take_words};
 use crate::opening::{HeldStreams, Input, open_no_folder};
 use crate::outputs::{Errors, NameCounter, Output, Visible};
-use crate::progress::{Beside, ProgressLine};
+use crate::progress::{ClearingWriter, ProgressLine};
 use crate::watching::{Watched, Watcher, watch_opened};
 use file_keys::{write_duplicates, write_keys};
 use life_base::{Device, Kind};
@@ -81,11 +81,11 @@ impl<'a> Run<'a> {
         &self,
         rt: &HostRuntime,
         json: bool,
-    ) -> Output<'_, NameCounter<'_, Beside<'_, Visible<Stdout>>>> {
+    ) -> Output<'_, NameCounter<'_, ClearingWriter<'_, Visible<Stdout>>>> {
         let stream = rt.stdout();
         Output {
             stream: NameCounter {
-                stream: Beside {
+                stream: ClearingWriter {
                     stream: Visible {
                         stream,
                         is_terminal: stream.is_terminal(),
@@ -102,9 +102,9 @@ impl<'a> Run<'a> {
     }
 
     /// Standard error, whose lines do too.
-    fn stderr(&self, rt: &HostRuntime) -> Beside<'_, Visible<Stderr>> {
+    fn stderr(&self, rt: &HostRuntime) -> ClearingWriter<'_, Visible<Stderr>> {
         let stream = rt.stderr();
-        Beside {
+        ClearingWriter {
             stream: Visible {
                 stream,
                 is_terminal: stream.is_terminal(),
@@ -115,7 +115,7 @@ impl<'a> Run<'a> {
     }
 
     /// The same for reports, each of which says that a file is passed over.
-    fn errors(&self, rt: &HostRuntime) -> Errors<'_, Beside<'_, Visible<Stderr>>> {
+    fn errors(&self, rt: &HostRuntime) -> Errors<'_, ClearingWriter<'_, Visible<Stderr>>> {
         Errors {
             stream: self.stderr(rt),
             is_left: &self.is_left,

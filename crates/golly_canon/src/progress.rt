@@ -99,16 +99,16 @@ impl ProgressLine {
     }
 }
 
-/// A standard stream whose lines come in place of the line of progress.
+/// A standard stream that clears the line of progress before each write.
 #[derive(Drop)]
-pub(crate) struct Beside<'a, W> {
+pub(crate) struct ClearingWriter<'a, W> {
     pub stream: W,
     pub progress: &'a ProgressLine,
     /// Whether the stream is the terminal of the line.
     pub clears: bool,
 }
 
-impl<'a, W: Write> Write for Beside<'a, W> {
+impl<'a, W: Write> Write for ClearingWriter<'a, W> {
     fn write(&mut self, buf: &[u8]) -> Result<usize> {
         if self.clears {
             self.progress.clear();
