@@ -11,6 +11,7 @@ pub mod PlaneLemmas
 pub mod ShortKinds
 pub mod RowLimits
 pub mod ReadItems
+pub mod ShortItems
 pub mod Advance
 pub mod Texts
 pub mod CellsLaw

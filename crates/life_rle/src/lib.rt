@@ -14,6 +14,7 @@ mod pen;
 mod plane;
 mod position;
 mod reading;
+mod short_items;
 mod sorted;
 mod wrapping;
 mod writing;

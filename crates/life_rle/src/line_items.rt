@@ -5,8 +5,9 @@ ghost use Rattle.life_rle.specs.Words.{vec_len, vec_capacity, byte, most_count, 
 
 use crate::cursor::{Cursor, cells_fault, end_rows, moved, row_limit};
 use crate::item::{Item, Token, token_at};
+use crate::short_items::{Place, take_short_items};
 use bstr::ByteSlice;
-use life_base::{Kind, MAX_LEVEL, Rule, Run, State};
+use life_base::{Kind, LONGEST_LINE, MAX_LEVEL, Rule, Run, State};
 
 /// A line of more bytes is long: its runs are counted before memory is reserved for them.
 const LONG_LINE: usize = 256;
@@ -190,7 +191,8 @@ pub(crate) fn read_items(
     line: &[u8],
     runs: &mut Vec<Run>,
 ) -> Result<ItemsRead, Kind>
-    requires { IsNear MAX_LEVEL from }
+    requires near { IsNear MAX_LEVEL from }
+    requires line { length line.now ≤ LONGEST_LINE }
     ensures read { IfOk result (λ read. ReadsItems MAX_LEVEL rule.now from line.now
         (last_of read.marked) read.cursor runs.old.items runs.new.items) }
     ensures fault { IfErr result
@@ -201,7 +203,13 @@ pub(crate) fn read_items(
     let mut cursor = from;
     let mut limit = row_limit(from.y);
     let mut at = 0;
+    // Where an item is too long, so may be the others of the line: no more short ones are expected after two such items in a row.
+    let mut are_short = true;
     while at < line.len() {
+        let here = take_short_items(line, Place { at, cursor }, limit, are_short, runs);
+        are_short = at < here.at;
+        at = here.at;
+        cursor = here.cursor;
         match token_at(line, at) {
             Token::Space => at += 1,
             Token::Mark => {

@@ -1,0 +1,143 @@
+-- Short items: the tables that decide them, held against each of the 256 bytes by computing; what they spell; and one more of them is read.
+use Rattle.std.proofs.Common.{◌≡◌, ◌∙◌, ◌+◌, ◌-◌, ◌*◌, ◌≤◌, ◌<◌, ◌∷◌, ◌++◌, ◌^◌, ℕ, List, [], length, drop, get_or, Bool, true, false, cond, refl, ap, sym, arith, pos, neg_ℤ, ℤ, ◌+ℤ◌, ◌≤ℤ◌, None, ◌&&◌, map}
+use Rattle.std.specs.Prelude.{nat_le, int_le, int_lt, if◌then◌else◌}
+use Rattle.std.proofs.lemmas.Bool.Decides.{nat_tests}
+use Rattle.std.proofs.lemmas.Int.{ints}
+use Rattle.std.proofs.lemmas.List.FromFn.{get_or-map-range_with_len}
+use Rattle.std.specs.List.{range_with_len}
+use Rattle.std.specs.Char.{is_ascii_digit}
+use Rattle.life_base.specs.declared.cell.TheConstants.{MAX_LEVEL}
+use Rattle.life_base.specs.declared.cell.Run.{Run}
+use Rattle.life_base.specs.declared.rule.Rule.{Rule}
+use Rattle.life_base.specs.declared.rule.Rule.TheVariants.{Life, Named}
+use Rattle.life_rle.specs.declared.cursor.Cursor.{Cursor}
+use Rattle.life_rle.specs.declared.item.Item.{Item}
+use Rattle.life_rle.specs.declared.item.Item.TheVariants.{Cells}
+use Rattle.life_rle.specs.declared.short_items.TheConstants.{COUNTS, DIGITS}
+use Rattle.life_rle.specs.Items.{Spelled, item_behind, next_of}
+use Rattle.life_rle.specs.Pattern.{item_fault}
+use Rattle.life_rle.specs.Plane.{edge}
+use Rattle.life_rle.specs.Runs.{with_run}
+use Rattle.life_rle.specs.States.{is_state_of}
+use Rattle.life_rle.specs.Cursor.{IsNear, moved, row_limit}
+use Rattle.life_rle.specs.ShortItems.{short_count, short_digits, IsShort, HasRoom, ReadsOn}
+use Rattle.life_rle.proofs.DigitInFront.{text_at, digit_in_front}
+use Rattle.life_rle.proofs.ReadItems.{reads-as, reads_more}
+use Rattle.life_rle.proofs.RowLimits.{fault-by, further}
+
+counts : COUNTS ≡ map short_count (range_with_len 0 256)
+counts = refl
+
+pub count_of : (b : ℕ) → b < 256 → get_or COUNTS b 0 ≡ short_count b
+count_of b h = ap (λ (r : List ℕ). get_or r b 0) counts ∙ get_or-map-range_with_len short_count 0 256 b b 0 h (omega arith)
+
+digits : DIGITS ≡ map short_digits (range_with_len 0 256)
+digits = refl
+
+pub digits_of : (b : ℕ) → b < 256 → get_or DIGITS b 0 ≡ short_digits b
+digits_of b h = ap (λ (r : List ℕ). get_or r b 0) digits ∙ get_or-map-range_with_len short_digits 0 256 b b 0 h (omega arith)
+
+-- `b` and `o` behind a count
+dead-item : (n : ℕ) (rest : List ℕ) → item_behind n (98 ∷ rest) ≡ Spelled (Cells n 0) rest
+dead-item n [] = refl
+dead-item n (c ∷ rest) = refl
+
+live-item : (n : ℕ) (rest : List ℕ) → item_behind n (111 ∷ rest) ≡ Spelled (Cells n 1) rest
+live-item n [] = refl
+live-item n (c ∷ rest) = refl
+
+-- an item without a digit
+no-digit : (line : List ℕ) (at : ℕ) → at + 1 < length line → IsShort MAX_LEVEL line at 1 at
+no-digit line at h = record {
+  inside = (omega arith, omega arith);
+  few = omega arith;
+  dead = λ e. ap (next_of MAX_LEVEL) (text_at line at (omega arith) ∙ ap (λ b. b ∷ drop (at + 1) line) e) ∙ dead-item 1 (drop (at + 1) line);
+  live = λ e. ap (next_of MAX_LEVEL) (text_at line at (omega arith) ∙ ap (λ b. b ∷ drop (at + 1) line) e) ∙ live-item 1 (drop (at + 1) line);
+}
+
+-- an item with a digit
+one-digit : (line : List ℕ) (at : ℕ) → at + 1 < length line → 49 ≤ get_or line at 0 → get_or line at 0 ≤ 57
+    → IsShort MAX_LEVEL line at (get_or line at 0 - 48) (at + 1)
+one-digit line at h low high =
+    let first = get_or line at 0 in
+    let rest = drop (at + 1 + 1) line in
+    let two : (b : ℕ) → get_or line (at + 1) 0 ≡ b → drop at line ≡ first ∷ b ∷ rest =
+    λ b e. text_at line at (omega arith) ∙ ap (λ t. first ∷ t) (text_at line (at + 1) h ∙ ap (λ c. c ∷ rest) e) in
+    record {
+      inside = (omega arith, omega arith);
+      few = omega (arith, high);
+      dead = λ e. ap (next_of MAX_LEVEL) (two 98 e) ∙ digit_in_front first 98 rest low high refl ∙ dead-item (first - 48) rest;
+      live = λ e. ap (next_of MAX_LEVEL) (two 111 e) ∙ digit_in_front first 111 rest low high refl ∙ live-item (first - 48) rest;
+    }
+
+-- what the tables say of the item at a place
+pub is-short : (line : List ℕ) (at : ℕ) → at + 1 < length line
+    → IsShort MAX_LEVEL line at (short_count (get_or line at 0)) (at + short_digits (get_or line at 0))
+is-short line at h =
+    let first = get_or line at 0 in
+    elim (nat_le 49 first && nat_le first 57)
+    as (λ t. (nat_le 49 first && nat_le first 57) ≡ t → IsShort MAX_LEVEL line at (cond t (first - 48) 1) (at + cond t 1 0)) [
+      | true ↦ λ e. one-digit line at h (grind (arith, nat_tests)) (grind (arith, nat_tests))
+      | false ↦ λ e. rw (plus-zero at) (no-digit line at h)
+    ] refl
+  where
+    plus-zero : (n : ℕ) → n + 0 ≡ n
+    plus-zero n = omega arith
+
+-- states 0 and 1 are of every rule
+known : (rule : Rule) (state : ℕ) → state ≤ 1 → is_state_of rule state ≡ true
+known (Life sets) state h = grind (arith, nat_tests)
+known (Named name) state h = grind (arith, nat_tests)
+
+low-limit : (y : ℤ) → row_limit MAX_LEVEL y ≤ℤ edge MAX_LEVEL
+low-limit y =
+    elim (int_lt y (edge MAX_LEVEL)) as (λ t. cond t (edge MAX_LEVEL) (neg_ℤ (pos (2 ^ 63))) ≤ℤ edge MAX_LEVEL)
+    [ true ↦ omega (arith, ints) | false ↦ omega (arith, ints) ]
+
+-- cells within the limit
+within : (x limit : ℤ) (n left : ℕ) → n ≤ 9 → 0 < left → (x +ℤ pos (9 * left)) ≤ℤ limit → (x +ℤ pos n) ≤ℤ limit
+within x limit n left few some room = omega (arith, ints)
+
+later : (x limit : ℤ) (n before after : ℕ) → n ≤ 9 → after + 1 ≤ before → (x +ℤ pos (9 * before)) ≤ℤ limit → ((x +ℤ pos n) +ℤ pos (9 * after)) ≤ℤ limit
+later x limit n before after few less room = omega (arith, ints)
+
+up-to : (a b c : ℤ) → a ≤ℤ b → b ≤ℤ c → a ≤ℤ c
+up-to a b c h k = omega (arith, ints)
+
+tested : (a b : ℤ) → a ≤ℤ b → int_le a b ≡ true
+tested a b h = grind (arith, ints)
+
+-- behind a short item there is room again
+pub still-room : (line : List ℕ) (at count state behind : ℕ) (here : Cursor) → HasRoom MAX_LEVEL line at here → count ≤ 9 → at < behind → behind ≤ length line
+    → HasRoom MAX_LEVEL line behind (moved here (Cells count state))
+still-room line at count state behind here h few on inside =
+    let limit = row_limit MAX_LEVEL here.y in
+    let cells = within here.x limit count (length line - at) few (omega (arith, on, inside)) h.room in
+    record {
+      near = record {
+        left = h.near.left;
+        x = (further (neg_ℤ (edge MAX_LEVEL)) here.x count h.near.x.0, up-to _ _ _ cells (low-limit here.y));
+        y = h.near.y;
+      };
+      room = later here.x limit count (length line - at) (length line - behind) few (omega (arith, on, inside)) h.room;
+    }
+
+-- one more short item is read
+pub reads-short : (line : List ℕ) (at count state behind : ℕ) (here : Cursor) (found more : List Run) → HasRoom MAX_LEVEL line at here → count ≤ 9
+    → state ≤ 1 → at < behind → behind ≤ length line → next_of MAX_LEVEL (drop at line) ≡ Spelled (Cells count state) (drop behind line)
+    → more ≡ found ++ with_run here.y here.x (Cells count state) []
+    → ReadsOn MAX_LEVEL line at here found behind (moved here (Cells count state)) more
+reads-short line at count state behind here found more h few low on inside spelled adds rule from before read =
+    let item : Item = Cells count state in
+    let limit = row_limit MAX_LEVEL here.y in
+    let cells = within here.x limit count (length line - at) few (omega (arith, on, inside)) h.room in
+    let sound : item_fault MAX_LEVEL rule here.y here.x item ≡ None =
+    fault-by (is_state_of rule state) here.y here.x limit count h.near.x.0 refl (known rule state low) true (tested _ _ cells) in
+    reads_more MAX_LEVEL rule from here line (drop behind line) before found more item (moved here item)
+    (reads-as MAX_LEVEL rule from line _ _ here before found read spelled) sound refl (still-room line at count state behind here h few on inside).near adds
+
+-- one stretch behind another
+pub reads-on : (line : List ℕ) (at middle behind : ℕ) (here halfway there : Cursor) (found some more : List Run)
+    → ReadsOn MAX_LEVEL line at here found middle halfway some → ReadsOn MAX_LEVEL line middle halfway some behind there more
+    → ReadsOn MAX_LEVEL line at here found behind there more
+reads-on line at middle behind here halfway there found some more first second rule from before read = second rule from before (first rule from before read)

@@ -1,0 +1,28 @@
+use Rattle.std.proofs.Common.{◌≡◌, ◌+◌, refl, sym, subst, arith, append-nil, get_or}
+use Rattle.life_base.specs.declared.cell.TheConstants.{MAX_LEVEL}
+use Rattle.life_rle.specs.declared.cursor.Cursor.{Cursor}
+use Rattle.life_rle.specs.ShortItems.{PassesDead}
+use Rattle.life_rle.proofs.ShortItems.{reads-short, still-room}
+use Rattle.life_rle.proofs.short_items.pass_dead.Goals as goal
+
+pub returns-then-line-last-ne98 : goal.returns-then-line-last-ne98
+returns-then-line-last-ne98 c = record { inside = (omega arith, omega arith); row = refl; room = c.requires.room; read = λ found rule from before read. read }
+
+pub returns : goal.returns
+returns c =
+    let line = c.args.line.now in
+    let at = c.args.here.at in
+    let here = c.args.here.cursor in
+    let item = c.short_item-count.ensures in
+    let count = c.short_item-count.result.0 in
+    let last = c.short_item-count.result.1 in
+    let low = item.inside.0 in
+    let high = item.inside.1 in
+    let dead : get_or line last 0 ≡ 98 = omega (arith, c.if-line-last-ne98.false) in
+    subst (λ (there : Cursor). PassesDead MAX_LEVEL line at here (last + 1) there) (sym c.moved.ensures) (record {
+      inside = (omega (arith, low), omega (arith, high));
+      row = refl;
+      room = still-room line at count 0 (last + 1) here c.requires.room item.few (omega (arith, low)) (omega (arith, high, c.requires.inside));
+      read = λ found. reads-short line at count 0 (last + 1) here found found c.requires.room item.few (omega arith) (omega (arith, low))
+          (omega (arith, high, c.requires.inside)) (item.dead dead) (sym (append-nil found));
+    })

@@ -1,0 +1,67 @@
+use Rattle.std.proofs.Common.{◌≡◌, ◌+◌, ◌∷◌, ◌++◌, ◌∙◌, [], sym, subst, ap, arith, get_or, rules}
+use Rattle.life_base.specs.declared.cell.TheConstants.{MAX_LEVEL}
+use Rattle.life_base.specs.declared.cell.Run.{Run}
+use Rattle.life_rle.specs.declared.cursor.Cursor.{Cursor}
+use Rattle.life_rle.specs.declared.item.Item.TheVariants.{Cells}
+use Rattle.life_rle.specs.Cursor.{moved}
+use Rattle.life_rle.specs.Runs.{with_run}
+use Rattle.life_rle.specs.ShortItems.{HasRoom, ReadsOn}
+use Rattle.life_rle.proofs.ShortItems.{reads-on, reads-short, still-room}
+use Rattle.life_rle.proofs.short_items.take_short_items.Goals as goal
+use Rattle.life_rle.proofs.short_items.take_short_items.Goals.{else-loop-here-test, then-loop-here-test+then-line-last-ne111}
+
+pub loop-here-preserved : goal.loop-here-preserved
+loop-here-preserved c =
+    let line = c.args.line.now in
+    let at = c.loop-here.here.at in
+    let middle = c.pass_dead-here.result.at in
+    let halfway = c.pass_dead-here.result.cursor in
+    let passed = c.pass_dead-here.ensures in
+    let item = c.short_item-count.ensures in
+    let count = c.short_item-count.result.0 in
+    let last = c.short_item-count.result.1 in
+    let before = c.loop-here.lent.items in
+    let kept = c.loop-here.invariant in
+    let end = kept.end in
+    let on = c.loop-here-test.true in
+    let from = passed.inside.0 in
+    let to = passed.inside.1 in
+    let low = item.inside.0 in
+    let high = item.inside.1 in
+    let spare = kept.spare in
+    let len = c.push_reserved.ensures.len in
+    let capacity = c.push_reserved.ensures.capacity in
+    let live : get_or line last 0 ≡ 111 = omega (arith, c.if-line-last-ne111.false) in
+    let there : Cursor = moved halfway (Cells count 1) in
+    let pushed : c.push_reserved.new.self.items ≡ before ++ with_run halfway.y halfway.x (Cells count 1) [] = search rules in
+    let moves = c.moved.ensures in
+    record {
+      on = omega (arith, kept.on, from, low);
+      inside = omega (arith, end, on, to, high);
+      end = end;
+      row = ap (λ (next : Cursor). next.y) moves ∙ passed.row ∙ kept.row;
+      room = subst (HasRoom MAX_LEVEL line (last + 1)) (sym moves) (still-room line middle count 1 (last + 1) halfway passed.room item.few (omega (arith, low))
+          (omega (arith, end, on, to, high)));
+      spare = omega (arith, spare, len, capacity, on, from, low);
+      read = subst (λ (next : Cursor). ReadsOn MAX_LEVEL line c.args.from.at c.args.from.cursor c.args.runs.now.items (last + 1) next
+          c.push_reserved.new.self.items) (sym moves) (reads-on line c.args.from.at at (last + 1) c.args.from.cursor c.loop-here.here.cursor there c.args.runs.now.items before
+          c.push_reserved.new.self.items kept.read
+          (reads-on line at middle (last + 1) c.loop-here.here.cursor halfway there before before c.push_reserved.new.self.items (passed.read before)
+          (reads-short line middle count 1 (last + 1) halfway before c.push_reserved.new.self.items passed.room item.few (omega arith) (omega (arith, low))
+          (omega (arith, end, on, to, high)) (item.live live) pushed)));
+    }
+
+pub returns-clause-near : goal.returns-clause-near
+returns-clause-near c = elim c.loop-here-test.branch [
+  | else-loop-here-test w ↦ rw w.here-is c.loop-here.invariant.room.near
+  | then-loop-here-test+then-line-last-ne111 w ↦ rw w.here-is w.pass_dead-here.ensures.room.near
+]
+
+pub returns-clause-read : goal.returns-clause-read
+returns-clause-read c = elim c.loop-here-test.branch [
+  | else-loop-here-test w ↦ rw w.here-is c.loop-here.invariant.read
+  | then-loop-here-test+then-line-last-ne111 w ↦ rw w.here-is
+      (reads-on c.args.line.now c.args.from.at c.loop-here.here.at w.pass_dead-here.result.at c.args.from.cursor c.loop-here.here.cursor
+      w.pass_dead-here.result.cursor c.args.runs.now.items c.loop-here.lent.items c.loop-here.lent.items c.loop-here.invariant.read
+      (w.pass_dead-here.ensures.read c.loop-here.lent.items))
+]

@@ -1,0 +1,135 @@
+//! Short items of a line: cells of state 0 or 1, written `b` or `o`, whose count has at most one digit. Most items of soups are short.
+
+ghost use Rattle.std.specs.Prelude.{◌≡◌, ◌≤◌, ◌<◌, ◌+◌, length, slice_index};
+ghost use Rattle.life_rle.specs.Words.{byte, IsNear, row_limit, HasRoom, ReadsOn, IsShort, PassesDead, short_count, short_digits};
+
+use crate::cursor::{Cursor, moved};
+use crate::item::Item;
+use life_base::{LONGEST_LINE, MAX_LEVEL, Run};
+use std::mem;
+
+/// The count of a short item that begins with this byte.
+static COUNTS: [u8; 256] = [
+    1, 1, 1, 1, 1, 1, 1, 1, 1, 1, 1, 1, 1, 1, 1, 1, 1, 1, 1, 1, 1, 1, 1, 1, 1, 1, 1, 1, 1, 1, 1, 1,
+    1, 1, 1, 1, 1, 1, 1, 1, 1, 1, 1, 1, 1, 1, 1, 1, 1, 1, 2, 3, 4, 5, 6, 7, 8, 9, 1, 1, 1, 1, 1, 1,
+    1, 1, 1, 1, 1, 1, 1, 1, 1, 1, 1, 1, 1, 1, 1, 1, 1, 1, 1, 1, 1, 1, 1, 1, 1, 1, 1, 1, 1, 1, 1, 1,
+    1, 1, 1, 1, 1, 1, 1, 1, 1, 1, 1, 1, 1, 1, 1, 1, 1, 1, 1, 1, 1, 1, 1, 1, 1, 1, 1, 1, 1, 1, 1, 1,
+    1, 1, 1, 1, 1, 1, 1, 1, 1, 1, 1, 1, 1, 1, 1, 1, 1, 1, 1, 1, 1, 1, 1, 1, 1, 1, 1, 1, 1, 1, 1, 1,
+    1, 1, 1, 1, 1, 1, 1, 1, 1, 1, 1, 1, 1, 1, 1, 1, 1, 1, 1, 1, 1, 1, 1, 1, 1, 1, 1, 1, 1, 1, 1, 1,
+    1, 1, 1, 1, 1, 1, 1, 1, 1, 1, 1, 1, 1, 1, 1, 1, 1, 1, 1, 1, 1, 1, 1, 1, 1, 1, 1, 1, 1, 1, 1, 1,
+    1, 1, 1, 1, 1, 1, 1, 1, 1, 1, 1, 1, 1, 1, 1, 1, 1, 1, 1, 1, 1, 1, 1, 1, 1, 1, 1, 1, 1, 1, 1, 1,
+];
+
+/// How many digits a short item has that begins with this byte.
+static DIGITS: [u8; 256] = [
+    0, 0, 0, 0, 0, 0, 0, 0, 0, 0, 0, 0, 0, 0, 0, 0, 0, 0, 0, 0, 0, 0, 0, 0, 0, 0, 0, 0, 0, 0, 0, 0,
+    0, 0, 0, 0, 0, 0, 0, 0, 0, 0, 0, 0, 0, 0, 0, 0, 0, 1, 1, 1, 1, 1, 1, 1, 1, 1, 0, 0, 0, 0, 0, 0,
+    0, 0, 0, 0, 0, 0, 0, 0, 0, 0, 0, 0, 0, 0, 0, 0, 0, 0, 0, 0, 0, 0, 0, 0, 0, 0, 0, 0, 0, 0, 0, 0,
+    0, 0, 0, 0, 0, 0, 0, 0, 0, 0, 0, 0, 0, 0, 0, 0, 0, 0, 0, 0, 0, 0, 0, 0, 0, 0, 0, 0, 0, 0, 0, 0,
+    0, 0, 0, 0, 0, 0, 0, 0, 0, 0, 0, 0, 0, 0, 0, 0, 0, 0, 0, 0, 0, 0, 0, 0, 0, 0, 0, 0, 0, 0, 0, 0,
+    0, 0, 0, 0, 0, 0, 0, 0, 0, 0, 0, 0, 0, 0, 0, 0, 0, 0, 0, 0, 0, 0, 0, 0, 0, 0, 0, 0, 0, 0, 0, 0,
+    0, 0, 0, 0, 0, 0, 0, 0, 0, 0, 0, 0, 0, 0, 0, 0, 0, 0, 0, 0, 0, 0, 0, 0, 0, 0, 0, 0, 0, 0, 0, 0,
+    0, 0, 0, 0, 0, 0, 0, 0, 0, 0, 0, 0, 0, 0, 0, 0, 0, 0, 0, 0, 0, 0, 0, 0, 0, 0, 0, 0, 0, 0, 0, 0,
+];
+
+/// Short items of a line move the cursor by fewer columns than this: 9 for each byte of the longest line.
+const FAR: i64 = 9 * LONGEST_LINE as i64;
+
+/// A place of a line, and where the item there begins on the plane.
+#[derive(Clone, Copy)]
+pub(crate) struct Place {
+    pub(crate) at: usize,
+    pub(crate) cursor: Cursor,
+}
+
+/// The count that a byte begins a short item with.
+#[inline(always)]
+fn short_count(byte: u8) -> u64
+    ensures { result ≡ short_count byte }
+{
+    u64::from(COUNTS[usize::from(byte)])
+}
+
+/// How many digits a short item has that begins with a byte.
+#[inline(always)]
+fn short_digits(byte: u8) -> usize
+    ensures { result ≡ short_digits byte }
+{
+    usize::from(DIGITS[usize::from(byte)])
+}
+
+/// The count of the short item at a place, and the place of its last byte. If that byte is neither `b` nor `o`, the item isn't short.
+#[inline(always)]
+fn short_item(line: &[u8], at: usize) -> (u64, usize)
+    requires { at + 1 < length line.now }
+    ensures { IsShort MAX_LEVEL line.now at result.0 result.1 }
+{
+    let first = line[at];
+    (short_count(first), at + short_digits(first))
+}
+
+/// The place after a short item of dead cells, if one is here.
+#[inline(always)]
+fn pass_dead(line: &[u8], here: Place) -> Place
+    requires inside { here.at + 1 < length line.now }
+    requires room { HasRoom MAX_LEVEL line.now here.at here.cursor }
+    ensures { PassesDead MAX_LEVEL line.now here.at here.cursor result.at result.cursor }
+{
+    let (count, last) = short_item(line, here.at);
+    if line[last] != b'b' {
+        return here;
+    }
+    Place {
+        at: last + 1,
+        cursor: moved(here.cursor, Item::Cells { count, state: 0 }),
+    }
+}
+
+/// Takes short items from a place of a line on if any are expected there, and puts their runs after the runs. It stops before the line's last
+/// four bytes, before an item that isn't short, where there may be no capacity for one more run, and near the edge of the plane.
+#[inline(always)]
+pub(crate) fn take_short_items(
+    line: &[u8],
+    from: Place,
+    limit: i64,
+    are_expected: bool,
+    runs: &mut Vec<Run>,
+) -> Place
+    requires line { length line.now ≤ LONGEST_LINE }
+    requires inside { from.at < length line.now }
+    requires near { IsNear MAX_LEVEL from.cursor }
+    requires limit { limit ≡ row_limit MAX_LEVEL from.cursor.y }
+    ensures inside { (from.at ≤ result.at) × (result.at < length line.now) }
+    ensures near { IsNear MAX_LEVEL result.cursor }
+    ensures row { result.cursor.y ≡ from.cursor.y }
+    ensures read { ReadsOn MAX_LEVEL line.now from.at from.cursor runs.old.items result.at
+        result.cursor runs.new.items }
+{
+    if !are_expected || from.cursor.x + FAR > limit {
+        return from;
+    }
+    let alloc = *runs.allocator();
+    let mut lent = mem::replace(runs, Vec::new(alloc));
+    let spare = lent.capacity() - lent.len();
+    let end = line.len().saturating_sub(4).min(from.at.saturating_add(spare));
+    let mut here = from;
+    while here.at < end {
+        here = pass_dead(line, here);
+        let (count, last) = short_item(line, here.at);
+        if line[last] != b'o' {
+            break;
+        }
+        lent.push_reserved(Run {
+            x: here.cursor.x,
+            y: here.cursor.y,
+            len: count,
+            state: 1,
+        });
+        here = Place {
+            at: last + 1,
+            cursor: moved(here.cursor, Item::Cells { count, state: 1 }),
+        };
+    }
+    *runs = lent;
+    here
+}
