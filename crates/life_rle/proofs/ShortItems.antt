@@ -1,5 +1,5 @@
 -- Short items: the tables that decide them, held against each of the 256 bytes by computing; what they spell; and one more of them is read.
-use Rattle.std.proofs.Common.{◌≡◌, ◌∙◌, ◌+◌, ◌-◌, ◌*◌, ◌≤◌, ◌<◌, ◌∷◌, ◌++◌, ◌^◌, ℕ, List, [], length, drop, get_or, Bool, true, false, cond, refl, ap, sym, arith, pos, neg_ℤ, ℤ, ◌+ℤ◌, ◌≤ℤ◌, None, ◌&&◌, map}
+use Rattle.std.proofs.Common.{◌≡◌, ◌∙◌, ◌+◌, ◌-◌, ◌*◌, ◌≤◌, ◌<◌, ◌∷◌, ◌++◌, ◌^◌, ℕ, List, [], length, drop, get_or, Bool, true, false, cond, refl, ap, sym, arith, pos, neg_ℤ, ℤ, ◌+ℤ◌, ◌≤ℤ◌, None, ◌&&◌, map, append-nil}
 use Rattle.std.specs.Prelude.{nat_le, int_le, int_lt, if◌then◌else◌}
 use Rattle.std.proofs.lemmas.Bool.Decides.{nat_tests}
 use Rattle.std.proofs.lemmas.Int.{ints}
@@ -20,6 +20,7 @@ use Rattle.life_rle.specs.Plane.{edge}
 use Rattle.life_rle.specs.Runs.{with_run}
 use Rattle.life_rle.specs.States.{is_state_of}
 use Rattle.life_rle.specs.Cursor.{IsNear, moved, row_limit}
+use Rattle.life_rle.specs.Reader.{ReadsItems}
 use Rattle.life_rle.specs.ShortItems.{short_count, short_digits, IsShort, HasRoom, ReadsOn}
 use Rattle.life_rle.proofs.DigitInFront.{text_at, digit_in_front}
 use Rattle.life_rle.proofs.ReadItems.{reads-as, reads_more}
@@ -126,7 +127,7 @@ still-room line at count state behind here h few on inside =
 pub reads-short : (line : List ℕ) (at count state behind : ℕ) (here : Cursor) (found more : List Run) → HasRoom MAX_LEVEL line at here → count ≤ 9
     → state ≤ 1 → at < behind → behind ≤ length line → next_of MAX_LEVEL (drop at line) ≡ Spelled (Cells count state) (drop behind line)
     → more ≡ found ++ with_run here.y here.x (Cells count state) []
-    → ReadsOn MAX_LEVEL line at here found behind (moved here (Cells count state)) more
+    → (rule : Rule) → ReadsOn MAX_LEVEL rule line at here found behind (moved here (Cells count state)) more
 reads-short line at count state behind here found more h few low on inside spelled adds rule from before read =
     let item : Item = Cells count state in
     let limit = row_limit MAX_LEVEL here.y in
@@ -137,7 +138,26 @@ reads-short line at count state behind here found more h few low on inside spell
     (reads-as MAX_LEVEL rule from line _ _ here before found read spelled) sound refl (still-room line at count state behind here h few on inside).near adds
 
 -- one stretch behind another
-pub reads-on : (line : List ℕ) (at middle behind : ℕ) (here halfway there : Cursor) (found some more : List Run)
-    → ReadsOn MAX_LEVEL line at here found middle halfway some → ReadsOn MAX_LEVEL line middle halfway some behind there more
-    → ReadsOn MAX_LEVEL line at here found behind there more
-reads-on line at middle behind here halfway there found some more first second rule from before read = second rule from before (first rule from before read)
+pub reads-on : (rule : Rule) (line : List ℕ) (at middle behind : ℕ) (here halfway there : Cursor) (found some more : List Run)
+    → ReadsOn MAX_LEVEL rule line at here found middle halfway some → ReadsOn MAX_LEVEL rule line middle halfway some behind there more
+    → ReadsOn MAX_LEVEL rule line at here found behind there more
+reads-on rule line at middle behind here halfway there found some more first second from before read = second from before (first from before read)
+
+-- one more item of a line is read
+pub reads-one : (rule : Rule) (line : List ℕ) (at behind : ℕ) (here there : Cursor) (found more : List Run) (item : Item)
+    → next_of MAX_LEVEL (drop at line) ≡ Spelled item (drop behind line) → item_fault MAX_LEVEL rule here.y here.x item ≡ None
+    → there ≡ moved here item → IsNear MAX_LEVEL there → more ≡ found ++ with_run here.y here.x item []
+    → ReadsOn MAX_LEVEL rule line at here found behind there more
+reads-one rule line at behind here there found more item spelled sound moves near adds from before read =
+    reads_more MAX_LEVEL rule from here line (drop behind line) before found more item there
+    (reads-as MAX_LEVEL rule from line _ _ here before found read spelled) sound moves near adds
+
+-- before the first item nothing was read
+pub reads-none : (rule : Rule) (from : Cursor) (line : List ℕ) (runs : List Run) → IsNear MAX_LEVEL from
+    → ReadsItems MAX_LEVEL rule from line (next_of MAX_LEVEL line) from runs runs
+reads-none rule from line runs near = record {
+  items = [];
+  found = [];
+  read = record { spelled = refl; sound = refl; cursor = refl; near = near; runs = refl };
+  added = sym (append-nil runs);
+}

@@ -30,9 +30,9 @@ pub record HasRoom (level : ℕ) (line : List ℕ) (at : ℕ) (here : Cursor) : 
   pub room : (here.x +ℤ pos (9 * (length line - at))) ≤ℤ row_limit level here.y
 
 -- whatever was read up to a place of the line is read up to another one, with more runs
-abbrev pub ReadsOn : ℕ → List ℕ → ℕ → Cursor → List Run → ℕ → Cursor → List Run → Type 0
-ReadsOn level line at here found behind there more =
-    (rule : Rule) (from : Cursor) (before : List Run) → ReadsItems level rule from line (next_of level (drop at line)) here before found
+abbrev pub ReadsOn : ℕ → Rule → List ℕ → ℕ → Cursor → List Run → ℕ → Cursor → List Run → Type 0
+ReadsOn level rule line at here found behind there more =
+    (from : Cursor) (before : List Run) → ReadsItems level rule from line (next_of level (drop at line)) here before found
     → ReadsItems level rule from line (next_of level (drop behind line)) there before more
 
 -- an item of dead cells at most was passed
@@ -40,4 +40,4 @@ pub record PassesDead (level : ℕ) (line : List ℕ) (at : ℕ) (here : Cursor)
   pub inside : (at ≤ behind) × (behind ≤ at + 2)
   pub row : there.y ≡ here.y
   pub room : HasRoom level line behind there
-  pub read : (found : List Run) → ReadsOn level line at here found behind there found
+  pub read : (rule : Rule) (found : List Run) → ReadsOn level rule line at here found behind there found

@@ -14,6 +14,7 @@ pub enum Item {
 }
 
 /// What is at a place of a line: whitespace, the mark `!`, an item and the place after it, or none of these.
+#[derive(Clone, Copy)]
 pub(crate) enum Token {
     Space,
     Mark,

@@ -1,11 +1,11 @@
 //! The items of a line, read one after another.
 
-ghost use Rattle.std.specs.Prelude.{◌≡◌, ◌≤◌, ◌+◌, ◌⊎◌, ◌∷◌, ◌++◌, ◌==◌, not, [], Some, None, IfOk, IfErr, OnOk, OnErr, length, filter, position, take_while};
-ghost use Rattle.life_rle.specs.Words.{vec_len, vec_capacity, byte, most_count, with_run, is_run_end, IsNear, moved, item_count, row_limit, Cells, IsFrontOf, TakesItem, ReadsItems, last_of, ItemsBreak, IsMemory};
+ghost use Rattle.std.specs.Prelude.{◌≡◌, ◌≤◌, ◌<◌, ◌+◌, ◌⊎◌, ◌∷◌, ◌++◌, ◌==◌, not, [], Some, None, IfOk, IfErr, OnOk, OnErr, length, filter, position, take_while};
+ghost use Rattle.life_rle.specs.Words.{vec_len, vec_capacity, byte, most_count, with_run, is_run_end, IsNear, moved, item_count, row_limit, Cells, IsFrontOf, TakesItem, ReadsItems, ReadsOn, last_of, ItemsBreak, IsMemory};
 
 use crate::cursor::{Cursor, cells_fault, end_rows, moved, row_limit};
 use crate::item::{Item, Token, token_at};
-use crate::short_items::{Place, take_short_items};
+use crate::short_items::{Place, begins_short, take_short_items};
 use bstr::ByteSlice;
 use life_base::{Kind, LONGEST_LINE, MAX_LEVEL, Rule, Run, State};
 
@@ -183,6 +183,89 @@ fn limit_behind(limit: i64, item: Item, cursor: Cursor) -> i64
     }
 }
 
+/// Takes the item at a place if it has cells and breaks no rule; any other stays for the caller.
+#[inline(never)]
+fn take_one_item(rule: &Rule, here: Place, limit: i64, line: &[u8], runs: &mut Vec<Run>) -> Place
+    requires inside { here.at < length line.now }
+    requires near { IsNear MAX_LEVEL here.cursor }
+    requires limit { limit ≡ row_limit MAX_LEVEL here.cursor.y }
+    ensures inside { (here.at ≤ result.at) × (result.at ≤ length line.now) }
+    ensures near { IsNear MAX_LEVEL result.cursor }
+    ensures row { result.cursor.y ≡ here.cursor.y }
+    ensures read { ReadsOn MAX_LEVEL rule.now line.now here.at here.cursor runs.old.items result.at
+        result.cursor runs.new.items }
+{
+    let Token::Spelled(item, behind) = token_at(line, here.at) else {
+        return here;
+    };
+    let Item::Cells { count, state } = item else {
+        return here;
+    };
+    match take_cells(rule, here.cursor, limit, count, state, runs) {
+        Ok(cursor) => Place { at: behind, cursor },
+        Err(_) => here,
+    }
+}
+
+/// Takes items with cells from the start of a line on, as long as there are short ones among them.
+#[inline(never)]
+fn take_cells_items(
+    rule: &Rule,
+    from: Cursor,
+    limit: i64,
+    line: &[u8],
+    runs: &mut Vec<Run>,
+) -> Place
+    requires line { length line.now ≤ LONGEST_LINE }
+    requires near { IsNear MAX_LEVEL from }
+    requires limit { limit ≡ row_limit MAX_LEVEL from.y }
+    ensures inside { result.at ≤ length line.now }
+    ensures near { IsNear MAX_LEVEL result.cursor }
+    ensures row { result.cursor.y ≡ from.y }
+    ensures read { ReadsOn MAX_LEVEL rule.now line.now 0 from runs.old.items result.at
+        result.cursor runs.new.items }
+{
+    let mut here = Place {
+        at: 0,
+        cursor: from,
+    };
+    while here.at < line.len() {
+        let short = take_short_items(line, here, limit, runs);
+        if short.at == here.at {
+            return short;
+        }
+        here = take_one_item(rule, short, limit, line, runs);
+    }
+    here
+}
+
+/// The same, if the line begins with a short item: few lines that don't have any later.
+#[inline(always)]
+fn take_first_items(
+    rule: &Rule,
+    from: Cursor,
+    limit: i64,
+    line: &[u8],
+    runs: &mut Vec<Run>,
+) -> Place
+    requires line { length line.now ≤ LONGEST_LINE }
+    requires near { IsNear MAX_LEVEL from }
+    requires limit { limit ≡ row_limit MAX_LEVEL from.y }
+    ensures inside { result.at ≤ length line.now }
+    ensures near { IsNear MAX_LEVEL result.cursor }
+    ensures row { result.cursor.y ≡ from.y }
+    ensures read { ReadsOn MAX_LEVEL rule.now line.now 0 from runs.old.items result.at
+        result.cursor runs.new.items }
+{
+    if begins_short(line) {
+        return take_cells_items(rule, from, limit, line, runs);
+    }
+    Place {
+        at: 0,
+        cursor: from,
+    }
+}
+
 /// Reads the items of a line from the cursor on, and puts their runs after the runs.
 #[inline(never)]
 pub(crate) fn read_items(
@@ -200,16 +283,9 @@ pub(crate) fn read_items(
     ensures kept { OnErr result (IsFrontOf runs.old.items runs.new.items) }
 {
     reserve_runs(line, runs)?;
-    let mut cursor = from;
     let mut limit = row_limit(from.y);
-    let mut at = 0;
-    // Where an item is too long, so may be the others of the line: no more short ones are expected after two such items in a row.
-    let mut are_short = true;
+    let Place { mut at, mut cursor } = take_first_items(rule, from, limit, line, runs);
     while at < line.len() {
-        let here = take_short_items(line, Place { at, cursor }, limit, are_short, runs);
-        are_short = at < here.at;
-        at = here.at;
-        cursor = here.cursor;
         match token_at(line, at) {
             Token::Space => at += 1,
             Token::Mark => {

@@ -1,7 +1,7 @@
 //! Short items of a line: cells of state 0 or 1, written `b` or `o`, whose count has at most one digit. Most items of soups are short.
 
-ghost use Rattle.std.specs.Prelude.{◌≡◌, ◌≤◌, ◌<◌, ◌+◌, length, slice_index};
-ghost use Rattle.life_rle.specs.Words.{byte, IsNear, row_limit, HasRoom, ReadsOn, IsShort, PassesDead, short_count, short_digits};
+ghost use Rattle.std.specs.Prelude.{◌≡◌, ◌≤◌, ◌<◌, ◌+◌, length, slice_index, IsTrue};
+ghost use Rattle.life_rle.specs.Words.{byte, IsNear, row_limit, HasRoom, ReadsOn, IsShort, PassesDead, short_count, short_digits, Rule};
 
 use crate::cursor::{Cursor, moved};
 use crate::item::Item;
@@ -68,6 +68,18 @@ fn short_item(line: &[u8], at: usize) -> (u64, usize)
     (short_count(first), at + short_digits(first))
 }
 
+/// Whether a line begins with a short item.
+#[inline(always)]
+pub(crate) fn begins_short(line: &[u8]) -> bool
+    ensures { IsTrue result → 1 < length line.now }
+{
+    if line.len() < 2 {
+        return false;
+    }
+    let (_, last) = short_item(line, 0);
+    matches!(line[last], b'b' | b'o')
+}
+
 /// The place after a short item of dead cells, if one is here.
 #[inline(always)]
 fn pass_dead(line: &[u8], here: Place) -> Place
@@ -85,16 +97,10 @@ fn pass_dead(line: &[u8], here: Place) -> Place
     }
 }
 
-/// Takes short items from a place of a line on if any are expected there, and puts their runs after the runs. It stops before the line's last
-/// four bytes, before an item that isn't short, where there may be no capacity for one more run, and near the edge of the plane.
+/// Takes short items from a place of a line on, and puts their runs after the runs. It stops before the line's last four bytes, before an
+/// item that isn't short, where there may be no capacity for one more run, and near the edge of the plane.
 #[inline(always)]
-pub(crate) fn take_short_items(
-    line: &[u8],
-    from: Place,
-    limit: i64,
-    are_expected: bool,
-    runs: &mut Vec<Run>,
-) -> Place
+pub(crate) fn take_short_items(line: &[u8], from: Place, limit: i64, runs: &mut Vec<Run>) -> Place
     requires line { length line.now ≤ LONGEST_LINE }
     requires inside { from.at < length line.now }
     requires near { IsNear MAX_LEVEL from.cursor }
@@ -102,16 +108,19 @@ pub(crate) fn take_short_items(
     ensures inside { (from.at ≤ result.at) × (result.at < length line.now) }
     ensures near { IsNear MAX_LEVEL result.cursor }
     ensures row { result.cursor.y ≡ from.cursor.y }
-    ensures read { ReadsOn MAX_LEVEL line.now from.at from.cursor runs.old.items result.at
-        result.cursor runs.new.items }
+    ensures read { (rule : Rule) → ReadsOn MAX_LEVEL rule line.now from.at from.cursor
+        runs.old.items result.at result.cursor runs.new.items }
 {
-    if !are_expected || from.cursor.x + FAR > limit {
+    if from.cursor.x + FAR > limit {
         return from;
     }
     let alloc = *runs.allocator();
     let mut lent = mem::replace(runs, Vec::new(alloc));
     let spare = lent.capacity() - lent.len();
-    let end = line.len().saturating_sub(4).min(from.at.saturating_add(spare));
+    let end = line
+        .len()
+        .saturating_sub(4)
+        .min(from.at.saturating_add(spare));
     let mut here = from;
     while here.at < end {
         here = pass_dead(line, here);

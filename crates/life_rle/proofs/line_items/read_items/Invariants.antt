@@ -10,7 +10,7 @@ abbrev pub invariant-loop-at : goal.invariant-loop-at
 invariant-loop-at l = record {
   inside : l.at ≤ length l.line;
   limit : l.limit ≡ row_limit MAX_LEVEL l.cursor.y;
-  read : ReadsItems MAX_LEVEL l.rule l.fn.from l.line (next_of MAX_LEVEL (drop l.at l.line)) l.cursor l.initial.runs.items l.runs.items;
+  read : ReadsItems MAX_LEVEL l.rule l.fn.from l.line (next_of MAX_LEVEL (drop l.at l.line)) l.cursor l.fn.runs.items l.runs.items;
 }
 
 abbrev pub decreases-loop-at : goal.decreases-loop-at

@@ -6,7 +6,7 @@ use Rattle.life_rle.proofs.ShortItems.{reads-short, still-room}
 use Rattle.life_rle.proofs.short_items.pass_dead.Goals as goal
 
 pub returns-then-line-last-ne98 : goal.returns-then-line-last-ne98
-returns-then-line-last-ne98 c = record { inside = (omega arith, omega arith); row = refl; room = c.requires.room; read = λ found rule from before read. read }
+returns-then-line-last-ne98 c = record { inside = (omega arith, omega arith); row = refl; room = c.requires.room; read = λ rule found from before read. read }
 
 pub returns : goal.returns
 returns c =
@@ -23,6 +23,6 @@ returns c =
       inside = (omega (arith, low), omega (arith, high));
       row = refl;
       room = still-room line at count 0 (last + 1) here c.requires.room item.few (omega (arith, low)) (omega (arith, high, c.requires.inside));
-      read = λ found. reads-short line at count 0 (last + 1) here found found c.requires.room item.few (omega arith) (omega (arith, low))
-          (omega (arith, high, c.requires.inside)) (item.dead dead) (sym (append-nil found));
+      read = λ rule found. reads-short line at count 0 (last + 1) here found found c.requires.room item.few (omega arith) (omega (arith, low))
+          (omega (arith, high, c.requires.inside)) (item.dead dead) (sym (append-nil found)) rule;
     })

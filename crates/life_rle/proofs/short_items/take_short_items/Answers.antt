@@ -43,12 +43,13 @@ loop-here-preserved c =
       room = subst (HasRoom MAX_LEVEL line (last + 1)) (sym moves) (still-room line middle count 1 (last + 1) halfway passed.room item.few (omega (arith, low))
           (omega (arith, end, on, to, high)));
       spare = omega (arith, spare, len, capacity, on, from, low);
-      read = subst (λ (next : Cursor). ReadsOn MAX_LEVEL line c.args.from.at c.args.from.cursor c.args.runs.now.items (last + 1) next
-          c.push_reserved.new.self.items) (sym moves) (reads-on line c.args.from.at at (last + 1) c.args.from.cursor c.loop-here.here.cursor there c.args.runs.now.items before
-          c.push_reserved.new.self.items kept.read
-          (reads-on line at middle (last + 1) c.loop-here.here.cursor halfway there before before c.push_reserved.new.self.items (passed.read before)
+      read = λ rule. subst (λ (next : Cursor). ReadsOn MAX_LEVEL rule line c.args.from.at c.args.from.cursor c.args.runs.now.items (last + 1) next
+          c.push_reserved.new.self.items) (sym moves) (reads-on rule line c.args.from.at at (last + 1) c.args.from.cursor c.loop-here.here.cursor there
+          c.args.runs.now.items before c.push_reserved.new.self.items (kept.read rule)
+          (reads-on rule line at middle (last + 1) c.loop-here.here.cursor halfway there before before c.push_reserved.new.self.items
+          (passed.read rule before)
           (reads-short line middle count 1 (last + 1) halfway before c.push_reserved.new.self.items passed.room item.few (omega arith) (omega (arith, low))
-          (omega (arith, end, on, to, high)) (item.live live) pushed)));
+          (omega (arith, end, on, to, high)) (item.live live) pushed rule)));
     }
 
 pub returns-clause-near : goal.returns-clause-near
@@ -58,10 +59,10 @@ returns-clause-near c = elim c.loop-here-test.branch [
 ]
 
 pub returns-clause-read : goal.returns-clause-read
-returns-clause-read c = elim c.loop-here-test.branch [
-  | else-loop-here-test w ↦ rw w.here-is c.loop-here.invariant.read
+returns-clause-read c rule = elim c.loop-here-test.branch [
+  | else-loop-here-test w ↦ rw w.here-is (c.loop-here.invariant.read rule)
   | then-loop-here-test+then-line-last-ne111 w ↦ rw w.here-is
-      (reads-on c.args.line.now c.args.from.at c.loop-here.here.at w.pass_dead-here.result.at c.args.from.cursor c.loop-here.here.cursor
-      w.pass_dead-here.result.cursor c.args.runs.now.items c.loop-here.lent.items c.loop-here.lent.items c.loop-here.invariant.read
-      (w.pass_dead-here.ensures.read c.loop-here.lent.items))
+      (reads-on rule c.args.line.now c.args.from.at c.loop-here.here.at w.pass_dead-here.result.at c.args.from.cursor c.loop-here.here.cursor
+      w.pass_dead-here.result.cursor c.args.runs.now.items c.loop-here.lent.items c.loop-here.lent.items (c.loop-here.invariant.read rule)
+      (w.pass_dead-here.ensures.read rule c.loop-here.lent.items))
 ]

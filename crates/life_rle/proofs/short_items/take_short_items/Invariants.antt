@@ -1,6 +1,7 @@
 use Rattle.std.proofs.Common.{◌≡◌, ◌≤◌, ◌<◌, ◌+◌, ◌-◌, length}
 use Rattle.std.specs.Vec.{vec_len, vec_capacity}
 use Rattle.life_base.specs.declared.cell.TheConstants.{MAX_LEVEL}
+use Rattle.life_base.specs.declared.rule.Rule.{Rule}
 use Rattle.life_rle.specs.ShortItems.{HasRoom, ReadsOn}
 use Rattle.life_rle.proofs.short_items.take_short_items.Given as goal
 
@@ -13,7 +14,7 @@ invariant-loop-here l = record {
   row : l.here.cursor.y ≡ l.fn.from.cursor.y;
   room : HasRoom MAX_LEVEL l.line l.here.at l.here.cursor;
   spare : vec_len l.lent + (l.end - l.here.at) ≤ vec_capacity l.lent;
-  read : ReadsOn MAX_LEVEL l.line l.fn.from.at l.fn.from.cursor l.fn.runs.items l.here.at l.here.cursor l.lent.items;
+  read : (rule : Rule) → ReadsOn MAX_LEVEL rule l.line l.fn.from.at l.fn.from.cursor l.fn.runs.items l.here.at l.here.cursor l.lent.items;
 }
 
 abbrev pub decreases-loop-here : goal.decreases-loop-here
