@@ -15,8 +15,7 @@ use Rattle.life_block.specs.Pieces.{IsPiece, ahead}
 use Rattle.life_block.proofs.NeedLemmas.{AreParts, depth-square, joined-is, own-part, piece-is, quads, quarter-part, square-piece}
 use Rattle.life_block.proofs.PieceLemmas.{IsPiece-moved, blank-of_zero}
 use Rattle.life_block.proofs.RootLemmas.{corner, cells-of_piece}
-use Rattle.life_slide.specs.Needed.{SomeOfPlane}
-use Rattle.life_slide.specs.Pieces.{cells_from, IsNear, plane_from, south_eastern}
+use Rattle.life_slide.specs.Pieces.{cells_from, IsNear, plane_from, root_from}
 use Rattle.life_slide.proofs.PlaneLemmas.{side}
 
 -- ---- from another origin
@@ -72,6 +71,9 @@ cells-of_root cells r start full high begin piece outside x y = by (is_inside (h
         ∙ (λ z. cells (ex z) (ey z))
     by false e = cell_outside r x y e ∙ sym (outside x y (λ i. true≢false (sym (inside_test (half_side r) x y i) ∙ e)))
 
+less-or-not : (a b : ℕ) → (a < b) ⊎ (b ≤ a)
+less-or-not a b = grind arith
+
 zero-unless : (n : ℕ) → (n ≢ 0 → ⊥) → n ≡ 0
 zero-unless zero h = refl
 zero-unless (suc n) h = absurd (h (λ e. omega (arith, e)))
@@ -122,30 +124,40 @@ centre-cells f below k outside =
     cells-of_root f r c (full-square f below (suc k) c c) (omega (arith, level)) (ap (λ n. neg_ℤ (pos n)) (sym half)) (square-piece f (suc k) c c)
     (λ x y apart. outside x y (λ i. apart (subst (λ n. Inside n x y) (sym half) i)))
 
--- a part of a square's north-western quarter, and so on downwards
-lower-part : (P : Tree → Type 0) (f : ℤ → ℤ → ℕ) (d j : ℕ) (x y : ℤ) → SomePart P (square_from f j x y) → SomePart P (square_from f (d + j) x y)
-lower-part P f zero j x y s =
-    let e : j ≡ 0 + j = omega arith in subst (λ n. SomePart P (square_from f n x y)) e s
-lower-part P f (suc d) j x y s =
-    let e : suc (d + j) ≡ suc d + j = omega arith in
-    subst (λ n. SomePart P (square_from f n x y)) e (quarter-part P f (d + j) x y (inl (lower-part P f d j x y s)))
+-- a square with a cell so far east or south isn't trimmed
+pub trim-reach : (s : Tree) → IsFull s → (m : ℕ) → 1 ≤ m → (n : ℕ) → depth s ≡ suc n → (x y : ℤ) → tree_cell s x y ≢ 0
+    → (pos (2 ^ (n - 1)) ≤ℤ x) ⊎ (pos (2 ^ (n - 1)) ≤ℤ y) → trimmed s m ≡ s
+trim-reach s full m positive n level x y some far =
+    equal_by_plane r s (trimmed_is_fixed s m full positive).0 full (omega (arith, lower, higher, level)) keeps
+  where
+    abbrev r : Tree
+    r = trimmed s m
 
-less-or-same : (m n : ℕ) → m ≤ n → (m < n) ⊎ (m ≡ n)
-less-or-same m n h = grind arith
+    keeps : (u v : ℤ) → tree_cell r u v ≡ tree_cell s u v
+    keeps = trimming_keeps_cells s m full positive
 
--- the trimmed square of a plane is needed: it is smaller, or the square itself
-module _ (P : Tree → Type 0) (f : ℤ → ℤ → ℕ) where
-  abbrev whole : Tree
-  whole = square_from f 62 (neg_ℤ (pos (2 ^ 61))) (neg_ℤ (pos (2 ^ 61)))
+    lower : depth r ≤ depth s
+    lower = (trimming_stops s m full positive).2
 
-  trimmed-needed : IsFull whole → (m : ℕ) → 1 ≤ m → P (trimmed whole m) → SomeOfPlane P whole m
-  trimmed-needed full m positive p = by (less-or-same _ _ (trimming_stops whole m full positive).2)
-    where
-      by : (depth (trimmed whole m) < depth whole) ⊎ (depth (trimmed whole m) ≡ depth whole) → SomeOfPlane P whole m
-      by (inl l) = inr (record { smaller = l; has = p })
-      by (inr e) =
-          let is = equal_by_plane (trimmed whole m) whole (trimmed_is_fixed whole m full positive).0 full e (trimming_keeps_cells whole m full positive) in
-          inl (own-part P f 61 _ _ (trimmed whole m) is p)
+    here : (neg_ℤ (pos (half_side r)) ≤ℤ x) × (x <ℤ pos (half_side r)) × (neg_ℤ (pos (half_side r)) ≤ℤ y) × (y <ℤ pos (half_side r))
+    here = cells_lie_inside r x y (λ e. some (sym (keeps x y) ∙ e))
+
+    beyond : (pos (2 ^ (n - 1)) ≤ℤ x) ⊎ (pos (2 ^ (n - 1)) ≤ℤ y) → 2 ^ (n - 1) < half_side r
+    beyond (inl l) = let e = here.1 in omega (arith, ints, l, e)
+    beyond (inr l) = let e = here.3 in omega (arith, ints, l, e)
+
+    not-low : depth r ≤ n → ⊥
+    not-low l =
+        let less : half_side r ≤ 2 ^ (n - 1) = pow_mono {i = depth r - 1} {j = n - 1} (omega (arith, l)) in
+        let more = beyond far in
+        omega (arith, less, more)
+
+    higher : n < depth r
+    higher = above (less-or-not n (depth r))
+      where
+        above : (n < depth r) ⊎ (depth r ≤ n) → n < depth r
+        above (inl l) = l
+        above (inr l) = absurd (not-low l)
 
 -- ---- the least box at (0, 0)
 
@@ -155,68 +167,6 @@ module _ (t : Tree) (box : Bounds) (least : IsLeastBox t box) (high : 1 ≤ dept
 
   abbrev k : ℕ
   k = depth t
-
-  abbrev c : ℤ
-  c = neg_ℤ (pos (2 ^ k))
-
-  -- where a cell goes
-  goes : (x y : ℤ) → g x y ≢ 0 → (pos 0 ≤ℤ x) × (x <ℤ pos (2 ^ k)) × (pos 0 ≤ℤ y) × (y <ℤ pos (2 ^ k))
-  goes x y some =
-      let in-box = least.inside _ _ some in
-      let here = cells_lie_inside t _ _ some in
-      let left = cells_lie_inside t _ _ least.at_left.1 in
-      let top = cells_lie_inside t _ _ least.at_top.1 in
-      let twice = side (depth t) high in
-      let a = in-box.0 in
-      let b = in-box.2 in
-      let e = here.1 in
-      let s = here.3 in
-      let w = left.0 in
-      let n = top.2 in
-      (omega (arith, ints, a), omega (arith, ints, e, w, twice), omega (arith, ints, b), omega (arith, ints, s, n, twice))
-
-  west-zero : (x y : ℤ) → x <ℤ pos 0 → g x y ≡ 0
-  west-zero x y l = zero-unless _ (λ some. let a = (goes x y some).0 in omega (arith, ints, a, l))
-
-  north-zero : (x y : ℤ) → y <ℤ pos 0 → g x y ≡ 0
-  north-zero x y l = zero-unless _ (λ some. let a = (goes x y some).2 in omega (arith, ints, a, l))
-
-  pub outside-zero : (x y : ℤ) → (Inside (2 ^ k) x y → ⊥) → g x y ≡ 0
-  outside-zero x y apart = zero-unless _ (λ some.
-      let at = goes x y some in
-      let w = at.0 in
-      let e = at.1 in
-      let n = at.2 in
-      let s = at.3 in
-      apart (record { west = omega (arith, ints, w); east = e; north = omega (arith, ints, n); south = s }))
-
-  middle : ahead c (2 ^ k) ≡ pos 0
-  middle = omega (arith, ints)
-
-  -- the square that begins at the box is the south-eastern quarter of that of the moved cells
-  pub quarter-is : (inner : Tree) → IsFull inner → depth inner ≡ k → IsPiece (tree_cell t) box.left box.top inner
-      → south_eastern inner ≡ square_from g (suc k) c c
-  quarter-is inner full level piece =
-      let m = middle in
-      let blank-at : (u v : ℤ) → ((x y : ℤ) → u ≤ℤ x → x <ℤ ahead u (2 ^ k) → v ≤ℤ y → y <ℤ ahead v (2 ^ k) → g x y ≡ 0)
-      → blank k ≡ square_from g k u v = (λ u v zeros.
-      piece-is g k u v (blank k) (full-blank k) (depth-blank k) (blank-of_zero g k u v (record { zero_at = zeros }))) in
-      let ex : box.left ≡ ahead c (2 ^ k) +ℤ box.left = omega (arith, ints) in
-      let ey : box.top ≡ ahead c (2 ^ k) +ℤ box.top = omega (arith, ints) in
-      let quarters : AreParts g k c c (blank k) (blank k) (blank k) inner = record {
-        nw = blank-at c c (λ x y w e n s. west-zero x y (omega (arith, ints, e, m)));
-        ne = blank-at _ c (λ x y w e n s. north-zero x y (omega (arith, ints, s, m)));
-        sw = blank-at c _ (λ x y w e n s. west-zero x y (omega (arith, ints, e, m)));
-        se = piece-is g k _ _ inner full level (piece-from (tree_cell t) box.left box.top inner _ _ (IsPiece-moved (tree_cell t) _ _ _ _ inner ex ey piece));
-      } in
-      ap (λ n. quad (blank n) (blank n) (blank n) inner) level ∙ joined-is quarters
-
-  -- the square that begins at the box, from the other origin
-  pub inner-square : square_from (tree_cell t) k box.left box.top ≡ square_from g k (pos 0) (pos 0)
-  inner-square =
-      let ex : box.left ≡ pos 0 +ℤ box.left = omega (arith, ints) in
-      let ey : box.top ≡ pos 0 +ℤ box.top = omega (arith, ints) in
-      (λ i. square_from (tree_cell t) k (ex i) (ey i)) ∙ square-from (tree_cell t) box.left box.top k _ _
 
   pub column-near : IsNear k box.left
   column-near =
@@ -235,70 +185,182 @@ module _ (t : Tree) (box : Bounds) (least : IsLeastBox t box) (high : 1 ≤ dept
   half-low : depth t ≤ 62 → half_side t ≤ 2 ^ 61
   half-low low = pow_mono {i = depth t - 1} {j = 61} (omega (arith, low))
 
+  -- the sides of the box lie on the plane
+  pub record OnPlane : Type 0 where
+    pub west : neg_ℤ (pos (2 ^ 61)) ≤ℤ box.left
+    pub columns : box.left ≤ℤ box.right
+    pub east : box.right <ℤ pos (2 ^ 61)
+    pub north : neg_ℤ (pos (2 ^ 61)) ≤ℤ box.top
+    pub rows : box.top ≤ℤ box.bottom
+    pub south : box.bottom <ℤ pos (2 ^ 61)
+
+  pub on-plane : depth t ≤ 62 → OnPlane
+  on-plane low =
+      let half = half-low low in
+      let w = (cells_lie_inside t _ _ least.at_left.1).0 in
+      let e = (cells_lie_inside t _ _ least.at_right.1).1 in
+      let n = (cells_lie_inside t _ _ least.at_top.1).2 in
+      let s = (cells_lie_inside t _ _ least.at_bottom.1).3 in
+      let across = least.inside _ _ least.at_left.1 in
+      let down = least.inside _ _ least.at_top.1 in
+      let a = across.0 in
+      let b = across.1 in
+      let c = down.2 in
+      let d = down.3 in
+      record {
+        west = omega (arith, ints, half, w);
+        columns = omega (arith, ints, a, b);
+        east = omega (arith, ints, half, e);
+        north = omega (arith, ints, half, n);
+        rows = omega (arith, ints, c, d);
+        south = omega (arith, ints, half, s);
+      }
+
   -- what the code computes with is the number
   pub left-read : depth t ≤ 62 → to_z w64 (of_z w64 box.left) ≡ box.left
-  left-read low =
-      let half = half-low low in
-      let left = cells_lie_inside t _ _ least.at_left.1 in
-      let w = left.0 in
-      let e = left.1 in
-      omega (arith, ints, half, w, e)
+  left-read low = let p = on-plane low in let a = p.west in let b = p.columns in let c = p.east in omega (arith, ints, a, b, c)
+
+  pub right-read : depth t ≤ 62 → to_z w64 (of_z w64 box.right) ≡ box.right
+  right-read low = let p = on-plane low in let a = p.west in let b = p.columns in let c = p.east in omega (arith, ints, a, b, c)
 
   pub top-read : depth t ≤ 62 → to_z w64 (of_z w64 box.top) ≡ box.top
-  top-read low =
-      let half = half-low low in
-      let top = cells_lie_inside t _ _ least.at_top.1 in
-      let n = top.2 in
-      let s = top.3 in
-      omega (arith, ints, half, n, s)
+  top-read low = let p = on-plane low in let a = p.north in let b = p.rows in let c = p.south in omega (arith, ints, a, b, c)
 
-  -- ---- on the plane
+  pub bottom-read : depth t ≤ 62 → to_z w64 (of_z w64 box.bottom) ≡ box.bottom
+  bottom-read low = let p = on-plane low in let a = p.north in let b = p.rows in let c = p.south in omega (arith, ints, a, b, c)
 
-  module _ (full : IsFull t) (low : depth t < MAX_LEVEL) where
-    below : (x y : ℤ) → g x y < 256
-    below x y = cell-below t full _ _
+  -- a square of this level has a side as long as the box
+  module _ (j : ℕ) (wide : box.right <ℤ box.left +ℤ pos (2 ^ j)) (tall : box.bottom <ℤ box.top +ℤ pos (2 ^ j)) where
+    abbrev c : ℤ
+    c = neg_ℤ (pos (2 ^ j))
 
-    abbrev root : Tree
-    root = square_from g (suc k) c c
+    -- where a cell goes
+    goes : (x y : ℤ) → g x y ≢ 0 → (pos 0 ≤ℤ x) × (x <ℤ pos (2 ^ j)) × (pos 0 ≤ℤ y) × (y <ℤ pos (2 ^ j))
+    goes x y some =
+        let in-box = least.inside _ _ some in
+        let a = in-box.0 in
+        let b = in-box.1 in
+        let d = in-box.2 in
+        let e = in-box.3 in
+        (omega (arith, ints, a), omega (arith, ints, b, wide), omega (arith, ints, d), omega (arith, ints, e, tall))
 
-    abbrev plane : Tree
-    plane = plane_from t box.left box.top
+    west-zero : (x y : ℤ) → x <ℤ pos 0 → g x y ≡ 0
+    west-zero x y l = zero-unless _ (λ some. let a = (goes x y some).0 in omega (arith, ints, a, l))
 
-    full-plane : IsFull plane
-    full-plane = full-square g below MAX_LEVEL _ _
+    north-zero : (x y : ℤ) → y <ℤ pos 0 → g x y ≡ 0
+    north-zero x y l = zero-unless _ (λ some. let a = (goes x y some).2 in omega (arith, ints, a, l))
 
-    -- the plane of the moved cells, trimmed, is their square one level higher, trimmed
-    pub root-trimmed : (m : ℕ) → 1 ≤ m → m ≤ k → trimmed (square_from g (suc k) c c) m ≡ trimmed (plane_from t box.left box.top) m
-    root-trimmed m positive le =
-        let side : 2 ^ k ≤ 2 ^ 61 = pow_mono {i = k} {j = 61} (omega (arith, low)) in
-        let higher : (x y : ℤ) → Inside (2 ^ k) x y → Inside (2 ^ 61) x y = (λ x y i.
-        let w = i.west in
-        let e = i.east in
-        let n = i.north in
-        let s = i.south in
-        record {
-          west = omega (arith, ints, side, w);
-          east = omega (arith, ints, side, e);
-          north = omega (arith, ints, side, n);
-          south = omega (arith, ints, side, s);
-        }) in
-        let deep-root : depth root ≡ suc k = depth-square g (suc k) c c in
-        let deep-plane : depth plane ≡ 62 = depth-square g 62 _ _ in
-        (trimmed_by_cells root plane m (full-square g below (suc k) c c) full-plane positive (omega (arith, deep-root, le))
-        (omega (arith, deep-plane, low, le))).1
-        (λ x y. centre-cells g below k outside-zero x y ∙ sym (centre-cells g below 61 (λ u v apart. outside-zero u v (λ i. apart (higher u v i))) x y))
+    outside-zero : (x y : ℤ) → (Inside (2 ^ j) x y → ⊥) → g x y ≡ 0
+    outside-zero x y apart = zero-unless _ (λ some.
+        let at = goes x y some in
+        let w = at.0 in
+        let e = at.1 in
+        let n = at.2 in
+        let s = at.3 in
+        apart (record { west = omega (arith, ints, w); east = e; north = omega (arith, ints, n); south = s }))
 
-    -- the trimmed one is needed, and a part of the square that begins at the box
-    pub root-needed : (P : Tree → Type 0) (m : ℕ) → 1 ≤ m → P (trimmed (plane_from t box.left box.top) m) → SomeOfPlane P (plane_from t box.left box.top) m
-    root-needed P m positive p = trimmed-needed P g full-plane m positive p
+    middle : ahead c (2 ^ j) ≡ pos 0
+    middle = omega (arith, ints)
 
-    pub inner-needed : (P : Tree → Type 0) (m : ℕ) → SomePart P (square_from (tree_cell t) k box.left box.top) → SomeOfPlane P (plane_from t box.left box.top) m
-    inner-needed P m s =
-        let levels : (61 - k) + k ≡ 61 = omega (arith, low) in
-        let at : pos 0 ≡ ahead (neg_ℤ (pos (2 ^ 61))) (2 ^ 61) = omega (arith, ints) in
-        let here = subst (λ n. SomePart P (square_from g n (pos 0) (pos 0))) levels
-        (lower-part P g (61 - k) k (pos 0) (pos 0) (subst (SomePart P) inner-square s)) in
-        inl (quarter-part P g 61 _ _ (inr (inr (inr (subst (λ z. SomePart P (square_from g 61 z z)) at here)))))
+    -- the square that begins at the box is the south-eastern quarter of that of the moved cells
+    quarter-is : (inner : Tree) → IsFull inner → depth inner ≡ j → IsPiece (tree_cell t) box.left box.top inner
+        → quad (blank j) (blank j) (blank j) inner ≡ square_from g (suc j) c c
+    quarter-is inner full level piece =
+        let m = middle in
+        let blank-at : (u v : ℤ) → ((x y : ℤ) → u ≤ℤ x → x <ℤ ahead u (2 ^ j) → v ≤ℤ y → y <ℤ ahead v (2 ^ j) → g x y ≡ 0)
+        → blank j ≡ square_from g j u v = (λ u v zeros.
+        piece-is g j u v (blank j) (full-blank j) (depth-blank j) (blank-of_zero g j u v (record { zero_at = zeros }))) in
+        let ex : box.left ≡ ahead c (2 ^ j) +ℤ box.left = omega (arith, ints) in
+        let ey : box.top ≡ ahead c (2 ^ j) +ℤ box.top = omega (arith, ints) in
+        let quarters : AreParts g j c c (blank j) (blank j) (blank j) inner = record {
+          nw = blank-at c c (λ x y w e n s. west-zero x y (omega (arith, ints, e, m)));
+          ne = blank-at _ c (λ x y w e n s. north-zero x y (omega (arith, ints, s, m)));
+          sw = blank-at c _ (λ x y w e n s. west-zero x y (omega (arith, ints, e, m)));
+          se = piece-is g j _ _ inner full level (piece-from (tree_cell t) box.left box.top inner _ _ (IsPiece-moved (tree_cell t) _ _ _ _ inner ex ey piece));
+        } in
+        joined-is quarters
+
+    -- the square that begins at the box, from the other origin
+    inner-square : square_from (tree_cell t) j box.left box.top ≡ square_from g j (ahead c (2 ^ j)) (ahead c (2 ^ j))
+    inner-square =
+        let m = middle in
+        let ex : box.left ≡ ahead c (2 ^ j) +ℤ box.left = omega (arith, ints, m) in
+        let ey : box.top ≡ ahead c (2 ^ j) +ℤ box.top = omega (arith, ints, m) in
+        (λ i. square_from (tree_cell t) j (ex i) (ey i)) ∙ square-from (tree_cell t) box.left box.top j _ _
+
+    -- ---- on the plane, from this level on
+
+    module _ (full : IsFull t) (low : j < MAX_LEVEL) (m : ℕ) (positive : 1 ≤ m) (le : m ≤ suc j) where
+      below : (x y : ℤ) → g x y < 256
+      below x y = cell-below t full _ _
+
+      abbrev root : Tree
+      root = square_from g (suc j) c c
+
+      full-root : IsFull root
+      full-root = full-square g below (suc j) c c
+
+      deep-root : depth root ≡ suc j
+      deep-root = depth-square g (suc j) c c
+
+      abbrev plane : Tree
+      plane = plane_from t box.left box.top
+
+      -- the plane of the moved cells, trimmed, is their square one level higher, trimmed
+      root-trimmed : trimmed root m ≡ root_from t box.left box.top m
+      root-trimmed =
+          let side : 2 ^ j ≤ 2 ^ 61 = pow_mono {i = j} {j = 61} (omega (arith, low)) in
+          let higher : (x y : ℤ) → Inside (2 ^ j) x y → Inside (2 ^ 61) x y = (λ x y i.
+          let w = i.west in
+          let e = i.east in
+          let n = i.north in
+          let s = i.south in
+          record {
+            west = omega (arith, ints, side, w);
+            east = omega (arith, ints, side, e);
+            north = omega (arith, ints, side, n);
+            south = omega (arith, ints, side, s);
+          }) in
+          let deep-plane : depth plane ≡ 62 = depth-square g 62 _ _ in
+          (trimmed_by_cells root plane m full-root (full-square g below MAX_LEVEL _ _) positive (omega (arith, deep-root, le))
+          (omega (arith, deep-plane, low, le))).1
+          (λ x y. centre-cells g below j outside-zero x y
+          ∙ sym (centre-cells g below 61 (λ u v apart. outside-zero u v (λ i. apart (higher u v i))) x y))
+
+      -- a cell of the box, from the other origin
+      moved-cell : (x y : ℤ) → tree_cell t x y ≢ 0 → tree_cell root (x +ℤ neg_ℤ box.left) (y +ℤ neg_ℤ box.top) ≢ 0
+      moved-cell x y some e =
+          let ex : (x +ℤ neg_ℤ box.left) +ℤ box.left ≡ x = omega (arith, ints) in
+          let ey : (y +ℤ neg_ℤ box.top) +ℤ box.top ≡ y = omega (arith, ints) in
+          some (sym (λ i. tree_cell t (ex i) (ey i)) ∙ sym (centre-cells g below j outside-zero _ _) ∙ e)
+
+      -- it has the least level, or the box reaches into the farther half of its quarter
+      abbrev pub IsTight : Type 0
+      IsTight = (suc j ≡ m) ⊎ (box.left +ℤ pos (2 ^ (j - 1)) ≤ℤ box.right) ⊎ (box.top +ℤ pos (2 ^ (j - 1)) ≤ℤ box.bottom)
+
+      root-still : IsTight → trimmed root m ≡ root
+      root-still (inl e) = (trimming_stops root m full-root positive).1 (omega (arith, deep-root, e))
+      root-still (inr (inl l)) =
+          trim-reach root full-root m positive j deep-root _ _ (moved-cell _ _ least.at_right.1) (inl (omega (arith, ints, l)))
+      root-still (inr (inr l)) =
+          trim-reach root full-root m positive j deep-root _ _ (moved-cell _ _ least.at_bottom.1) (inr (omega (arith, ints, l)))
+
+      root-is : IsTight → root ≡ root_from t box.left box.top m
+      root-is tight = sym (root-still tight) ∙ root-trimmed
+
+      pub joined-root : IsTight → (inner : Tree) → IsFull inner → depth inner ≡ j → IsPiece (tree_cell t) box.left box.top inner
+          → quad (blank j) (blank j) (blank j) inner ≡ root_from t box.left box.top m
+      joined-root tight inner whole level piece = quarter-is inner whole level piece ∙ root-is tight
+
+      -- the root itself, and a part of the square that begins at the box
+      pub own-root : IsTight → (P : Tree → Type 0) (inner : Tree) → IsFull inner → depth inner ≡ j → IsPiece (tree_cell t) box.left box.top inner
+          → P (quad (blank j) (blank j) (blank j) inner) → SomePart P (root_from t box.left box.top m)
+      own-root tight P inner whole level piece p =
+          subst (SomePart P) (root-is tight) (own-part P g j c c _ (quarter-is inner whole level piece) p)
+
+      pub inner-part : IsTight → (P : Tree → Type 0) → SomePart P (square_from (tree_cell t) j box.left box.top) → SomePart P (root_from t box.left box.top m)
+      inner-part tight P s =
+          subst (SomePart P) (root-is tight) (quarter-part P g j c c (inr (inr (inr (subst (SomePart P) inner-square s)))))
 
 -- the square of the plane that begins at another place
 pub plane-is : (t r : Tree) (a b x0 y0 : ℤ) → depth t ≡ 62 → IsFull r → depth r ≡ depth t

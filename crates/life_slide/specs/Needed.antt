@@ -1,7 +1,7 @@
 -- Which squares a call stores that makes the square which begins at another place, and which one a refused call had to store.
-use Rattle.std.specs.Prelude.{◌⊎◌, ℕ, suc, ◌%◌, ◌^◌, ℤ}
-use Rattle.life_base.specs.Tree.{Tree, depth, tree_cell}
-use Rattle.life_quad.specs.Refused.{SomePart, TrimmedTo}
+use Rattle.std.specs.Prelude.{ℕ, suc, ◌%◌, ◌^◌, ℤ}
+use Rattle.life_base.specs.Tree.{Tree, tree_cell}
+use Rattle.life_quad.specs.Refused.{SomePart}
 use Rattle.life_quad.specs.declared.id.Id.{Id}
 use Rattle.life_quad.specs.declared.moves.Quarters.{Quarters}
 use Rattle.life_block.specs.Needed.{square_from}
@@ -21,10 +21,6 @@ module _ (P : Tree → Type 0) (content : Id → Tree) (columns rows k : ℕ) wh
       (cells : ℤ → ℤ → ℕ) (x y : ℤ) → AreNine content cells (2 ^ k) x y nine
       → SomePart P (square_from cells (suc k) (ahead x (columns % 2 ^ k)) (ahead y (rows % 2 ^ k)))
 
--- a part of the square of the plane, or the square to which it is trimmed, has a property
-abbrev pub SomeOfPlane : (Tree → Type 0) → Tree → ℕ → Type 0
-SomeOfPlane P plane least = SomePart P plane ⊎ TrimmedTo P plane least
-
--- the square of the plane of a square's own cells that has its level and begins at a place
-abbrev pub own_square_at : Tree → ℤ → ℤ → Tree
-own_square_at t x y = square_from (tree_cell t) (depth t) x y
+-- the square of a level of the plane of a square's own cells that begins at a place
+abbrev pub own_square_at : Tree → ℕ → ℤ → ℤ → Tree
+own_square_at t k x y = square_from (tree_cell t) k x y

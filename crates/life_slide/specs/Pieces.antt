@@ -1,8 +1,9 @@
 -- Squares side by side, as pieces of a plane of cells.
-use Rattle.std.specs.Prelude.{◌≡◌, ℕ, ◌+◌, ◌-◌, ◌*◌, ◌^◌, ◌<◌, ℤ, pos, neg_ℤ, ◌+ℤ◌, ◌≤ℤ◌, ◌<ℤ◌, Bool, true, false, if◌then◌else◌}
+use Rattle.std.specs.Prelude.{◌≡◌, ℕ, ◌+◌, ◌-◌, ◌*◌, ◌%◌, ◌^◌, ◌<◌, ◌&&◌, ℤ, pos, neg_ℤ, ◌+ℤ◌, ◌≤ℤ◌, ◌<ℤ◌, Bool, true, false, if◌then◌else◌}
 use Rattle.std.specs.Int.{bit_at}
-use Rattle.life_base.specs.Tree.{Tree, quad, blank, depth, tree_cell}
+use Rattle.life_base.specs.Tree.{Tree, tree_cell}
 use Rattle.life_base.specs.declared.cell.TheConstants.{MAX_LEVEL}
+use Rattle.life_quad.specs.Moves.{trimmed}
 use Rattle.life_quad.specs.declared.id.Id.{Id}
 use Rattle.life_quad.specs.declared.moves.Quarters.{Quarters}
 use Rattle.life_block.specs.Needed.{square_from}
@@ -94,6 +95,24 @@ module _ (content : Id → Tree) (cells : ℤ → ℤ → ℕ) (side : ℕ) (x :
 abbrev pub HasRows : (ℤ → ℤ → ℕ) → ℤ → ℤ → ℕ → Type 0
 HasRows cells x y word = (r i : ℕ) → r < 8 → i < 8 → bit_at word (63 - (8 * r + i)) ≡ cells (x +ℤ pos i) (y +ℤ pos r)
 
+-- the four squares, with another one in place of the eastern ones, of the southern ones, or of both, unless these are seen
+abbrev pub seen_of : (east south : Bool) → Quarters → Id → Quarters
+seen_of east south q other = record {
+  nw = q.nw;
+  ne = if east then q.ne else other;
+  sw = if south then q.sw else other;
+  se = if east && south then q.se else other;
+}
+
+-- four squares of level k are pieces of the plane, and the square of that level which begins so many columns and rows behind them, as far as their side
+-- length leaves of these numbers, begins at this place
+pub record HasBlockAt (content : Id → Tree) (cells : ℤ → ℤ → ℕ) (columns rows k : ℕ) (x y : ℤ) (block : Quarters) : Type 0 where
+  pub west : ℤ
+  pub north : ℤ
+  pub are : IsBlock content cells (2 ^ k) west north block
+  pub column : ahead west (columns % 2 ^ k) ≡ x
+  pub row : ahead north (rows % 2 ^ k) ≡ y
+
 -- a square in one corner of four, and another one everywhere else
 abbrev pub in_corner : Bool → Bool → Id → Id → Quarters
 in_corner false false id other = record { nw = id; ne = other; sw = other; se = other }
@@ -115,6 +134,6 @@ abbrev pub plane_from : Tree → ℤ → ℤ → Tree
 plane_from t columns rows =
     let corner = neg_ℤ (pos (2 ^ (MAX_LEVEL - 1))) in square_from (cells_from t columns rows) MAX_LEVEL corner corner
 
--- the square of which this one is the south-eastern quarter, and which is blank elsewhere
-abbrev pub south_eastern : Tree → Tree
-south_eastern t = quad (blank (depth t)) (blank (depth t)) (blank (depth t)) t
+-- the same plane, trimmed, but not below this level
+abbrev pub root_from : Tree → ℤ → ℤ → ℕ → Tree
+root_from t columns rows least = trimmed (plane_from t columns rows) least

@@ -8,13 +8,12 @@ pub use Rattle.life_quad.specs.Cells.{IsLeastBox}
 pub use Rattle.life_quad.specs.Grows.{IsWantOf, Keeps}
 pub use Rattle.life_quad.specs.Keeping.{AddsOnly}
 pub use Rattle.life_quad.specs.Memory.{Recalls}
-pub use Rattle.life_quad.specs.Moves.{trimmed}
 pub use Rattle.life_quad.specs.Refused.{SomePart}
 pub use Rattle.life_quad.specs.Store.{four}
 pub use Rattle.life_quad.specs.declared.id.Id.{Id as IdValue}
 pub use Rattle.life_quad.specs.declared.moves.Quarters.{Quarters as QuartersValue}
-pub use Rattle.life_slide.specs.Needed.{own_square_at, SomeOfBlock, SomeOfNine, SomeOfPlane}
-pub use Rattle.life_slide.specs.Pieces.{AreFour, AreNine, AreTwo, eastern, four_of, HasRows, in_corner, InBlock, InFour, InNine, InThree, IsBlock, IsNear, plane_from, south_eastern, start, three_from, western}
+pub use Rattle.life_slide.specs.Needed.{own_square_at, SomeOfBlock, SomeOfNine}
+pub use Rattle.life_slide.specs.Pieces.{AreFour, AreNine, AreTwo, eastern, four_of, HasBlockAt, HasRows, in_corner, InBlock, InFour, InNine, InThree, IsBlock, IsNear, plane_from, root_from, seen_of, start, three_from, western}
 pub use Rattle.life_slide.specs.Remembered.{ids_of, IsAnswer, Remembers}
 pub use Rattle.std.specs.Int.{bit_at}
 pub use Rattle.std.specs.Int.Bits.{bit_and}

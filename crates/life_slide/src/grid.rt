@@ -1,6 +1,6 @@
 //! Squares of one level side by side.
 ghost use Rattle.std.specs.Prelude.{◌≡◌, ℕ, ℤ, ◌+◌, ◌^◌, true};
-ghost use Rattle.life_slide.specs.Words.{IsAt, InThree, InFour, InNine, InBlock, IsBlock, AreNine, AreFour, AreTwo, ahead, start, four_of, three_from, western, eastern, ids_of};
+ghost use Rattle.life_slide.specs.Words.{IsAt, InThree, InFour, InNine, InBlock, IsBlock, AreNine, AreFour, AreTwo, ahead, start, four_of, three_from, western, eastern, seen_of, ids_of};
 
 use life_quad::{Id, Quarters, Squares, divide};
 
@@ -121,6 +121,18 @@ pub(crate) fn eastern(north: &Three<Id>, south: &Three<Id>) -> Quarters
         ne: north.third,
         sw: south.second,
         se: south.third,
+    }
+}
+
+/// The four squares, with another square in place of the eastern ones, of the southern ones, or of both.
+pub(crate) fn seen_of(east: bool, south: bool, block: &Quarters, other: Id) -> Quarters
+    ensures { result ≡ seen_of east south block.now other }
+{
+    Quarters {
+        nw: block.nw,
+        ne: if east { block.ne } else { other },
+        sw: if south { block.sw } else { other },
+        se: if east && south { block.se } else { other },
     }
 }
 

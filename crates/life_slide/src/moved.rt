@@ -1,115 +1,111 @@
 //! Squares, moved on the plane.
-ghost use Rattle.std.specs.Prelude.{◌≡◌, ◌&&◌, pos, neg_ℤ, ◌+ℤ◌, ◌^◌, ◌<◌, ◌≤◌, IfOk, IfErr, OnErr};
-ghost use Rattle.life_slide.specs.Words.{MAX_LEVEL, SomePart, depth, is_blank_tree, trimmed, IsLeastBox, IsAt, plane_from, south_eastern, IsNear, SomeOfPlane, AddsOnly, Keeps, IsWantOf};
+ghost use Rattle.std.specs.Prelude.{◌≡◌, ◌⊎◌, pos, neg_ℤ, ◌+ℤ◌, ◌<ℤ◌, ◌≤ℤ◌, ◌+◌, ◌-◌, ◌^◌, ◌<◌, ◌≤◌, IfOk, IfErr, OnErr};
+ghost use Rattle.life_slide.specs.Words.{MAX_LEVEL, SomePart, depth, IsLeastBox, plane_from, root_from, IsNear, AddsOnly, Keeps, IsWantOf};
 
 use crate::plane::square_at;
-use life_base::{Bounds, Kind};
-use life_quad::{Id, Quarters, SharedSquares, Squares, divide, is_blank_at};
+use life_base::{Bounds, Kind, MAX_LEVEL};
+use life_quad::{Id, SharedSquares, Squares};
 use std::alloc::Global;
 
 /// The first coordinate past the plane.
 const HALF_PLANE: i64 = 1 << 61;
 
-// Whether three squares of this level are blank.
-fn are_blank<S: Squares>(squares: &S, level: u8, a: Id, b: Id, c: Id) -> bool
-    requires a { IsAt (S.knows squares.now) (S.content squares.now) level a }
-    requires b { IsAt (S.knows squares.now) (S.content squares.now) level b }
-    requires c { IsAt (S.knows squares.now) (S.content squares.now) level c }
-    ensures { result ≡ (is_blank_tree (S.content squares.now a) &&
-        (is_blank_tree (S.content squares.now b) && is_blank_tree (S.content squares.now c))) }
+// The least level from this one on of a square with this column, counted from 0.
+fn level_of_side(last: u64, level: u8) -> u8
+    requires low { level ≤ 61 }
+    requires near { last < 2 ^ 61 }
+    ensures from { level ≤ result }
+    ensures high { result ≤ 61 }
+    ensures fits { last < 2 ^ result }
+    ensures least { (result ≡ level) ⊎ (2 ^ (result - 1) ≤ last) }
 {
-    is_blank_at(squares, level, a)
-        && is_blank_at(squares, level, b)
-        && is_blank_at(squares, level, c)
+    if last < 1 << level {
+        return level;
+    }
+    level_of_side(last, level + 1)
 }
 
-// Of the south-eastern quarter of a square that is blank elsewhere, which has this level: that quarter of the trimmed square. No square is made.
-fn trimmed_quarter<S: Squares>(squares: &S, level: u8, id: Id, least: u8) -> Id
-    requires at { IsAt (S.knows squares.now) (S.content squares.now) level id }
-    requires positive { 1 ≤ least }
-    ensures known { S.knows squares.now result }
-    ensures low { depth (S.content squares.now result) ≤ level }
-    ensures square { south_eastern (S.content squares.now result)
-        ≡ trimmed (south_eastern (S.content squares.now id)) least }
+// The greater of two numbers.
+fn greater(a: u64, b: u64) -> u64
+    ensures first { a ≤ result }
+    ensures second { b ≤ result }
+    ensures one { (result ≡ a) ⊎ (result ≡ b) }
 {
-    if level < least {
-        return id;
-    }
-    let Quarters { nw, ne, sw, se } = divide(squares, id);
-    if are_blank(squares, level - 1, ne, sw, se) {
-        return trimmed_quarter(squares, level - 1, nw, least);
-    }
-    id
+    if a < b { b } else { a }
 }
 
-/// The root of a square's cells, moved so that their bounding box begins at (0, 0): the plane of the moved cells, trimmed, but not below this level.
-/// Each square that it joins is a part of that plane, or the root.
+/// The root of a square's cells, moved so that their bounding box begins at (0, 0), in another store: the plane of the moved cells, trimmed, but not below
+/// this level. Each square that is stored there is that root or a part of it.
 ///
 /// # Errors
 ///
-/// `Full` if the store holds its limit and lacks such a square, or `Memory`. After an error each Id has its square.
-pub fn moved_to_middle<S: SharedSquares>(
+/// `Full` if the other store holds its limit and lacks such a square, or `Memory`. After an error each Id has its square.
+pub fn moved_to_middle<S: SharedSquares, T: Squares>(
     alloc: Global,
-    squares: &mut S,
+    from: &S,
+    to: &mut T,
     id: Id,
     found: &Bounds,
     least: u8,
 ) -> Result<Id, Kind>
-    requires known { S.knows squares.old id }
-    requires low { depth (S.content squares.old id) < MAX_LEVEL }
-    requires bounds { IsLeastBox (S.content squares.old id) found.now }
+    requires known { S.knows from.now id }
+    requires bounds { IsLeastBox (S.content from.now id) found.now }
+    requires columns { found.now.right <ℤ (found.now.left +ℤ pos (2 ^ 61)) }
+    requires rows { found.now.bottom <ℤ (found.now.top +ℤ pos (2 ^ 61)) }
     requires positive { 1 ≤ least }
-    requires high { least ≤ depth (S.content squares.old id) }
-    ensures known { IfOk result (S.knows squares.new) }
-    ensures square { IfOk result (λ r. let t = S.content squares.old id in S.content squares.new r
-        ≡ trimmed (plane_from t found.now.left found.now.top) least) }
-    ensures keeps { Keeps S.Squares squares.old squares.new }
-    ensures refusals { IfErr result (IsWantOf S.Squares squares.new) }
-    ensures needed { OnErr result (SomeOfPlane (S.needs_node squares.new)
-        (plane_from (S.content squares.old id) found.now.left found.now.top) least) }
-    ensures adds { AddsOnly S.stored (λ P. SomeOfPlane P
-        (plane_from (S.content squares.old id) found.now.left found.now.top) least)
-        squares.old squares.new }
+    requires high { least ≤ depth (S.content from.now id) }
+    ensures known { IfOk result (T.knows to.new) }
+    ensures square { IfOk result (λ r. T.content to.new r
+        ≡ root_from (S.content from.now id) found.now.left found.now.top least) }
+    ensures keeps { Keeps T.Squares to.old to.new }
+    ensures refusals { IfErr result (IsWantOf T.Squares to.new) }
+    ensures needed { OnErr result (SomePart (T.needs_node to.new)
+        (root_from (S.content from.now id) found.now.left found.now.top least)) }
+    ensures adds { AddsOnly T.stored (λ P. SomePart P
+        (root_from (S.content from.now id) found.now.left found.now.top least)) to.old to.new }
 {
-    let level = squares.level(id);
-    let inner = square_at(alloc, squares, id, found.left, found.top)?;
-    let quarter = trimmed_quarter(squares, level, inner, least);
-    let blank = squares.empty(squares.level(quarter));
-    squares.join(blank, blank, blank, quarter)
+    let columns = (found.right - found.left) as u64;
+    let rows = (found.bottom - found.top) as u64;
+    let level = level_of_side(greater(columns, rows), least - 1);
+    let quarter = square_at(alloc, from, to, id, level, found.left, found.top)?;
+    let blank = to.empty(level);
+    to.join(blank, blank, blank, quarter)
 }
 
-/// The square of the whole plane whose cells are those of another one, moved so many columns east and rows south, as far as they stay on the plane.
-/// Each square that it joins is part of that one.
+/// The square of the whole plane whose cells are those of another one, moved so many columns east and rows south, as far as they stay on the plane; in
+/// another store. Each square that is stored there is part of that one.
 ///
 /// # Errors
 ///
-/// `Full` if the store holds its limit and lacks a part of that square, or `Memory`. After an error each Id has its square.
-pub fn moved_on_plane<S: SharedSquares>(
+/// `Full` if the other store holds its limit and lacks a part of that square, or `Memory`. After an error each Id has its square.
+pub fn moved_on_plane<S: SharedSquares, T: Squares>(
     alloc: Global,
-    squares: &mut S,
+    from: &S,
+    to: &mut T,
     id: Id,
     columns: i64,
     rows: i64,
 ) -> Result<Id, Kind>
-    requires known { S.knows squares.old id }
-    requires whole { depth (S.content squares.old id) ≡ MAX_LEVEL }
+    requires known { S.knows from.now id }
+    requires whole { depth (S.content from.now id) ≡ MAX_LEVEL }
     requires column { IsNear MAX_LEVEL (neg_ℤ (pos (2 ^ 61)) +ℤ neg_ℤ columns) }
     requires row { IsNear MAX_LEVEL (neg_ℤ (pos (2 ^ 61)) +ℤ neg_ℤ rows) }
-    ensures known { IfOk result (S.knows squares.new) }
-    ensures square { IfOk result (λ r. S.content squares.new r
-        ≡ plane_from (S.content squares.old id) (neg_ℤ columns) (neg_ℤ rows)) }
-    ensures keeps { Keeps S.Squares squares.old squares.new }
-    ensures refusals { IfErr result (IsWantOf S.Squares squares.new) }
-    ensures needed { OnErr result (SomePart (S.needs_node squares.new)
-        (plane_from (S.content squares.old id) (neg_ℤ columns) (neg_ℤ rows))) }
-    ensures adds { AddsOnly S.stored (λ P. SomePart P
-        (plane_from (S.content squares.old id) (neg_ℤ columns) (neg_ℤ rows)))
-        squares.old squares.new }
+    ensures known { IfOk result (T.knows to.new) }
+    ensures square { IfOk result (λ r. T.content to.new r
+        ≡ plane_from (S.content from.now id) (neg_ℤ columns) (neg_ℤ rows)) }
+    ensures keeps { Keeps T.Squares to.old to.new }
+    ensures refusals { IfErr result (IsWantOf T.Squares to.new) }
+    ensures needed { OnErr result (SomePart (T.needs_node to.new)
+        (plane_from (S.content from.now id) (neg_ℤ columns) (neg_ℤ rows))) }
+    ensures adds { AddsOnly T.stored (λ P. SomePart P
+        (plane_from (S.content from.now id) (neg_ℤ columns) (neg_ℤ rows))) to.old to.new }
 {
     square_at(
         alloc,
-        squares,
+        from,
+        to,
         id,
+        MAX_LEVEL,
         -HALF_PLANE - columns,
         -HALF_PLANE - rows,
     )

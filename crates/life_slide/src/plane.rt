@@ -2,7 +2,7 @@
 ghost use Rattle.std.specs.Prelude.{◌≡◌, ◌≢◌, ℕ, ℤ, pos, neg_ℤ, ◌+ℤ◌, ◌<ℤ◌, suc, ◌+◌, ◌-◌, ◌^◌, ◌<◌, ◌≤◌, true, false, IfOk, IfErr, OnErr};
 ghost use Rattle.life_slide.specs.Words.{MAX_LEVEL, SomePart, depth, tree_cell, IsPiece, IsAt, own_square_at, in_corner, IsNear, AddsOnly, Keeps, IsWantOf};
 
-use crate::slide::{Offset, slid};
+use crate::slide::{Offset, slid, window};
 use life_base::{Kind, MAX_LEVEL};
 use life_quad::{Id, Quarters, SharedSquares, Squares};
 use std::alloc::Global;
@@ -50,42 +50,45 @@ fn in_corner(east: bool, south: bool, id: Id, other: Id) -> Quarters
     }
 }
 
-/// The square of the plane of a square's cells that begins in the column x and the row y, and has its level. Each square that it joins is part of that
-/// one.
+/// The square of a level of the plane of a square's cells that begins in the column x and the row y, in another store. Each square that is stored there is
+/// part of that one.
 ///
 /// # Errors
 ///
-/// `Full` if the store holds its limit and lacks a part of that square, or `Memory`. After an error each Id has its square.
-pub fn square_at<S: SharedSquares>(
+/// `Full` if the other store holds its limit and lacks a part of that square, or `Memory`. After an error each Id has its square.
+pub fn square_at<S: SharedSquares, T: Squares>(
     alloc: Global,
-    squares: &mut S,
+    from: &S,
+    to: &mut T,
     id: Id,
+    level: u8,
     x: i64,
     y: i64,
 ) -> Result<Id, Kind>
-    requires known { S.knows squares.old id }
-    requires high { 1 ≤ depth (S.content squares.old id) }
-    requires column { IsNear (depth (S.content squares.old id)) x }
-    requires row { IsNear (depth (S.content squares.old id)) y }
-    ensures at { IfOk result
-        (IsAt (S.knows squares.new) (S.content squares.new) (depth (S.content squares.old id))) }
+    requires known { S.knows from.now id }
+    requires high { 1 ≤ depth (S.content from.now id) }
+    requires low { level ≤ depth (S.content from.now id) }
+    requires column { IsNear (depth (S.content from.now id)) x }
+    requires row { IsNear (depth (S.content from.now id)) y }
+    ensures at { IfOk result (IsAt (T.knows to.new) (T.content to.new) level) }
     ensures square { IfOk result
-        (λ r. IsPiece (tree_cell (S.content squares.old id)) x y (S.content squares.new r)) }
-    ensures keeps { Keeps S.Squares squares.old squares.new }
-    ensures refusals { IfErr result (IsWantOf S.Squares squares.new) }
-    ensures needed { OnErr result (SomePart (S.needs_node squares.new)
-        (own_square_at (S.content squares.old id) x y)) }
-    ensures adds { AddsOnly S.stored
-        (λ P. SomePart P (own_square_at (S.content squares.old id) x y)) squares.old squares.new }
+        (λ r. IsPiece (tree_cell (S.content from.now id)) x y (T.content to.new r)) }
+    ensures keeps { Keeps T.Squares to.old to.new }
+    ensures refusals { IfErr result (IsWantOf T.Squares to.new) }
+    ensures needed { OnErr result (SomePart (T.needs_node to.new)
+        (own_square_at (S.content from.now id) level x y)) }
+    ensures adds { AddsOnly T.stored
+        (λ P. SomePart P (own_square_at (S.content from.now id) level x y)) to.old to.new }
 {
-    let level = squares.level(id);
-    let blank = squares.empty(level);
-    let column = placed(x, level);
-    let row = placed(y, level);
-    let block = in_corner(column.0, row.0, id, blank);
+    let whole = from.level(id);
+    let blank = from.empty(whole);
+    let column = placed(x, whole);
+    let row = placed(y, whole);
+    let around = in_corner(column.0, row.0, id, blank);
     let offset = Offset {
         columns: column.1,
         rows: row.1,
     };
-    slid(alloc, squares, offset, level, &block)
+    let block = window(from, offset, whole, level, &around);
+    slid(alloc, from, to, offset, level, &block)
 }

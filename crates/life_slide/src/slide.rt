@@ -1,8 +1,8 @@
 //! The square that begins at another place.
-ghost use Rattle.std.specs.Prelude.{◌≡◌, ℕ, ℤ, ◌+◌, ◌^◌, ◌%◌, ◌/◌, ◌==◌, ◌<◌, ◌≤◌, true, false, IfOk, IfErr, OnErr};
-ghost use Rattle.life_slide.specs.Words.{MAX_LEVEL, SomeOfBlock, SomeOfNine, Remembers, IsPiece, IsAt, InBlock, InNine, IsBlock, AreNine, ahead, AddsOnly, Keeps, IsWantOf};
+ghost use Rattle.std.specs.Prelude.{◌≡◌, ℕ, ℤ, Bool, ◌+◌, ◌^◌, ◌%◌, ◌/◌, ◌==◌, ◌<◌, ◌≤◌, true, false, IfOk, IfErr, OnErr};
+ghost use Rattle.life_slide.specs.Words.{MAX_LEVEL, SomeOfBlock, SomeOfNine, Remembers, IsPiece, IsAt, InBlock, InNine, IsBlock, AreNine, HasBlockAt, ahead, seen_of, AddsOnly, Keeps, IsWantOf};
 
-use crate::grid::{Nine, are_all, eastern, quarters, western};
+use crate::grid::{Nine, are_all, eastern, quarters, seen_of, western};
 use crate::leaf::leaf_cells;
 use crate::remembered::{recalled, remember};
 use life_base::{Kind, MAX_LEVEL};
@@ -34,91 +34,223 @@ fn digit(offset: u64, level: u8) -> bool
     (offset >> level) % 2 == 1
 }
 
-// Whether the square of a level begins where the first of four does.
-fn is_still(offset: Offset, level: u8) -> bool
+// Of four squares those that the square sees which begins so far in, and blank ones for the others.
+fn seen(offset: Offset, level: u8, block: &Quarters, blank: Id) -> Quarters
     requires { level ≤ MAX_LEVEL }
-    ensures columns { result ≡ true → offset.columns % 2 ^ level ≡ 0 }
-    ensures rows { result ≡ true → offset.rows % 2 ^ level ≡ 0 }
-    ensures level { result ≡ false → 1 ≤ level }
+    ensures { (east : Bool) × (south : Bool) × (east ≡ false → offset.columns % 2 ^ level ≡ 0)
+        × (south ≡ false → offset.rows % 2 ^ level ≡ 0)
+        × (result ≡ seen_of east south block.now blank) }
 {
-    if level == 0 {
-        return true;
-    }
-    rest(offset.columns, level) == 0 && rest(offset.rows, level) == 0
+    let east = rest(offset.columns, level) != 0;
+    let south = rest(offset.rows, level) != 0;
+    seen_of(east, south, block, blank)
 }
 
 #[cycle(slide)]
-// The square of this level that begins in the first of four.
-fn slid_of<S: Squares>(
-    squares: &mut S,
+// The square of this level that begins in the first of four, in another store.
+fn slid_of<S: Squares, T: Squares>(
+    from: &S,
+    to: &mut T,
     memory: &mut NeighbourhoodMemory,
     offset: Offset,
     level: u8,
     block: &Quarters,
 ) -> Result<Id, Kind>
-    requires remembers { Remembers (S.knows squares.old) (S.content squares.old) offset.columns
-        offset.rows memory.old }
-    requires known { InBlock (IsAt (S.knows squares.old) (S.content squares.old) level) block.now }
+    requires remembers { Remembers (S.knows from.now) (S.content from.now) (T.knows to.old)
+        (T.content to.old) offset.columns offset.rows memory.old }
+    requires known { InBlock (IsAt (S.knows from.now) (S.content from.now) level) block.now }
     requires high { level ≤ MAX_LEVEL }
-    ensures at { IfOk result (IsAt (S.knows squares.new) (S.content squares.new) level) }
-    ensures remembers { IfOk result (λ _. Remembers (S.knows squares.new) (S.content squares.new)
-        offset.columns offset.rows memory.new) }
+    ensures at { IfOk result (IsAt (T.knows to.new) (T.content to.new) level) }
+    ensures remembers { IfOk result (λ _. Remembers (S.knows from.now) (S.content from.now)
+        (T.knows to.new) (T.content to.new) offset.columns offset.rows memory.new) }
     ensures slid { IfOk result (λ r. (cells : ℤ → ℤ → ℕ) (x y : ℤ)
-        → IsBlock (S.content squares.old) cells (2 ^ level) x y block.now
+        → IsBlock (S.content from.now) cells (2 ^ level) x y block.now
         → IsPiece cells (ahead x (offset.columns % 2 ^ level)) (ahead y (offset.rows % 2 ^ level))
-        (S.content squares.new r)) }
-    ensures keeps { Keeps S.Squares squares.old squares.new }
-    ensures refusals { IfErr result (IsWantOf S.Squares squares.new) }
-    ensures needed { OnErr result (SomeOfBlock (S.needs_node squares.new) (S.content squares.old)
+        (T.content to.new r)) }
+    ensures keeps { Keeps T.Squares to.old to.new }
+    ensures refusals { IfErr result (IsWantOf T.Squares to.new) }
+    ensures needed { OnErr result (SomeOfBlock (T.needs_node to.new) (S.content from.now)
         offset.columns offset.rows level block.now) }
-    ensures adds { AddsOnly S.stored
-        (λ P. SomeOfBlock P (S.content squares.old) offset.columns offset.rows level block.now)
-        squares.old squares.new }
+    ensures adds { AddsOnly T.stored
+        (λ P. SomeOfBlock P (S.content from.now) offset.columns offset.rows level block.now)
+        to.old to.new }
 {
-    if is_still(offset, level) {
-        return Ok(block.nw);
-    }
-    let blank = squares.empty(level);
-    if are_all(block, blank) {
-        return Ok(blank);
-    }
-    if let Some(cells) = leaf_cells(squares, offset, level, block) {
-        return squares.small(cells);
-    }
-    slid_by_quarters(squares, memory, offset, level, block)
+    let blank = from.empty(level);
+    let inside = seen(offset, level, block, blank);
+    slid_of_seen(from, to, memory, offset, level, &inside)
 }
 
 #[cycle(slide)]
-// The same of a square of quarters.
-fn slid_by_quarters<S: Squares>(
-    squares: &mut S,
+// The same of four squares of which it may see each.
+fn slid_of_seen<S: Squares, T: Squares>(
+    from: &S,
+    to: &mut T,
     memory: &mut NeighbourhoodMemory,
     offset: Offset,
     level: u8,
     block: &Quarters,
 ) -> Result<Id, Kind>
-    requires remembers { Remembers (S.knows squares.old) (S.content squares.old) offset.columns
-        offset.rows memory.old }
-    requires known { InBlock (IsAt (S.knows squares.old) (S.content squares.old) level) block.now }
+    requires remembers { Remembers (S.knows from.now) (S.content from.now) (T.knows to.old)
+        (T.content to.old) offset.columns offset.rows memory.old }
+    requires known { InBlock (IsAt (S.knows from.now) (S.content from.now) level) block.now }
+    requires high { level ≤ MAX_LEVEL }
+    ensures at { IfOk result (IsAt (T.knows to.new) (T.content to.new) level) }
+    ensures remembers { IfOk result (λ _. Remembers (S.knows from.now) (S.content from.now)
+        (T.knows to.new) (T.content to.new) offset.columns offset.rows memory.new) }
+    ensures slid { IfOk result (λ r. (cells : ℤ → ℤ → ℕ) (x y : ℤ)
+        → IsBlock (S.content from.now) cells (2 ^ level) x y block.now
+        → IsPiece cells (ahead x (offset.columns % 2 ^ level)) (ahead y (offset.rows % 2 ^ level))
+        (T.content to.new r)) }
+    ensures keeps { Keeps T.Squares to.old to.new }
+    ensures refusals { IfErr result (IsWantOf T.Squares to.new) }
+    ensures needed { OnErr result (SomeOfBlock (T.needs_node to.new) (S.content from.now)
+        offset.columns offset.rows level block.now) }
+    ensures adds { AddsOnly T.stored
+        (λ P. SomeOfBlock P (S.content from.now) offset.columns offset.rows level block.now)
+        to.old to.new }
+{
+    if are_all(block, from.empty(level)) {
+        return Ok(to.empty(level));
+    }
+    if let Some(state) = from.state(block.nw) {
+        return Ok(to.cell(state));
+    }
+    if let Some(cells) = leaf_cells(from, offset, level, block) {
+        return to.small(cells);
+    }
+    slid_by_quarters(from, to, memory, offset, level, block)
+}
+
+#[cycle(slide)]
+// The same of squares with quarters.
+fn slid_by_quarters<S: Squares, T: Squares>(
+    from: &S,
+    to: &mut T,
+    memory: &mut NeighbourhoodMemory,
+    offset: Offset,
+    level: u8,
+    block: &Quarters,
+) -> Result<Id, Kind>
+    requires remembers { Remembers (S.knows from.now) (S.content from.now) (T.knows to.old)
+        (T.content to.old) offset.columns offset.rows memory.old }
+    requires known { InBlock (IsAt (S.knows from.now) (S.content from.now) level) block.now }
+    requires high { level ≤ MAX_LEVEL }
     requires low { 1 ≤ level }
-    requires high { level ≤ MAX_LEVEL }
-    ensures at { IfOk result (IsAt (S.knows squares.new) (S.content squares.new) level) }
-    ensures remembers { IfOk result (λ _. Remembers (S.knows squares.new) (S.content squares.new)
-        offset.columns offset.rows memory.new) }
+    ensures at { IfOk result (IsAt (T.knows to.new) (T.content to.new) level) }
+    ensures remembers { IfOk result (λ _. Remembers (S.knows from.now) (S.content from.now)
+        (T.knows to.new) (T.content to.new) offset.columns offset.rows memory.new) }
     ensures slid { IfOk result (λ r. (cells : ℤ → ℤ → ℕ) (x y : ℤ)
-        → IsBlock (S.content squares.old) cells (2 ^ level) x y block.now
+        → IsBlock (S.content from.now) cells (2 ^ level) x y block.now
         → IsPiece cells (ahead x (offset.columns % 2 ^ level)) (ahead y (offset.rows % 2 ^ level))
-        (S.content squares.new r)) }
-    ensures keeps { Keeps S.Squares squares.old squares.new }
-    ensures refusals { IfErr result (IsWantOf S.Squares squares.new) }
-    ensures needed { OnErr result (SomeOfBlock (S.needs_node squares.new) (S.content squares.old)
+        (T.content to.new r)) }
+    ensures keeps { Keeps T.Squares to.old to.new }
+    ensures refusals { IfErr result (IsWantOf T.Squares to.new) }
+    ensures needed { OnErr result (SomeOfBlock (T.needs_node to.new) (S.content from.now)
         offset.columns offset.rows level block.now) }
-    ensures adds { AddsOnly S.stored
-        (λ P. SomeOfBlock P (S.content squares.old) offset.columns offset.rows level block.now)
-        squares.old squares.new }
+    ensures adds { AddsOnly T.stored
+        (λ P. SomeOfBlock P (S.content from.now) offset.columns offset.rows level block.now)
+        to.old to.new }
 {
     if let Some(answer) = recalled(memory, level, block) {
         return Ok(answer);
+    }
+    let below = level - 1;
+    let nine = quarters(
+        from,
+        below,
+        block,
+        digit(offset.columns, below),
+        digit(offset.rows, below),
+    );
+    let answer = slid_of_nine(from, to, memory, offset, below, &nine)?;
+    remember(memory, level, block, answer);
+    Ok(answer)
+}
+
+#[cycle(slide)]
+// The square one level higher that begins in the first of nine.
+fn slid_of_nine<S: Squares, T: Squares>(
+    from: &S,
+    to: &mut T,
+    memory: &mut NeighbourhoodMemory,
+    offset: Offset,
+    level: u8,
+    nine: &Nine,
+) -> Result<Id, Kind>
+    requires remembers { Remembers (S.knows from.now) (S.content from.now) (T.knows to.old)
+        (T.content to.old) offset.columns offset.rows memory.old }
+    requires known { InNine (IsAt (S.knows from.now) (S.content from.now) level) nine.now }
+    requires high { level < MAX_LEVEL }
+    ensures at { IfOk result (IsAt (T.knows to.new) (T.content to.new) (level + 1)) }
+    ensures remembers { IfOk result (λ _. Remembers (S.knows from.now) (S.content from.now)
+        (T.knows to.new) (T.content to.new) offset.columns offset.rows memory.new) }
+    ensures slid { IfOk result (λ r. (cells : ℤ → ℤ → ℕ) (x y : ℤ)
+        → AreNine (S.content from.now) cells (2 ^ level) x y nine.now
+        → IsPiece cells (ahead x (offset.columns % 2 ^ level)) (ahead y (offset.rows % 2 ^ level))
+        (T.content to.new r)) }
+    ensures keeps { Keeps T.Squares to.old to.new }
+    ensures refusals { IfErr result (IsWantOf T.Squares to.new) }
+    ensures needed { OnErr result (SomeOfNine (T.needs_node to.new) (S.content from.now)
+        offset.columns offset.rows level nine.now) }
+    ensures adds { AddsOnly T.stored
+        (λ P. SomeOfNine P (S.content from.now) offset.columns offset.rows level nine.now)
+        to.old to.new }
+{
+    let nw = slid_of(
+        from,
+        to,
+        memory,
+        offset,
+        level,
+        &western(&nine.first, &nine.second),
+    )?;
+    let ne = slid_of(
+        from,
+        to,
+        memory,
+        offset,
+        level,
+        &eastern(&nine.first, &nine.second),
+    )?;
+    let sw = slid_of(
+        from,
+        to,
+        memory,
+        offset,
+        level,
+        &western(&nine.second, &nine.third),
+    )?;
+    let se = slid_of(
+        from,
+        to,
+        memory,
+        offset,
+        level,
+        &eastern(&nine.second, &nine.third),
+    )?;
+    to.join(nw, ne, sw, se)
+}
+
+/// Of four squares of a level, two by two, and a lower level: the four squares of that level, two by two, in the first of which the square of that level
+/// begins that begins so many columns east and rows south of the first of the given ones.
+pub(crate) fn window<S: Squares>(
+    squares: &S,
+    offset: Offset,
+    level: u8,
+    low: u8,
+    block: &Quarters,
+) -> Quarters
+    requires known { InBlock (IsAt (S.knows squares.now) (S.content squares.now) level) block.now }
+    requires low { low ≤ level }
+    requires high { level ≤ MAX_LEVEL }
+    ensures known { InBlock (IsAt (S.knows squares.now) (S.content squares.now) low) result }
+    ensures begins { (cells : ℤ → ℤ → ℕ) (x y : ℤ)
+        → IsBlock (S.content squares.now) cells (2 ^ level) x y block.now
+        → HasBlockAt (S.content squares.now) cells offset.columns offset.rows low
+        (ahead x (offset.columns % 2 ^ level)) (ahead y (offset.rows % 2 ^ level)) result }
+{
+    if level == low {
+        return *block;
     }
     let below = level - 1;
     let nine = quarters(
@@ -128,98 +260,44 @@ fn slid_by_quarters<S: Squares>(
         digit(offset.columns, below),
         digit(offset.rows, below),
     );
-    let answer = slid_of_nine(squares, memory, offset, below, &nine)?;
-    remember(memory, level, block, answer);
-    Ok(answer)
-}
-
-#[cycle(slide)]
-// The square one level higher that begins in the first of nine.
-fn slid_of_nine<S: Squares>(
-    squares: &mut S,
-    memory: &mut NeighbourhoodMemory,
-    offset: Offset,
-    level: u8,
-    nine: &Nine,
-) -> Result<Id, Kind>
-    requires remembers { Remembers (S.knows squares.old) (S.content squares.old) offset.columns
-        offset.rows memory.old }
-    requires known { InNine (IsAt (S.knows squares.old) (S.content squares.old) level) nine.now }
-    requires high { level < MAX_LEVEL }
-    ensures at { IfOk result (IsAt (S.knows squares.new) (S.content squares.new) (level + 1)) }
-    ensures remembers { IfOk result (λ _. Remembers (S.knows squares.new) (S.content squares.new)
-        offset.columns offset.rows memory.new) }
-    ensures slid { IfOk result (λ r. (cells : ℤ → ℤ → ℕ) (x y : ℤ)
-        → AreNine (S.content squares.old) cells (2 ^ level) x y nine.now
-        → IsPiece cells (ahead x (offset.columns % 2 ^ level)) (ahead y (offset.rows % 2 ^ level))
-        (S.content squares.new r)) }
-    ensures keeps { Keeps S.Squares squares.old squares.new }
-    ensures refusals { IfErr result (IsWantOf S.Squares squares.new) }
-    ensures needed { OnErr result (SomeOfNine (S.needs_node squares.new) (S.content squares.old)
-        offset.columns offset.rows level nine.now) }
-    ensures adds { AddsOnly S.stored
-        (λ P. SomeOfNine P (S.content squares.old) offset.columns offset.rows level nine.now)
-        squares.old squares.new }
-{
-    let nw = slid_of(
+    window(
         squares,
-        memory,
         offset,
-        level,
+        below,
+        low,
         &western(&nine.first, &nine.second),
-    )?;
-    let ne = slid_of(
-        squares,
-        memory,
-        offset,
-        level,
-        &eastern(&nine.first, &nine.second),
-    )?;
-    let sw = slid_of(
-        squares,
-        memory,
-        offset,
-        level,
-        &western(&nine.second, &nine.third),
-    )?;
-    let se = slid_of(
-        squares,
-        memory,
-        offset,
-        level,
-        &eastern(&nine.second, &nine.third),
-    )?;
-    squares.join(nw, ne, sw, se)
+    )
 }
 
-/// The square that begins so many columns east and rows south of the first of four squares, two by two, and has their level: less than its side length,
-/// so that it is within them. Each square that it joins is part of that one.
+/// The square that begins so many columns east and rows south of the first of four squares, two by two, and has their level, in another store. Each
+/// square that is stored there is part of that one. Of the offset only what is left after division by the side length of the squares matters.
 ///
 /// # Errors
 ///
-/// `Full` if the store holds its limit and lacks a part of that square, or `Memory`. After an error each Id has its square.
-pub fn slid<S: SharedSquares>(
+/// `Full` if the other store holds its limit and lacks a part of that square, or `Memory`. After an error each Id has its square.
+pub fn slid<S: SharedSquares, T: Squares>(
     alloc: Global,
-    squares: &mut S,
+    from: &S,
+    to: &mut T,
     offset: Offset,
     level: u8,
     block: &Quarters,
 ) -> Result<Id, Kind>
-    requires known { InBlock (IsAt (S.knows squares.old) (S.content squares.old) level) block.now }
+    requires known { InBlock (IsAt (S.knows from.now) (S.content from.now) level) block.now }
     requires high { level ≤ MAX_LEVEL }
-    ensures at { IfOk result (IsAt (S.knows squares.new) (S.content squares.new) level) }
+    ensures at { IfOk result (IsAt (T.knows to.new) (T.content to.new) level) }
     ensures slid { IfOk result (λ r. (cells : ℤ → ℤ → ℕ) (x y : ℤ)
-        → IsBlock (S.content squares.old) cells (2 ^ level) x y block.now
+        → IsBlock (S.content from.now) cells (2 ^ level) x y block.now
         → IsPiece cells (ahead x (offset.columns % 2 ^ level)) (ahead y (offset.rows % 2 ^ level))
-        (S.content squares.new r)) }
-    ensures keeps { Keeps S.Squares squares.old squares.new }
-    ensures refusals { IfErr result (IsWantOf S.Squares squares.new) }
-    ensures needed { OnErr result (SomeOfBlock (S.needs_node squares.new) (S.content squares.old)
+        (T.content to.new r)) }
+    ensures keeps { Keeps T.Squares to.old to.new }
+    ensures refusals { IfErr result (IsWantOf T.Squares to.new) }
+    ensures needed { OnErr result (SomeOfBlock (T.needs_node to.new) (S.content from.now)
         offset.columns offset.rows level block.now) }
-    ensures adds { AddsOnly S.stored
-        (λ P. SomeOfBlock P (S.content squares.old) offset.columns offset.rows level block.now)
-        squares.old squares.new }
+    ensures adds { AddsOnly T.stored
+        (λ P. SomeOfBlock P (S.content from.now) offset.columns offset.rows level block.now)
+        to.old to.new }
 {
-    let mut memory = NeighbourhoodMemory::new(alloc, squares.seed());
-    slid_of(squares, &mut memory, offset, level, block)
+    let mut memory = NeighbourhoodMemory::new(alloc, from.seed());
+    slid_of(from, to, &mut memory, offset, level, block)
 }

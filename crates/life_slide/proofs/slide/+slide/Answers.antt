@@ -1,6 +1,6 @@
 use Rattle.std.proofs.Common.{◌≡◌, ℤ, ℕ, ◌+◌, ◌-◌, ◌%◌, ◌^◌, Result, Ok, Err, IfOk, refl, sym, ◌∙◌, ap, subst, arith}
 use Rattle.std.proofs.lemmas.Result.{IfOk-weaker}
-use Rattle.life_base.specs.Tree.{Tree, depth}
+use Rattle.life_base.specs.Tree.{Tree, point, depth, IsFull}
 use Rattle.life_base.proofs.Results.{on_err_any, on_err_both}
 use Rattle.life_quad.specs.Refused.{SomePart}
 use Rattle.life_quad.specs.Store.{four}
@@ -8,73 +8,145 @@ use Rattle.life_quad.proofs.KeepingLemmas.{keeps-then, adds-as}
 use Rattle.life_sweep.proofs.NeedLemmas.{adds-more}
 use Rattle.life_block.specs.Needed.{square_from}
 use Rattle.life_block.specs.Pieces.{IsAt, IsPiece, ahead}
-use Rattle.life_block.proofs.NeedLemmas.{AreParts, is-piece, joined-is, parts-of_pieces, own-part, still-needs, on_err_map}
+use Rattle.life_block.proofs.NeedLemmas.{AreParts, is-piece, joined-is, parts-of_pieces, piece-is, own-part, still-needs, on_err_map}
 use Rattle.life_block.proofs.PieceLemmas.{IsPiece-moved}
 use Rattle.life_block.proofs.SquareLemmas.{square-is}
 use Rattle.life_slide.specs.Needed.{SomeOfBlock, SomeOfNine}
-use Rattle.life_slide.specs.Pieces.{AreNine, IsBlock}
+use Rattle.life_slide.specs.Pieces.{AreNine, InBlock, IsBlock}
 use Rattle.life_slide.proofs.NeedLemmas.{nine-of, of_north_east, of_north_west, of_quarters, of_south_east, of_south_west, swapped}
-use Rattle.life_slide.proofs.SlideLemmas.{ahead-none, AreNine-kept, begins, block-eastern, block-western, new-answer, recalled-at, recalled-slid, rest-less, Remembers-kept, Remembers-more, slid-blank}
+use Rattle.life_slide.proofs.SlideLemmas.{ahead-none, begins, block-eastern, block-western, recalled-at, recalled-slid, rest-less, Remembers-kept, Remembers-more, slid-blank}
+use Rattle.life_slide.proofs.SeenLemmas.{seen-block, seen_cells, seen-in, window-same}
 use Rattle.life_slide.proofs.slide.+slide.Given.{Over}
 use Rattle.life_slide.proofs.slide.+slide.Goals as goal
-use Rattle.life_slide.proofs.slide.+slide.Goals.{slid_of-After-small, slid_by_quarters-After-quarters-nine, slid_by_quarters-After-remember, slid_of_nine-After-join}
+use Rattle.life_slide.proofs.slide.+slide.Goals.{slid_of-After-slid_of_seen, slid_of_seen-After-small, slid_by_quarters-After-quarters-nine, slid_by_quarters-After-remember, slid_of_nine-After-join}
 
 both : {T E : Type 0} {P Q R : T → Type 0} (r : Result T E) → ((x : T) → P x → Q x → R x) → IfOk r P → IfOk r Q → IfOk r R
 both (Ok x) f p q = f x p q
 both (Err e) f p q = tt
 
-pub slid_of-returns-then-is_still-clause-slid : goal.slid_of-returns-then-is_still-clause-slid
-slid_of-returns-then-is_still-clause-slid g m c cells x y h =
-    let s = c.is_still.ensures in
-    let is = c.if-is_still.true in
-    IsPiece-moved cells x _ y _ _ (ahead-none x _ (s.columns is)) (ahead-none y _ (s.rows is)) h.nw
+-- ---- without the squares that aren't seen
 
-pub slid_of-returns-then-are_all-clause-slid : goal.slid_of-returns-then-are_all-clause-slid
-slid_of-returns-then-are_all-clause-slid g m c cells x y h =
+pub slid_of-slid_of_seen-requires-clause-known : goal.slid_of-slid_of_seen-requires-clause-known
+slid_of-slid_of_seen-requires-clause-known g m c =
+    let s = c.seen-inside.ensures in
+    subst (InBlock (IsAt (g.S.Squares.knows c.args.from.now) (g.S.Squares.content c.args.from.now) c.args.level)) (sym s.4)
+    (seen-in s.0 s.1 c.args.block.now c.empty-blank.result c.requires.known
+    (record { known = c.empty-blank.ensures.known; level = c.empty-blank.ensures.level }))
+
+-- the four squares that are seen, on a plane without the others
+inside : (g : Over) (m : ℕ) (c : slid_of-After-slid_of_seen g m) (cells : ℤ → ℤ → ℕ) (x y : ℤ)
+    → IsBlock (g.S.Squares.content c.args.from.now) cells (2 ^ c.args.level) x y c.args.block.now
+    → (other : ℤ → ℤ → ℕ) × IsBlock (g.S.Squares.content c.args.from.now) other (2 ^ c.args.level) x y c.seen-inside.result
+    × (square_from other c.args.level (ahead x (c.args.offset.columns % 2 ^ c.args.level)) (ahead y (c.args.offset.rows % 2 ^ c.args.level))
+    ≡ square_from cells c.args.level (ahead x (c.args.offset.columns % 2 ^ c.args.level)) (ahead y (c.args.offset.rows % 2 ^ c.args.level)))
+inside g m c cells x y h =
+    let s = c.seen-inside.ensures in
     let k = c.args.level in
-    slid-blank (g.S.Squares.content c.args.squares.now) cells k x y (c.args.offset.columns % 2 ^ k) (c.args.offset.rows % 2 ^ k) c.empty-blank.result
-    c.args.block.now c.empty-blank.ensures.square (rest-less _ k) (rest-less _ k) (c.are_all.ensures c.if-are_all.true) h
+    let content = g.S.Squares.content c.args.from.now in
+    let full = g.met.S.Squares.full c.args.from.now in
+    let known = c.requires.known in
+    let each : InBlock (λ id. IsFull (content id) × (depth (content id) ≡ k)) c.args.block.now = record {
+      nw = (full _ known.nw.known, known.nw.level);
+      ne = (full _ known.ne.known, known.ne.level);
+      sw = (full _ known.sw.known, known.sw.level);
+      se = (full _ known.se.known, known.se.level);
+    } in (
+      seen_cells cells s.0 s.1 x y k,
+      subst (IsBlock content (seen_cells cells s.0 s.1 x y k) (2 ^ k) x y) (sym s.4)
+          (seen-block content cells k x y c.args.block.now c.empty-blank.result c.empty-blank.ensures.square each h s.0 s.1),
+      sym (window-same cells s.0 s.1 x y k _ _ s.2 s.3),
+    )
+
+pub slid_of-returns-clause-slid : goal.slid_of-returns-clause-slid
+slid_of-returns-clause-slid g m c =
+    let d = (goal.at.slid_of-returns-clause-slid g m c).After-slid_of_seen in
+    both c.slid_of_seen.result
+    (λ r at slid cells x y h.
+    let i = inside g m d cells x y h in
+    is-piece cells c.args.level _ _ _ (piece-is i.0 c.args.level _ _ _ (g.met.T.Squares.full _ _ at.known) at.level (slid i.0 x y i.1) ∙ i.2))
+    c.slid_of_seen.ensures.at c.slid_of_seen.ensures.slid
+
+pub slid_of-returns-clause-needed : goal.slid_of-returns-clause-needed
+slid_of-returns-clause-needed g m c =
+    let d = (goal.at.slid_of-returns-clause-needed g m c).After-slid_of_seen in
+    on_err_map c.slid_of_seen.result
+    (λ some cells x y h. let i = inside g m d cells x y h in subst (SomePart (g.T.Squares.needs_node c.slid_of_seen.new.to)) i.2 (some i.0 x y i.1))
+    c.slid_of_seen.ensures.needed
+
+pub slid_of-returns-clause-adds : goal.slid_of-returns-clause-adds
+slid_of-returns-clause-adds g m c =
+    let d = (goal.at.slid_of-returns-clause-adds g m c).After-slid_of_seen in
+    adds-as _ c.slid_of_seen.ensures.adds
+    (λ P some cells x y h. let i = inside g m d cells x y h in subst (SomePart P) i.2 (some i.0 x y i.1))
+
+-- ---- of squares that may be seen
+
+pub slid_of_seen-returns-then-are_all-clause-slid : goal.slid_of_seen-returns-then-are_all-clause-slid
+slid_of_seen-returns-then-are_all-clause-slid g m c cells x y h =
+    let k = c.args.level in
+    let columns = c.args.offset.columns % 2 ^ k in
+    let rows = c.args.offset.rows % 2 ^ k in
+    let piece = slid-blank (g.S.Squares.content c.args.from.now) cells k x y columns rows c.empty.result
+    c.args.block.now c.empty.ensures.square (rest-less _ k) (rest-less _ k) (c.are_all.ensures c.if-are_all.true) h in
+    subst (IsPiece cells (ahead x columns) (ahead y rows)) (c.empty.ensures.square ∙ sym c.empty-2.ensures.square) piece
+
+-- a single cell
+level-none : (k : ℕ) (t : Tree) (s : ℕ) → depth t ≡ k → t ≡ point s → k ≡ 0
+level-none k t s level is = sym level ∙ ap depth is
+
+pub slid_of_seen-returns-in-Some-clause-at : goal.slid_of_seen-returns-in-Some-clause-at
+slid_of_seen-returns-in-Some-clause-at g m c =
+    let is = rw c.in-Some.is at c.state.ensures in
+    record { known = c.cell.ensures.known; level = ap depth c.cell.ensures.square ∙ sym (level-none _ _ _ c.requires.known.nw.level is) }
+
+pub slid_of_seen-returns-in-Some-clause-slid : goal.slid_of_seen-returns-in-Some-clause-slid
+slid_of_seen-returns-in-Some-clause-slid g m c cells x y h =
+    let is = rw c.in-Some.is at c.state.ensures in
+    let k = level-none _ _ _ c.requires.known.nw.level is in
+    let none : (n : ℕ) → n % 2 ^ c.args.level ≡ 0 = λ n. ap (λ l. n % 2 ^ l) k ∙ mod-one n in
+    IsPiece-moved cells x _ y _ _ (ahead-none x _ (none _)) (ahead-none y _ (none _))
+    (subst (IsPiece cells x y) (is ∙ sym c.cell.ensures.square) h.nw)
 
 -- the square whose cells are told is the one that begins there
-leaf-is : (g : Over) (m : ℕ) (c : slid_of-After-small g m) (cells : ℤ → ℤ → ℕ) (x y : ℤ)
-    → IsBlock (g.S.Squares.content c.args.squares.now) cells (2 ^ c.args.level) x y c.args.block.now
-    → four c.in-Some.cells ≡ square_from cells c.args.level (ahead x (c.args.offset.columns % 2 ^ c.args.level))
+leaf-is : (g : Over) (m : ℕ) (c : slid_of_seen-After-small g m) (cells : ℤ → ℤ → ℕ) (x y : ℤ)
+    → IsBlock (g.S.Squares.content c.args.from.now) cells (2 ^ c.args.level) x y c.args.block.now
+    → four c.in-Some-2.cells ≡ square_from cells c.args.level (ahead x (c.args.offset.columns % 2 ^ c.args.level))
     (ahead y (c.args.offset.rows % 2 ^ c.args.level))
 leaf-is g m c cells x y h =
-    let e = c.in-Some.ensures.level in
-    let content = g.S.Squares.content c.args.squares.now in
-    let n = c.in-Some.cells in
+    let e = c.in-Some-2.ensures.level in
+    let content = g.S.Squares.content c.args.from.now in
+    let n = c.in-Some-2.cells in
     let columns = c.args.offset.columns in
     let rows = c.args.offset.rows in
     subst (λ l. IsBlock content cells (2 ^ l) x y c.args.block.now → four n ≡ square_from cells l (ahead x (columns % 2 ^ l)) (ahead y (rows % 2 ^ l))) (sym e)
-    (λ p. square-is cells _ _ n c.in-Some.ensures.small (c.in-Some.ensures.cells cells x y p)) h
+    (λ p. square-is cells _ _ n c.in-Some-2.ensures.small (c.in-Some-2.ensures.cells cells x y p)) h
 
-pub slid_of-returns-in-Some-clause-at : goal.slid_of-returns-in-Some-clause-at
-slid_of-returns-in-Some-clause-at g m c =
-    let e = c.in-Some.ensures.level in
+pub slid_of_seen-returns-in-Some-2-clause-at : goal.slid_of_seen-returns-in-Some-2-clause-at
+slid_of_seen-returns-in-Some-2-clause-at g m c =
+    let e = c.in-Some-2.ensures.level in
     both c.small.result (λ r known is. record { known = known; level = ap depth is ∙ sym e }) c.small.ensures.known c.small.ensures.square
 
-pub slid_of-returns-in-Some-clause-remembers : goal.slid_of-returns-in-Some-clause-remembers
-slid_of-returns-in-Some-clause-remembers g m c =
+pub slid_of_seen-returns-in-Some-2-clause-remembers : goal.slid_of_seen-returns-in-Some-2-clause-remembers
+slid_of_seen-returns-in-Some-2-clause-remembers g m c =
     IfOk-weaker c.small.result _ _ (λ r known. Remembers-kept c.small.ensures.keeps c.requires.remembers) c.small.ensures.known
 
-pub slid_of-returns-in-Some-clause-slid : goal.slid_of-returns-in-Some-clause-slid
-slid_of-returns-in-Some-clause-slid g m c =
+pub slid_of_seen-returns-in-Some-2-clause-slid : goal.slid_of_seen-returns-in-Some-2-clause-slid
+slid_of_seen-returns-in-Some-2-clause-slid g m c =
     IfOk-weaker c.small.result _ _
-    (λ r is cells x y h. is-piece cells c.args.level _ _ _ (is ∙ leaf-is g m (goal.at.slid_of-returns-in-Some-clause-slid g m c).After-small cells x y h))
+    (λ r is cells x y h. is-piece cells c.args.level _ _ _ (is ∙ leaf-is g m (goal.at.slid_of_seen-returns-in-Some-2-clause-slid g m c).After-small cells x y h))
     c.small.ensures.square
 
-pub slid_of-returns-in-Some-clause-needed : goal.slid_of-returns-in-Some-clause-needed
-slid_of-returns-in-Some-clause-needed g m c =
+pub slid_of_seen-returns-in-Some-2-clause-needed : goal.slid_of_seen-returns-in-Some-2-clause-needed
+slid_of_seen-returns-in-Some-2-clause-needed g m c =
     on_err_map c.small.result
-    (λ needed cells x y h. subst (SomePart (g.S.Squares.needs_node c.small.new.self))
-    (leaf-is g m (goal.at.slid_of-returns-in-Some-clause-needed g m c).After-small cells x y h) needed)
+    (λ needed cells x y h. subst (SomePart (g.T.Squares.needs_node c.small.new.self))
+    (leaf-is g m (goal.at.slid_of_seen-returns-in-Some-2-clause-needed g m c).After-small cells x y h) needed)
     c.small.ensures.needed
 
-pub slid_of-returns-in-Some-clause-adds : goal.slid_of-returns-in-Some-clause-adds
-slid_of-returns-in-Some-clause-adds g m c =
+pub slid_of_seen-returns-in-Some-2-clause-adds : goal.slid_of_seen-returns-in-Some-2-clause-adds
+slid_of_seen-returns-in-Some-2-clause-adds g m c =
     adds-as _ c.small.ensures.adds
-    (λ P some cells x y h. subst (SomePart P) (leaf-is g m (goal.at.slid_of-returns-in-Some-clause-adds g m c).After-small cells x y h) some)
+    (λ P some cells x y h. subst (SomePart P) (leaf-is g m (goal.at.slid_of_seen-returns-in-Some-2-clause-adds g m c).After-small cells x y h) some)
 
 -- ---- by quarters
 
@@ -86,16 +158,16 @@ slid_by_quarters-returns-in-Some-clause-slid g m c = recalled-slid c.requires.re
 
 -- the square that the nine answer
 slid-of : (g : Over) (m : ℕ) (c : slid_by_quarters-After-remember g m) (cells : ℤ → ℤ → ℕ) (x y : ℤ)
-    → IsBlock (g.S.Squares.content c.args.squares.now) cells (2 ^ c.args.level) x y c.args.block.now
+    → IsBlock (g.S.Squares.content c.args.from.now) cells (2 ^ c.args.level) x y c.args.block.now
     → IsPiece cells (ahead x (c.args.offset.columns % 2 ^ c.args.level)) (ahead y (c.args.offset.rows % 2 ^ c.args.level))
-    (g.S.Squares.content c.slid_of_nine.new.squares c.in_ok-answer.answer)
+    (g.T.Squares.content c.slid_of_nine.new.to c.in_ok-answer.answer)
 slid-of g m c cells x y h =
     let j = c.args.level - 1 in
     let level : j + 1 ≡ c.args.level = omega (arith, c.requires.low) in
     IsPiece-moved cells _ _ _ _ _ (begins c.digit.result c.args.offset.columns j c.args.level x c.digit.ensures level)
     (begins c.digit-2.result c.args.offset.rows j c.args.level y c.digit-2.ensures level)
     (c.in_ok-answer.ensures.slid cells _ _
-    (nine-of (g.S.Squares.content c.args.squares.now) 0 0 c.args.level c.digit.result c.digit-2.result c.requires.low
+    (nine-of (g.S.Squares.content c.args.from.now) 0 0 c.args.level c.digit.result c.digit-2.result c.requires.low
     c.quarters-nine.ensures.pieces cells x y h))
 
 pub slid_by_quarters-returns-clause-slid : goal.slid_by_quarters-returns-clause-slid
@@ -104,26 +176,31 @@ slid_by_quarters-returns-clause-slid g m c = slid-of g m (goal.at.slid_by_quarte
 pub slid_by_quarters-returns-clause-remembers : goal.slid_by_quarters-returns-clause-remembers
 slid_by_quarters-returns-clause-remembers g m c =
     let n = c.in_ok-answer.ensures in
-    let s = c.slid_of_nine.new.squares in
+    let s = c.slid_of_nine.new.to in
     let level : c.args.level - 1 + 1 ≡ c.args.level = omega (arith, c.requires.low) in
-    let at = subst (λ l. IsAt (g.S.Squares.knows s) (g.S.Squares.content s) l c.in_ok-answer.answer) level n.at in
+    let at = subst (λ l. IsAt (g.T.Squares.knows s) (g.T.Squares.content s) l c.in_ok-answer.answer) level n.at in
     Remembers-more
-    (new-answer n.keeps c.requires.known at (slid-of g m (goal.at.slid_by_quarters-returns-clause-remembers g m c).After-remember))
+    (record {
+      level = c.args.level;
+      known = c.requires.known;
+      at = at;
+      slid = slid-of g m (goal.at.slid_by_quarters-returns-clause-remembers g m c).After-remember;
+    })
     c.remember.ensures n.remembers
 
 -- a part of the square of nine quarters is one of the square
 quarters-part : (g : Over) (m : ℕ) (c : slid_by_quarters-After-quarters-nine g m) (P : Tree → Type 0)
-    → SomeOfNine P (g.S.Squares.content c.args.squares.now) c.args.offset.columns c.args.offset.rows (c.args.level - 1) c.quarters-nine.result
-    → SomeOfBlock P (g.S.Squares.content c.args.squares.now) c.args.offset.columns c.args.offset.rows c.args.level c.args.block.now
+    → SomeOfNine P (g.S.Squares.content c.args.from.now) c.args.offset.columns c.args.offset.rows (c.args.level - 1) c.quarters-nine.result
+    → SomeOfBlock P (g.S.Squares.content c.args.from.now) c.args.offset.columns c.args.offset.rows c.args.level c.args.block.now
 quarters-part g m c P =
-    of_quarters (g.S.Squares.content c.args.squares.now) c.args.offset.columns c.args.offset.rows c.args.level c.digit.result c.digit-2.result c.requires.low
+    of_quarters (g.S.Squares.content c.args.from.now) c.args.offset.columns c.args.offset.rows c.args.level c.digit.result c.digit-2.result c.requires.low
     c.quarters-nine.ensures.pieces P c.digit.ensures c.digit-2.ensures
 
 pub slid_by_quarters-returns-in_err-answer-clause-needed : goal.slid_by_quarters-returns-in_err-answer-clause-needed
 slid_by_quarters-returns-in_err-answer-clause-needed g m c =
     on_err_any c.from_residual.result
     (quarters-part g m (goal.at.slid_by_quarters-returns-in_err-answer-clause-needed g m c).After-quarters-nine
-    (g.S.Squares.needs_node c.slid_of_nine.new.squares) c.in_err-answer.ensures.needed)
+    (g.T.Squares.needs_node c.slid_of_nine.new.to) c.in_err-answer.ensures.needed)
 
 pub slid_by_quarters-returns-in_err-answer-clause-adds : goal.slid_by_quarters-returns-in_err-answer-clause-adds
 slid_by_quarters-returns-in_err-answer-clause-adds g m c =
@@ -154,29 +231,25 @@ slid_of_nine-returns-clause-keeps g m c =
 
 -- the four answers are the quarters of the square
 parts : (g : Over) (m : ℕ) (c : slid_of_nine-After-join g m) (cells : ℤ → ℤ → ℕ) (x y : ℤ)
-    → AreNine (g.S.Squares.content c.args.squares.now) cells (2 ^ c.args.level) x y c.args.nine.now
-    → let now = g.S.Squares.content c.slid_of-4.new.squares in
+    → AreNine (g.S.Squares.content c.args.from.now) cells (2 ^ c.args.level) x y c.args.nine.now
+    → let now = g.T.Squares.content c.slid_of-4.new.to in
     AreParts cells c.args.level (ahead x (c.args.offset.columns % 2 ^ c.args.level)) (ahead y (c.args.offset.rows % 2 ^ c.args.level))
     (now c.in_ok-nw.nw) (now c.in_ok-ne.ne) (now c.in_ok-sw.sw) (now c.in_ok-se.se)
 parts g m c cells x y h =
     let k = c.args.level in
     let side = 2 ^ k in
-    let content = g.S.Squares.content in
+    let content = g.S.Squares.content c.args.from.now in
     let nw = c.in_ok-nw.ensures in
     let ne = c.in_ok-ne.ensures in
     let sw = c.in_ok-sw.ensures in
     let se = c.in_ok-se.ensures in
-    let north = keeps-then nw.keeps ne.keeps in
-    let h2 = AreNine-kept nw.keeps cells k side x y c.args.nine.now c.requires.known h in
-    let h3 = AreNine-kept north cells k side x y c.args.nine.now c.requires.known h in
-    let h4 = AreNine-kept (keeps-then north sw.keeps) cells k side x y c.args.nine.now c.requires.known h in
     let ex = swapped x side (c.args.offset.columns % 2 ^ k) in
     let ey = swapped y side (c.args.offset.rows % 2 ^ k) in
-    parts-of_pieces _ _ g.met.S.Squares.full refl _ _ ne.keeps sw.keeps se.keeps nw.at ne.at sw.at se.at
-    (nw.slid cells _ _ (block-western _ cells c.western.ensures h.first h.second))
-    (IsPiece-moved cells _ _ _ _ _ ex refl (ne.slid cells _ _ (block-eastern _ cells c.eastern.ensures h2.first h2.second)))
-    (IsPiece-moved cells _ _ _ _ _ refl ey (sw.slid cells _ _ (block-western _ cells c.western-2.ensures h3.second h3.third)))
-    (IsPiece-moved cells _ _ _ _ _ ex ey (se.slid cells _ _ (block-eastern _ cells c.eastern-2.ensures h4.second h4.third)))
+    parts-of_pieces _ _ g.met.T.Squares.full refl _ _ ne.keeps sw.keeps se.keeps nw.at ne.at sw.at se.at
+    (nw.slid cells _ _ (block-western content cells c.western.ensures h.first h.second))
+    (IsPiece-moved cells _ _ _ _ _ ex refl (ne.slid cells _ _ (block-eastern content cells c.eastern.ensures h.first h.second)))
+    (IsPiece-moved cells _ _ _ _ _ refl ey (sw.slid cells _ _ (block-western content cells c.western-2.ensures h.second h.third)))
+    (IsPiece-moved cells _ _ _ _ _ ex ey (se.slid cells _ _ (block-eastern content cells c.eastern-2.ensures h.second h.third)))
 
 pub slid_of_nine-returns-clause-slid : goal.slid_of_nine-returns-clause-slid
 slid_of_nine-returns-clause-slid g m c =
@@ -187,32 +260,30 @@ slid_of_nine-returns-clause-slid g m c =
 pub slid_of_nine-returns-in_err-nw-clause-needed : goal.slid_of_nine-returns-in_err-nw-clause-needed
 slid_of_nine-returns-in_err-nw-clause-needed g m c =
     on_err_any c.from_residual.result
-    (of_north_west (g.S.Squares.needs_node c.slid_of.new.squares) c.args.offset.columns c.args.offset.rows c.args.level (g.S.Squares.content c.args.squares.now)
+    (of_north_west (g.T.Squares.needs_node c.slid_of.new.to) (g.S.Squares.content c.args.from.now) c.args.offset.columns c.args.offset.rows c.args.level
     c.western.ensures c.in_err-nw.ensures.needed)
 
 pub slid_of_nine-returns-in_err-ne-clause-needed : goal.slid_of_nine-returns-in_err-ne-clause-needed
 slid_of_nine-returns-in_err-ne-clause-needed g m c =
     on_err_any c.from_residual-in_err-ne.result
-    (of_north_east (g.S.Squares.needs_node c.slid_of-2.new.squares) c.args.offset.columns c.args.offset.rows c.args.level c.in_ok-nw.ensures.keeps
-    c.requires.known
+    (of_north_east (g.T.Squares.needs_node c.slid_of-2.new.to) (g.S.Squares.content c.args.from.now) c.args.offset.columns c.args.offset.rows c.args.level
     c.eastern.ensures c.in_err-ne.ensures.needed)
 
 pub slid_of_nine-returns-in_err-sw-clause-needed : goal.slid_of_nine-returns-in_err-sw-clause-needed
 slid_of_nine-returns-in_err-sw-clause-needed g m c =
     on_err_any c.from_residual-in_err-sw.result
-    (of_south_west (g.S.Squares.needs_node c.slid_of-3.new.squares) c.args.offset.columns c.args.offset.rows c.args.level
-    (keeps-then c.in_ok-nw.ensures.keeps c.in_ok-ne.ensures.keeps) c.requires.known c.western-2.ensures c.in_err-sw.ensures.needed)
+    (of_south_west (g.T.Squares.needs_node c.slid_of-3.new.to) (g.S.Squares.content c.args.from.now) c.args.offset.columns c.args.offset.rows c.args.level
+    c.western-2.ensures c.in_err-sw.ensures.needed)
 
 pub slid_of_nine-returns-in_err-se-clause-needed : goal.slid_of_nine-returns-in_err-se-clause-needed
 slid_of_nine-returns-in_err-se-clause-needed g m c =
     on_err_any c.from_residual-in_err-se.result
-    (of_south_east (g.S.Squares.needs_node c.slid_of-4.new.squares) c.args.offset.columns c.args.offset.rows c.args.level
-    (keeps-then (keeps-then c.in_ok-nw.ensures.keeps c.in_ok-ne.ensures.keeps) c.in_ok-sw.ensures.keeps) c.requires.known c.eastern-2.ensures
-    c.in_err-se.ensures.needed)
+    (of_south_east (g.T.Squares.needs_node c.slid_of-4.new.to) (g.S.Squares.content c.args.from.now) c.args.offset.columns c.args.offset.rows c.args.level
+    c.eastern-2.ensures c.in_err-se.ensures.needed)
 
 pub slid_of_nine-returns-clause-needed : goal.slid_of_nine-returns-clause-needed
 slid_of_nine-returns-clause-needed g m c =
-    let N = g.S.Squares.needs_node in
+    let N = g.T.Squares.needs_node in
     on_err_both c.join.result
     (λ needs same cells x y h.
     own-part (N c.join.new.self) _ _ _ _ _ (joined-is (parts g m (goal.at.slid_of_nine-returns-clause-needed g m c).After-join cells x y h))
@@ -222,55 +293,45 @@ slid_of_nine-returns-clause-needed g m c =
 pub slid_of_nine-returns-in_err-nw-clause-adds : goal.slid_of_nine-returns-in_err-nw-clause-adds
 slid_of_nine-returns-in_err-nw-clause-adds g m c =
     adds-as _ c.in_err-nw.ensures.adds
-    (λ P. of_north_west P c.args.offset.columns c.args.offset.rows c.args.level (g.S.Squares.content c.args.squares.now) c.western.ensures)
+    (λ P. of_north_west P (g.S.Squares.content c.args.from.now) c.args.offset.columns c.args.offset.rows c.args.level c.western.ensures)
 
 pub slid_of_nine-returns-in_err-ne-clause-adds : goal.slid_of_nine-returns-in_err-ne-clause-adds
 slid_of_nine-returns-in_err-ne-clause-adds g m c =
-    let nw = c.in_ok-nw.ensures in
     adds-more
-    (adds-as _ nw.adds (λ P. of_north_west P c.args.offset.columns c.args.offset.rows c.args.level (g.S.Squares.content c.args.squares.now) c.western.ensures))
-    c.in_err-ne.ensures.adds (λ P. of_north_east P c.args.offset.columns c.args.offset.rows c.args.level nw.keeps c.requires.known c.eastern.ensures)
+    (adds-as _ c.in_ok-nw.ensures.adds
+    (λ P. of_north_west P (g.S.Squares.content c.args.from.now) c.args.offset.columns c.args.offset.rows c.args.level c.western.ensures))
+    c.in_err-ne.ensures.adds (λ P. of_north_east P (g.S.Squares.content c.args.from.now) c.args.offset.columns c.args.offset.rows c.args.level c.eastern.ensures)
 
 pub slid_of_nine-returns-in_err-sw-clause-adds : goal.slid_of_nine-returns-in_err-sw-clause-adds
 slid_of_nine-returns-in_err-sw-clause-adds g m c =
-    let nw = c.in_ok-nw.ensures in
-    let ne = c.in_ok-ne.ensures in
-    let north = keeps-then nw.keeps ne.keeps in
     adds-more
     (adds-more
-    (adds-as _ nw.adds (λ P. of_north_west P c.args.offset.columns c.args.offset.rows c.args.level (g.S.Squares.content c.args.squares.now) c.western.ensures))
-    ne.adds (λ P. of_north_east P c.args.offset.columns c.args.offset.rows c.args.level nw.keeps c.requires.known c.eastern.ensures))
-    c.in_err-sw.ensures.adds (λ P. of_south_west P c.args.offset.columns c.args.offset.rows c.args.level north c.requires.known c.western-2.ensures)
+    (adds-as _ c.in_ok-nw.ensures.adds
+    (λ P. of_north_west P (g.S.Squares.content c.args.from.now) c.args.offset.columns c.args.offset.rows c.args.level c.western.ensures))
+    c.in_ok-ne.ensures.adds (λ P. of_north_east P (g.S.Squares.content c.args.from.now) c.args.offset.columns c.args.offset.rows c.args.level c.eastern.ensures))
+    c.in_err-sw.ensures.adds (λ P. of_south_west P (g.S.Squares.content c.args.from.now) c.args.offset.columns c.args.offset.rows c.args.level c.western-2.ensures)
 
 pub slid_of_nine-returns-in_err-se-clause-adds : goal.slid_of_nine-returns-in_err-se-clause-adds
 slid_of_nine-returns-in_err-se-clause-adds g m c =
-    let nw = c.in_ok-nw.ensures in
-    let ne = c.in_ok-ne.ensures in
-    let sw = c.in_ok-sw.ensures in
-    let north = keeps-then nw.keeps ne.keeps in
     adds-more
     (adds-more
     (adds-more
-    (adds-as _ nw.adds (λ P. of_north_west P c.args.offset.columns c.args.offset.rows c.args.level (g.S.Squares.content c.args.squares.now) c.western.ensures))
-    ne.adds (λ P. of_north_east P c.args.offset.columns c.args.offset.rows c.args.level nw.keeps c.requires.known c.eastern.ensures))
-    sw.adds (λ P. of_south_west P c.args.offset.columns c.args.offset.rows c.args.level north c.requires.known c.western-2.ensures))
-    c.in_err-se.ensures.adds
-    (λ P. of_south_east P c.args.offset.columns c.args.offset.rows c.args.level (keeps-then north sw.keeps) c.requires.known c.eastern-2.ensures)
+    (adds-as _ c.in_ok-nw.ensures.adds
+    (λ P. of_north_west P (g.S.Squares.content c.args.from.now) c.args.offset.columns c.args.offset.rows c.args.level c.western.ensures))
+    c.in_ok-ne.ensures.adds (λ P. of_north_east P (g.S.Squares.content c.args.from.now) c.args.offset.columns c.args.offset.rows c.args.level c.eastern.ensures))
+    c.in_ok-sw.ensures.adds (λ P. of_south_west P (g.S.Squares.content c.args.from.now) c.args.offset.columns c.args.offset.rows c.args.level c.western-2.ensures))
+    c.in_err-se.ensures.adds (λ P. of_south_east P (g.S.Squares.content c.args.from.now) c.args.offset.columns c.args.offset.rows c.args.level c.eastern-2.ensures)
 
 pub slid_of_nine-returns-clause-adds : goal.slid_of_nine-returns-clause-adds
 slid_of_nine-returns-clause-adds g m c =
-    let nw = c.in_ok-nw.ensures in
-    let ne = c.in_ok-ne.ensures in
-    let sw = c.in_ok-sw.ensures in
-    let north = keeps-then nw.keeps ne.keeps in
     adds-more
     (adds-more
     (adds-more
     (adds-more
-    (adds-as _ nw.adds (λ P. of_north_west P c.args.offset.columns c.args.offset.rows c.args.level (g.S.Squares.content c.args.squares.now) c.western.ensures))
-    ne.adds (λ P. of_north_east P c.args.offset.columns c.args.offset.rows c.args.level nw.keeps c.requires.known c.eastern.ensures))
-    sw.adds (λ P. of_south_west P c.args.offset.columns c.args.offset.rows c.args.level north c.requires.known c.western-2.ensures))
-    c.in_ok-se.ensures.adds
-    (λ P. of_south_east P c.args.offset.columns c.args.offset.rows c.args.level (keeps-then north sw.keeps) c.requires.known c.eastern-2.ensures))
+    (adds-as _ c.in_ok-nw.ensures.adds
+    (λ P. of_north_west P (g.S.Squares.content c.args.from.now) c.args.offset.columns c.args.offset.rows c.args.level c.western.ensures))
+    c.in_ok-ne.ensures.adds (λ P. of_north_east P (g.S.Squares.content c.args.from.now) c.args.offset.columns c.args.offset.rows c.args.level c.eastern.ensures))
+    c.in_ok-sw.ensures.adds (λ P. of_south_west P (g.S.Squares.content c.args.from.now) c.args.offset.columns c.args.offset.rows c.args.level c.western-2.ensures))
+    c.in_ok-se.ensures.adds (λ P. of_south_east P (g.S.Squares.content c.args.from.now) c.args.offset.columns c.args.offset.rows c.args.level c.eastern-2.ensures))
     c.join.ensures.adds
     (λ P p cells x y h. own-part P _ _ _ _ _ (joined-is (parts g m (goal.at.slid_of_nine-returns-clause-adds g m c).After-join cells x y h)) p)
