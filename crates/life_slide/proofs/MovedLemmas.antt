@@ -130,7 +130,7 @@ pub trim-reach : (s : Tree) → IsFull s → (m : ℕ) → 1 ≤ m → (n : ℕ)
 trim-reach s full m positive n level x y some far =
     equal_by_plane r s (trimmed_is_fixed s m full positive).0 full (omega (arith, lower, higher, level)) keeps
   where
-    abbrev r : Tree
+    r : Tree
     r = trimmed s m
 
     keeps : (u v : ℤ) → tree_cell r u v ≡ tree_cell s u v
@@ -160,6 +160,21 @@ trim-reach s full m positive n level x y some far =
         above (inr l) = absurd (not-low l)
 
 -- ---- the least box at (0, 0)
+
+-- a square of level j is the quarter of one of the least level, or the box that begins there reaches into its farther half
+abbrev pub IsTight : Bounds → (j least : ℕ) → Type 0
+IsTight box j least =
+    (suc j ≡ least) ⊎ ((box.left +ℤ pos (2 ^ (j - 1))) ≤ℤ box.right) ⊎ ((box.top +ℤ pos (2 ^ (j - 1))) ≤ℤ box.bottom)
+
+-- the level of a square with a side up to twice as long as a number below the side of another one
+pub level-fits : (j k n : ℕ) → 2 ^ (j - 1) ≤ n → n < 2 ^ k → j ≤ k
+level-fits j k n low high = by (less-or-not k j)
+  where
+    by : (k < j) ⊎ (j ≤ k) → j ≤ k
+    by (inl l) =
+        let more : 2 ^ k ≤ 2 ^ (j - 1) = pow_mono {i = k} {j = j - 1} (omega (arith, l)) in
+        absurd (omega (arith, more, low, high))
+    by (inr l) = l
 
 module _ (t : Tree) (box : Bounds) (least : IsLeastBox t box) (high : 1 ≤ depth t) where
   abbrev g : ℤ → ℤ → ℕ
@@ -216,6 +231,21 @@ module _ (t : Tree) (box : Bounds) (least : IsLeastBox t box) (high : 1 ≤ dept
         south = omega (arith, ints, half, s);
       }
 
+  -- the box is shorter than the square
+  pub columns-inside : (n : ℕ) → box.left +ℤ pos n ≡ box.right → n < 2 ^ depth t
+  columns-inside n e =
+      let w = (cells_lie_inside t _ _ least.at_left.1).0 in
+      let l = (cells_lie_inside t _ _ least.at_right.1).1 in
+      let twice = side (depth t) high in
+      omega (arith, ints, e, w, l, twice)
+
+  pub rows-inside : (n : ℕ) → box.top +ℤ pos n ≡ box.bottom → n < 2 ^ depth t
+  rows-inside n e =
+      let w = (cells_lie_inside t _ _ least.at_top.1).2 in
+      let l = (cells_lie_inside t _ _ least.at_bottom.1).3 in
+      let twice = side (depth t) high in
+      omega (arith, ints, e, w, l, twice)
+
   -- what the code computes with is the number
   pub left-read : depth t ≤ 62 → to_z w64 (of_z w64 box.left) ≡ box.left
   left-read low = let p = on-plane low in let a = p.west in let b = p.columns in let c = p.east in omega (arith, ints, a, b, c)
@@ -230,7 +260,7 @@ module _ (t : Tree) (box : Bounds) (least : IsLeastBox t box) (high : 1 ≤ dept
   bottom-read low = let p = on-plane low in let a = p.north in let b = p.rows in let c = p.south in omega (arith, ints, a, b, c)
 
   -- a square of this level has a side as long as the box
-  module _ (j : ℕ) (wide : box.right <ℤ box.left +ℤ pos (2 ^ j)) (tall : box.bottom <ℤ box.top +ℤ pos (2 ^ j)) where
+  module _ (j : ℕ) (wide : box.right <ℤ (box.left +ℤ pos (2 ^ j))) (tall : box.bottom <ℤ (box.top +ℤ pos (2 ^ j))) where
     abbrev c : ℤ
     c = neg_ℤ (pos (2 ^ j))
 
@@ -334,44 +364,38 @@ module _ (t : Tree) (box : Bounds) (least : IsLeastBox t box) (high : 1 ≤ dept
           let ey : (y +ℤ neg_ℤ box.top) +ℤ box.top ≡ y = omega (arith, ints) in
           some (sym (λ i. tree_cell t (ex i) (ey i)) ∙ sym (centre-cells g below j outside-zero _ _) ∙ e)
 
-      -- it has the least level, or the box reaches into the farther half of its quarter
-      abbrev pub IsTight : Type 0
-      IsTight = (suc j ≡ m) ⊎ (box.left +ℤ pos (2 ^ (j - 1)) ≤ℤ box.right) ⊎ (box.top +ℤ pos (2 ^ (j - 1)) ≤ℤ box.bottom)
-
-      root-still : IsTight → trimmed root m ≡ root
+      root-still : IsTight box j m → trimmed root m ≡ root
       root-still (inl e) = (trimming_stops root m full-root positive).1 (omega (arith, deep-root, e))
       root-still (inr (inl l)) =
           trim-reach root full-root m positive j deep-root _ _ (moved-cell _ _ least.at_right.1) (inl (omega (arith, ints, l)))
       root-still (inr (inr l)) =
           trim-reach root full-root m positive j deep-root _ _ (moved-cell _ _ least.at_bottom.1) (inr (omega (arith, ints, l)))
 
-      root-is : IsTight → root ≡ root_from t box.left box.top m
+      root-is : IsTight box j m → root ≡ root_from t box.left box.top m
       root-is tight = sym (root-still tight) ∙ root-trimmed
 
-      pub joined-root : IsTight → (inner : Tree) → IsFull inner → depth inner ≡ j → IsPiece (tree_cell t) box.left box.top inner
+      pub joined-root : IsTight box j m → (inner : Tree) → IsFull inner → depth inner ≡ j → IsPiece (tree_cell t) box.left box.top inner
           → quad (blank j) (blank j) (blank j) inner ≡ root_from t box.left box.top m
       joined-root tight inner whole level piece = quarter-is inner whole level piece ∙ root-is tight
 
       -- the root itself, and a part of the square that begins at the box
-      pub own-root : IsTight → (P : Tree → Type 0) (inner : Tree) → IsFull inner → depth inner ≡ j → IsPiece (tree_cell t) box.left box.top inner
+      pub own-root : IsTight box j m → (P : Tree → Type 0) (inner : Tree) → IsFull inner → depth inner ≡ j → IsPiece (tree_cell t) box.left box.top inner
           → P (quad (blank j) (blank j) (blank j) inner) → SomePart P (root_from t box.left box.top m)
       own-root tight P inner whole level piece p =
           subst (SomePart P) (root-is tight) (own-part P g j c c _ (quarter-is inner whole level piece) p)
 
-      pub inner-part : IsTight → (P : Tree → Type 0) → SomePart P (square_from (tree_cell t) j box.left box.top) → SomePart P (root_from t box.left box.top m)
+      pub inner-part : IsTight box j m → (P : Tree → Type 0) → SomePart P (square_from (tree_cell t) j box.left box.top) → SomePart P (root_from t box.left box.top m)
       inner-part tight P s =
           subst (SomePart P) (root-is tight) (quarter-part P g j c c (inr (inr (inr (subst (SomePart P) inner-square s)))))
 
 -- the square of the plane that begins at another place
-pub plane-is : (t r : Tree) (a b x0 y0 : ℤ) → depth t ≡ 62 → IsFull r → depth r ≡ depth t
-    → x0 ≡ neg_ℤ (pos (2 ^ 61)) +ℤ neg_ℤ a → y0 ≡ neg_ℤ (pos (2 ^ 61)) +ℤ neg_ℤ b → IsPiece (tree_cell t) x0 y0 r
-    → r ≡ plane_from t (neg_ℤ a) (neg_ℤ b)
-plane-is t r a b x0 y0 whole full level ex ey piece =
+pub plane-is : (t r : Tree) (a b x0 y0 : ℤ) → IsFull r → depth r ≡ 62 → x0 ≡ neg_ℤ (pos (2 ^ 61)) +ℤ neg_ℤ a → y0 ≡ neg_ℤ (pos (2 ^ 61)) +ℤ neg_ℤ b
+    → IsPiece (tree_cell t) x0 y0 r → r ≡ plane_from t (neg_ℤ a) (neg_ℤ b)
+plane-is t r a b x0 y0 full level ex ey piece =
     let c = neg_ℤ (pos (2 ^ 61)) in
-    piece-is (cells_from t (neg_ℤ a) (neg_ℤ b)) 62 c c r full (level ∙ whole)
+    piece-is (cells_from t (neg_ℤ a) (neg_ℤ b)) 62 c c r full level
     (piece-from (tree_cell t) (neg_ℤ a) (neg_ℤ b) r c c (IsPiece-moved (tree_cell t) _ _ _ _ r ex ey piece))
 
-pub plane-square : (t : Tree) (a b x0 y0 : ℤ) → depth t ≡ 62 → x0 ≡ neg_ℤ (pos (2 ^ 61)) +ℤ neg_ℤ a → y0 ≡ neg_ℤ (pos (2 ^ 61)) +ℤ neg_ℤ b
-    → square_from (tree_cell t) (depth t) x0 y0 ≡ plane_from t (neg_ℤ a) (neg_ℤ b)
-plane-square t a b x0 y0 whole ex ey =
-    (λ i. square_from (tree_cell t) (whole i) (ex i) (ey i)) ∙ square-from (tree_cell t) (neg_ℤ a) (neg_ℤ b) 62 _ _
+pub plane-square : (t : Tree) (a b x0 y0 : ℤ) → x0 ≡ neg_ℤ (pos (2 ^ 61)) +ℤ neg_ℤ a → y0 ≡ neg_ℤ (pos (2 ^ 61)) +ℤ neg_ℤ b
+    → square_from (tree_cell t) 62 x0 y0 ≡ plane_from t (neg_ℤ a) (neg_ℤ b)
+plane-square t a b x0 y0 ex ey = (λ i. square_from (tree_cell t) 62 (ex i) (ey i)) ∙ square-from (tree_cell t) (neg_ℤ a) (neg_ℤ b) 62 _ _

@@ -25,6 +25,16 @@ fn level_of_side(last: u64, level: u8) -> u8
     level_of_side(last, level + 1)
 }
 
+// How far the second of two coordinates is from the first.
+fn distance(low: i64, high: i64) -> u64
+    requires order { low ≤ℤ high }
+    requires near { high <ℤ (low +ℤ pos (2 ^ 61)) }
+    ensures distance { low +ℤ pos result ≡ high }
+    ensures near { result < 2 ^ 61 }
+{
+    (high - low) as u64
+}
+
 // The greater of two numbers.
 fn greater(a: u64, b: u64) -> u64
     ensures first { a ≤ result }
@@ -64,8 +74,8 @@ pub fn moved_to_middle<S: SharedSquares, T: Squares>(
     ensures adds { AddsOnly T.stored (λ P. SomePart P
         (root_from (S.content from.now id) found.now.left found.now.top least)) to.old to.new }
 {
-    let columns = (found.right - found.left) as u64;
-    let rows = (found.bottom - found.top) as u64;
+    let columns = distance(found.left, found.right);
+    let rows = distance(found.top, found.bottom);
     let level = level_of_side(greater(columns, rows), least - 1);
     let quarter = square_at(alloc, from, to, id, level, found.left, found.top)?;
     let blank = to.empty(level);

@@ -14,8 +14,7 @@ pub returns-clause-square : goal.returns-clause-square
 returns-clause-square g c =
     let t = g.S.Squares.content c.args.from.now c.args.id in
     both c.square_at.result
-    (λ r at piece. plane-is t _ c.args.columns c.args.rows _ _ c.requires.whole (g.met.T.Squares.full _ _ at.known) at.level (omega (arith, ints))
-    (omega (arith, ints)) piece)
+    (λ r at piece. plane-is t _ c.args.columns c.args.rows _ _ (g.met.T.Squares.full _ _ at.known) at.level (omega (arith, ints)) (omega (arith, ints)) piece)
     c.square_at.ensures.at c.square_at.ensures.square
 
 pub returns-clause-needed : goal.returns-clause-needed
@@ -23,11 +22,11 @@ returns-clause-needed g c =
     let t = g.S.Squares.content c.args.from.now c.args.id in
     on_err_map c.square_at.result
     (subst (SomePart (g.T.Squares.needs_node c.square_at.new.to))
-    (plane-square t c.args.columns c.args.rows _ _ c.requires.whole (omega (arith, ints)) (omega (arith, ints))))
+    (plane-square t c.args.columns c.args.rows _ _ (omega (arith, ints)) (omega (arith, ints))))
     c.square_at.ensures.needed
 
 pub returns-clause-adds : goal.returns-clause-adds
 returns-clause-adds g c =
     let t = g.S.Squares.content c.args.from.now c.args.id in
     adds-as _ c.square_at.ensures.adds
-    (λ P. subst (SomePart P) (plane-square t c.args.columns c.args.rows _ _ c.requires.whole (omega (arith, ints)) (omega (arith, ints))))
+    (λ P. subst (SomePart P) (plane-square t c.args.columns c.args.rows _ _ (omega (arith, ints)) (omega (arith, ints))))

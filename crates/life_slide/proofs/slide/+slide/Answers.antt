@@ -15,7 +15,7 @@ use Rattle.life_slide.specs.Needed.{SomeOfBlock, SomeOfNine}
 use Rattle.life_slide.specs.Pieces.{AreNine, InBlock, IsBlock}
 use Rattle.life_slide.proofs.NeedLemmas.{nine-of, of_north_east, of_north_west, of_quarters, of_south_east, of_south_west, swapped}
 use Rattle.life_slide.proofs.SlideLemmas.{ahead-none, begins, block-eastern, block-western, recalled-at, recalled-slid, rest-less, Remembers-kept, Remembers-more, slid-blank}
-use Rattle.life_slide.proofs.SeenLemmas.{seen-block, seen_cells, seen-in, window-same}
+use Rattle.life_slide.proofs.SeenLemmas.{seen-block, seen_cells, window-same}
 use Rattle.life_slide.proofs.slide.+slide.Given.{Over}
 use Rattle.life_slide.proofs.slide.+slide.Goals as goal
 use Rattle.life_slide.proofs.slide.+slide.Goals.{slid_of-After-slid_of_seen, slid_of_seen-After-small, slid_by_quarters-After-quarters-nine, slid_by_quarters-After-remember, slid_of_nine-After-join}
@@ -25,13 +25,6 @@ both (Ok x) f p q = f x p q
 both (Err e) f p q = tt
 
 -- ---- without the squares that aren't seen
-
-pub slid_of-slid_of_seen-requires-clause-known : goal.slid_of-slid_of_seen-requires-clause-known
-slid_of-slid_of_seen-requires-clause-known g m c =
-    let s = c.seen-inside.ensures in
-    subst (InBlock (IsAt (g.S.Squares.knows c.args.from.now) (g.S.Squares.content c.args.from.now) c.args.level)) (sym s.4)
-    (seen-in s.0 s.1 c.args.block.now c.empty-blank.result c.requires.known
-    (record { known = c.empty-blank.ensures.known; level = c.empty-blank.ensures.level }))
 
 -- the four squares that are seen, on a plane without the others
 inside : (g : Over) (m : ℕ) (c : slid_of-After-slid_of_seen g m) (cells : ℤ → ℤ → ℕ) (x y : ℤ)
@@ -88,9 +81,12 @@ slid_of_seen-returns-then-are_all-clause-slid g m c cells x y h =
     let rows = c.args.offset.rows % 2 ^ k in
     let piece = slid-blank (g.S.Squares.content c.args.from.now) cells k x y columns rows c.empty.result
     c.args.block.now c.empty.ensures.square (rest-less _ k) (rest-less _ k) (c.are_all.ensures c.if-are_all.true) h in
-    subst (IsPiece cells (ahead x columns) (ahead y rows)) (c.empty.ensures.square ∙ sym c.empty-2.ensures.square) piece
+    subst (IsPiece cells (ahead x columns) (ahead y rows)) (c.empty.ensures.square ∙ sym c.empty-then-are_all.ensures.square) piece
 
 -- a single cell
+mod-one : (n : ℕ) → n % 1 ≡ 0
+mod-one n = omega arith
+
 level-none : (k : ℕ) (t : Tree) (s : ℕ) → depth t ≡ k → t ≡ point s → k ≡ 0
 level-none k t s level is = sym level ∙ ap depth is
 
@@ -110,43 +106,43 @@ slid_of_seen-returns-in-Some-clause-slid g m c cells x y h =
 -- the square whose cells are told is the one that begins there
 leaf-is : (g : Over) (m : ℕ) (c : slid_of_seen-After-small g m) (cells : ℤ → ℤ → ℕ) (x y : ℤ)
     → IsBlock (g.S.Squares.content c.args.from.now) cells (2 ^ c.args.level) x y c.args.block.now
-    → four c.in-Some-2.cells ≡ square_from cells c.args.level (ahead x (c.args.offset.columns % 2 ^ c.args.level))
+    → four c.in-Some-leaf_cells.cells ≡ square_from cells c.args.level (ahead x (c.args.offset.columns % 2 ^ c.args.level))
     (ahead y (c.args.offset.rows % 2 ^ c.args.level))
 leaf-is g m c cells x y h =
-    let e = c.in-Some-2.ensures.level in
+    let e = c.in-Some-leaf_cells.ensures.level in
     let content = g.S.Squares.content c.args.from.now in
-    let n = c.in-Some-2.cells in
+    let n = c.in-Some-leaf_cells.cells in
     let columns = c.args.offset.columns in
     let rows = c.args.offset.rows in
     subst (λ l. IsBlock content cells (2 ^ l) x y c.args.block.now → four n ≡ square_from cells l (ahead x (columns % 2 ^ l)) (ahead y (rows % 2 ^ l))) (sym e)
-    (λ p. square-is cells _ _ n c.in-Some-2.ensures.small (c.in-Some-2.ensures.cells cells x y p)) h
+    (λ p. square-is cells _ _ n c.in-Some-leaf_cells.ensures.small (c.in-Some-leaf_cells.ensures.cells cells x y p)) h
 
-pub slid_of_seen-returns-in-Some-2-clause-at : goal.slid_of_seen-returns-in-Some-2-clause-at
-slid_of_seen-returns-in-Some-2-clause-at g m c =
-    let e = c.in-Some-2.ensures.level in
+pub slid_of_seen-returns-in-Some-leaf_cells-clause-at : goal.slid_of_seen-returns-in-Some-leaf_cells-clause-at
+slid_of_seen-returns-in-Some-leaf_cells-clause-at g m c =
+    let e = c.in-Some-leaf_cells.ensures.level in
     both c.small.result (λ r known is. record { known = known; level = ap depth is ∙ sym e }) c.small.ensures.known c.small.ensures.square
 
-pub slid_of_seen-returns-in-Some-2-clause-remembers : goal.slid_of_seen-returns-in-Some-2-clause-remembers
-slid_of_seen-returns-in-Some-2-clause-remembers g m c =
+pub slid_of_seen-returns-in-Some-leaf_cells-clause-remembers : goal.slid_of_seen-returns-in-Some-leaf_cells-clause-remembers
+slid_of_seen-returns-in-Some-leaf_cells-clause-remembers g m c =
     IfOk-weaker c.small.result _ _ (λ r known. Remembers-kept c.small.ensures.keeps c.requires.remembers) c.small.ensures.known
 
-pub slid_of_seen-returns-in-Some-2-clause-slid : goal.slid_of_seen-returns-in-Some-2-clause-slid
-slid_of_seen-returns-in-Some-2-clause-slid g m c =
+pub slid_of_seen-returns-in-Some-leaf_cells-clause-slid : goal.slid_of_seen-returns-in-Some-leaf_cells-clause-slid
+slid_of_seen-returns-in-Some-leaf_cells-clause-slid g m c =
     IfOk-weaker c.small.result _ _
-    (λ r is cells x y h. is-piece cells c.args.level _ _ _ (is ∙ leaf-is g m (goal.at.slid_of_seen-returns-in-Some-2-clause-slid g m c).After-small cells x y h))
+    (λ r is cells x y h. is-piece cells c.args.level _ _ _ (is ∙ leaf-is g m (goal.at.slid_of_seen-returns-in-Some-leaf_cells-clause-slid g m c).After-small cells x y h))
     c.small.ensures.square
 
-pub slid_of_seen-returns-in-Some-2-clause-needed : goal.slid_of_seen-returns-in-Some-2-clause-needed
-slid_of_seen-returns-in-Some-2-clause-needed g m c =
+pub slid_of_seen-returns-in-Some-leaf_cells-clause-needed : goal.slid_of_seen-returns-in-Some-leaf_cells-clause-needed
+slid_of_seen-returns-in-Some-leaf_cells-clause-needed g m c =
     on_err_map c.small.result
     (λ needed cells x y h. subst (SomePart (g.T.Squares.needs_node c.small.new.self))
-    (leaf-is g m (goal.at.slid_of_seen-returns-in-Some-2-clause-needed g m c).After-small cells x y h) needed)
+    (leaf-is g m (goal.at.slid_of_seen-returns-in-Some-leaf_cells-clause-needed g m c).After-small cells x y h) needed)
     c.small.ensures.needed
 
-pub slid_of_seen-returns-in-Some-2-clause-adds : goal.slid_of_seen-returns-in-Some-2-clause-adds
-slid_of_seen-returns-in-Some-2-clause-adds g m c =
+pub slid_of_seen-returns-in-Some-leaf_cells-clause-adds : goal.slid_of_seen-returns-in-Some-leaf_cells-clause-adds
+slid_of_seen-returns-in-Some-leaf_cells-clause-adds g m c =
     adds-as _ c.small.ensures.adds
-    (λ P some cells x y h. subst (SomePart P) (leaf-is g m (goal.at.slid_of_seen-returns-in-Some-2-clause-adds g m c).After-small cells x y h) some)
+    (λ P some cells x y h. subst (SomePart P) (leaf-is g m (goal.at.slid_of_seen-returns-in-Some-leaf_cells-clause-adds g m c).After-small cells x y h) some)
 
 -- ---- by quarters
 
