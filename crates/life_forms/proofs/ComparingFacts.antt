@@ -13,18 +13,18 @@ use Rattle.life_quad.proofs.LawLemmas.{known_squares_are_full, equal_squares_hav
 use Rattle.life_canon.specs.Laws.{TextsTellUniverses}
 use Rattle.life_canon.specs.Listing.{canon_text}
 use Rattle.life_canon.specs.Store.{Keeps, IsTrimmed, content, universe_in}
-use Rattle.life_canon.specs.Universe.{Universe, IsSame, IsOnPlane, least_level, square_universe}
+use Rattle.life_canon.specs.Universe.{Universe, IsBlankOutside, IsSame, IsOnPlane, least_level, square_universe}
 use Rattle.life_canon.specs.declared.pattern.Pattern.{Pattern}
 use Rattle.life_forms.specs.Forms.{IsShift, IsMoved, IsTurnedShift}
 use Rattle.life_forms.specs.Images.{IsTurnedText}
 use Rattle.life_forms.proofs.LeastFacts.{turned-texts}
 use Rattle.life_forms.proofs.PatternFacts.{cell-up-to, least-one}
 use Rattle.life_forms.proofs.PlaneFacts.{outside-blank}
-use Rattle.life_forms.proofs.ShiftFacts.{forms-of-shifts, shift-of-forms}
+use Rattle.life_forms.proofs.ShiftFacts.{forms-of-shifts, shift-of-forms, shift-trans}
 
 -- ---- a store that keeps its squares
 
-pub stays-trimmed : (old new : Nodes) (p : Pattern) → Keeps old new → IsTrimmed old p → IsTrimmed new p
+stays-trimmed : (old new : Nodes) (p : Pattern) → Keeps old new → IsTrimmed old p → IsTrimmed new p
 stays-trimmed old new p keeps h =
     let m = least_level p.rule in
     let k = keeps.contents p.root h.known in
@@ -35,7 +35,7 @@ stays-trimmed old new p keeps h =
       states = subst (HasStatesUpTo (largest_state p.rule)) (sym k.1) h.states;
     }
 
-pub stays-same : (old new : Nodes) (p : Pattern) → Keeps old new → IsTrimmed old p → universe_in new p ≡ universe_in old p
+stays-same : (old new : Nodes) (p : Pattern) → Keeps old new → IsTrimmed old p → universe_in new p ≡ universe_in old p
 stays-same old new p keeps h = ap (square_universe p.rule p.generation) (keeps.contents p.root h.known).1
 
 -- ---- by their roots
@@ -60,22 +60,21 @@ roots-tell store x y h k = (
   λ same. (same.rule, same.generation, same-roots store x y h k same),
 )
 
-pub shifts-told : (old mid new : Nodes) (a b first second : Pattern) (answer : Bool) → Keeps old mid → Keeps mid new → IsTrimmed old a → IsTrimmed old b
-    → IsTrimmed mid first → IsMoved MAX_LEVEL (universe_in old a) (universe_in mid first)
-    → IsTrimmed new second → IsMoved MAX_LEVEL (universe_in mid b) (universe_in new second)
-    → (IsTrue answer ↔ HaveOneRoot first second) → IsTrue answer ↔ IsShift (universe_in old a) (universe_in old b)
-shifts-told old mid new a b first second answer k l h g one moved two also test =
-    let u = universe_in old a in
-    let v = universe_in old b in
+pub shifts-told : (u v : Universe) (mid new : Nodes) (first second : Pattern) (answer : Bool) → IsBlankOutside MAX_LEVEL u.cell → Keeps mid new
+    → IsTrimmed mid first → IsMoved MAX_LEVEL u (universe_in mid first) → IsTrimmed new second → IsMoved MAX_LEVEL v (universe_in new second)
+    → (IsTrue answer ↔ HaveOneRoot first second) → IsTrue answer ↔ IsShift u v
+shifts-told u v mid new first second answer outside l one moved two also test =
     let x = universe_in new first in
     let y = universe_in new second in
     let p = subst (λ (w : Universe). IsMoved MAX_LEVEL u w) (sym (stays-same mid new first l one)) moved in
-    let q = subst (λ (w : Universe). IsMoved MAX_LEVEL w y) (stays-same old mid b k g) also in
-    let roots = roots-tell new first second (stays-trimmed mid new first l one) two in
-    let outside = outside-blank (content old a.root) (known_squares_are_full old a.root h.known.0).1 in (
-      λ t. shift-of-forms MAX_LEVEL u v x y p q (roots.0 (test.0 t)),
-      λ s. test.1 (roots.1 (forms-of-shifts MAX_LEVEL u v x y outside p q s)),
+    let roots = roots-tell new first second (stays-trimmed mid new first l one) two in (
+      λ t. shift-of-forms MAX_LEVEL u v x y p also (roots.0 (test.0 t)),
+      λ s. test.1 (roots.1 (forms-of-shifts MAX_LEVEL u v x y outside p also s)),
     )
+
+-- what moves a moved form moves the pattern
+pub moved-again : (u v w : Universe) → IsMoved MAX_LEVEL u v → IsMoved MAX_LEVEL v w → IsMoved MAX_LEVEL u w
+moved-again u v w first second = record { shift = shift-trans u v w first.shift second.shift; form = second.form }
 
 -- ---- by their texts
 

@@ -2,7 +2,6 @@
 use Rattle.std.proofs.Common.{◌≡◌, ℕ, zero, suc, ◌+◌, ◌^◌, ◌≤◌, Bool, true, false, refl, sym, ap, ap₂, ◌∙◌, subst, ℤ, pos, neg_ℤ, ◌+ℤ◌, arith, if◌then◌else◌}
 use Rattle.std.proofs.lemmas.Int.{ints}
 use Rattle.life_base.specs.Tree.{Tree, point, quad, depth, tree_cell, IsFull}
-use Rattle.life_quad.specs.Cells.{population}
 use Rattle.life_canon.specs.Laws.{SquaresAreCentred, CentredSquaresTellCells}
 use Rattle.life_canon.specs.Universe.{square, centred, corner, IsBlankOutside}
 use Rattle.life_quad.specs.Turning.{differ, one_of_four, side_of, end_of, turned_tree}
@@ -111,30 +110,3 @@ turned-cells centre tell turn t image full also high level is =
     tell k (tree_cell image) (image_cells turn (tree_cell t)) (subst (λ (n : ℕ). IsBlankOutside n (tree_cell image)) level there.1)
     (image-outside k high turn (tree_cell t) here.1)
     (ap (centred (tree_cell image)) (sym level) ∙ there.0 ∙ is ∙ ap (turned_tree turn) (sym here.0) ∙ turned-centred turn (tree_cell t) k high)
-
--- ---- how many cells have a state
-
-four-cells : (e c r : Bool) (nw ne sw se : Tree)
-    → population (one_of_four (side_of (turn_of e c r) false false) (end_of (turn_of e c r) false false) nw ne sw se)
-    + population (one_of_four (side_of (turn_of e c r) true false) (end_of (turn_of e c r) true false) nw ne sw se)
-    + population (one_of_four (side_of (turn_of e c r) false true) (end_of (turn_of e c r) false true) nw ne sw se)
-    + population (one_of_four (side_of (turn_of e c r) true true) (end_of (turn_of e c r) true true) nw ne sw se)
-    ≡ population nw + population ne + population sw + population se
-four-cells false false false nw ne sw se = refl
-four-cells false true false nw ne sw se = omega arith
-four-cells true true false nw ne sw se = omega arith
-four-cells true true true nw ne sw se = omega arith
-four-cells false true true nw ne sw se = omega arith
-four-cells false false true nw ne sw se = omega arith
-four-cells true false true nw ne sw se = omega arith
-four-cells true false false nw ne sw se = omega arith
-
-pub population-turned : (turn : Turn) (t : Tree) → population (turned_tree turn t) ≡ population t
-population-turned turn (point s) = refl
-population-turned turn (quad nw ne sw se) =
-    let a = population-turned turn nw in
-    let b = population-turned turn ne in
-    let c = population-turned turn sw in
-    let d = population-turned turn se in
-    let all = four-cells turn.exchange turn.columns turn.rows (turned_tree turn nw) (turned_tree turn ne) (turned_tree turn sw) (turned_tree turn se) in
-    all ∙ (λ i. a i + b i + c i + d i)

@@ -1,5 +1,6 @@
 pub mod TurnFacts
 pub mod ShiftFacts
+pub mod SizeFacts
 pub mod LeastFacts
 pub mod FileLaws
 mod Rows

@@ -1,33 +1,33 @@
 -- The plane of the moved cells of a square, and its root.
-use Rattle.std.proofs.Common.{◌≡◌, ℕ, zero, suc, ◌+◌, ◌^◌, ◌<◌, ◌≤◌, true, inr, refl, sym, ◌∙◌, ap, subst, ℤ, pos, neg_ℤ, ◌+ℤ◌, arith, pow_mono}
+use Rattle.std.proofs.Common.{◌≡◌, ◌≢◌, ◌⊎◌, ℕ, zero, suc, ◌+◌, ◌^◌, ◌<◌, ◌≤◌, true, inl, inr, refl, sym, ◌∙◌, ap, subst, ℤ, pos, neg_ℤ, ◌+ℤ◌, ◌≤ℤ◌, ◌<ℤ◌, arith, pow_mono}
 use Rattle.std.proofs.lemmas.Int.{ints}
-use Rattle.life_base.specs.Tree.{Tree, depth, tree_cell, half_side, is_blank_tree, IsFull}
+use Rattle.life_base.specs.Tree.{Tree, depth, blank, tree_cell, half_side, is_blank_tree, IsFull}
 use Rattle.life_base.specs.declared.bounds.Bounds.{Bounds}
 use Rattle.life_base.specs.declared.cell.TheConstants.{MAX_LEVEL}
 use Rattle.life_base.specs.declared.rule.Rule.{Rule}
 use Rattle.life_mc.specs.Macrocell.{largest_state}
+use Rattle.life_base.proofs.Squares.{depth-blank, full-blank, is_blank-blank}
 use Rattle.life_quad.specs.Cells as square
 use Rattle.life_quad.specs.Moves.{trimmed}
-use Rattle.life_quad.specs.Refused.{TrimmedTo}
+use Rattle.life_quad.specs.Refused.{SomePart}
 use Rattle.life_quad.specs.Store.{Nodes}
 use Rattle.life_quad.specs.declared.id.Id.{Id}
-use Rattle.life_quad.proofs.LawLemmas.{cells_lie_inside, trimmed_by_cells}
+use Rattle.life_quad.proofs.LawLemmas.{cells_lie_inside, trimmed_by_cells, trimming_stops}
 use Rattle.life_block.specs.Needed.{square_from}
 use Rattle.life_block.proofs.NeedLemmas.{depth-square, quads}
 use Rattle.life_canon.specs.Laws.{SquaresAreCentred}
 use Rattle.life_canon.specs.Store.{IsKnown, IsTrimmed, content}
-use Rattle.life_canon.specs.Universe.{Universe, IsSame, IsBlankOutside, centred, corner, least_level, square_universe}
+use Rattle.life_canon.specs.Universe.{Universe, IsSame, IsBlankOutside, centred, corner, least_level, square_universe, whole}
 use Rattle.life_canon.specs.Universe as canon
-use Rattle.life_slide.specs.Needed.{SomeOfPlane}
-use Rattle.life_slide.specs.Pieces.{cells_from, plane_from}
-use Rattle.life_slide.proofs.MovedLemmas.{cell-below, centre-cells, full-square}
+use Rattle.life_slide.specs.Pieces.{cells_from, plane_from, root_from}
+use Rattle.life_slide.proofs.MovedLemmas.{cell-below, centre-cells, full-square, trim-reach}
 use Rattle.life_slide.proofs.PlaneLemmas.{side}
 use Rattle.life_forms.specs.Cells.{IsWay}
-use Rattle.life_forms.specs.Forms.{IsMoved, at_zero}
-use Rattle.life_forms.specs.Needed.{IsMovedRoot, SomeOfMoved}
+use Rattle.life_forms.specs.Forms.{IsInPlace, IsMoved, at_edge, at_zero}
+use Rattle.life_forms.specs.Needed.{IsMovedRoot, SomeOfMovedForm, SomeOfMovedRoot}
 use Rattle.life_forms.proofs.PatternFacts.{plane-moved, plane-trimmed, shift-up-to}
-use Rattle.life_forms.proofs.PlaneFacts.{blank-cell, form-outside, high-end, moved-same, outside-blank, way-moved, way-of-box}
-use Rattle.life_forms.proofs.ShiftFacts.{same-refl, shifted, still}
+use Rattle.life_forms.proofs.PlaneFacts.{blank-cell, box-of-square, form-outside, high-end, moved-same, outside-blank, way-moved, way-of-box}
+use Rattle.life_forms.proofs.ShiftFacts.{forms-of-shifts, same-refl, shifted, still}
 
 -- ---- the square of the whole plane
 
@@ -67,25 +67,19 @@ module _ (f : ℤ → ℤ → ℕ) (below : (x y : ℤ) → f x y < 256) where
 
 -- a square is trimmed as that of the whole plane with its cells
 module _ (t : Tree) (full : IsFull t) (low : depth t ≤ MAX_LEVEL) (m : ℕ) (positive : 1 ≤ m) (high : m ≤ depth t) where
-  abbrev whole : Tree
-  whole = centred (tree_cell t) MAX_LEVEL
+  abbrev plane-of : Tree
+  plane-of = centred (tree_cell t) MAX_LEVEL
 
   below : (x y : ℤ) → tree_cell t x y < 256
   below = cell-below t full
 
-  deep : depth whole ≡ 62
+  deep : depth plane-of ≡ 62
   deep = depth-centred (tree_cell t) below
 
   pub trimmed-whole : trimmed t m ≡ trimmed (centred (tree_cell t) MAX_LEVEL) m
   trimmed-whole =
-      (trimmed_by_cells t whole m full (full-centred (tree_cell t) below) positive high (omega (arith, deep, low, high))).1
+      (trimmed_by_cells t plane-of m full (full-centred (tree_cell t) below) positive high (omega (arith, deep, low, high))).1
       (λ x y. sym (cells-centred (tree_cell t) below (outside-blank t low) x y))
-
-  pub needed-whole : (P : Tree → Type 0) → TrimmedTo P t m → TrimmedTo P (centred (tree_cell t) MAX_LEVEL) m
-  needed-whole P h =
-      let less = h.smaller in
-      let levels : depth (trimmed t m) ≡ depth (trimmed whole m) = ap depth trimmed-whole in
-      record { smaller = omega (arith, deep, low, less, levels); has = subst P trimmed-whole h.has }
 
 -- ---- the forms
 
@@ -98,43 +92,36 @@ blank-moved t e rule generation =
 
 module _ (t : Tree) (none : is_blank_tree t ≡ true) (full : IsFull t) (low : depth t ≤ MAX_LEVEL) (m : ℕ) (positive : 1 ≤ m) (high : m ≤ depth t) (rule : Rule)
     (generation : ℕ) where
-  pub blank-root : (root : Tree) → root ≡ trimmed t m → IsMovedRoot (square_universe rule generation t) m root
-  blank-root root is = record {
-    form = square_universe rule generation t;
-    moved = blank-moved t none rule generation;
-    square = is ∙ trimmed-whole t full low m positive high;
-  }
-
-  pub blank-needed : (P : Tree → Type 0) → TrimmedTo P t m → SomeOfMoved P (square_universe rule generation t) m
-  blank-needed P h = (square_universe rule generation t, blank-moved t none rule generation, inr (needed-whole t full low m positive high P h))
+  -- the blank square of the least level is the root
+  pub blank-root : (root : Tree) → root ≡ blank m → IsMovedRoot (square_universe rule generation t) m root
+  blank-root root is =
+      let deep : depth (blank m) ≡ m = depth-blank m in
+      let still = (trimming_stops (blank m) m (full-blank m) positive).1 (omega (arith, deep)) in
+      let same = (trimmed_by_cells (blank m) t m (full-blank m) full positive (omega (arith, deep)) high).1
+      (λ x y. blank-cell (blank m) (is_blank-blank m) x y ∙ sym (blank-cell t none x y)) in
+      record {
+        form = square_universe rule generation t;
+        moved = blank-moved t none rule generation;
+        square = is ∙ sym still ∙ same ∙ trimmed-whole t full low m positive high;
+      }
 
 back : (z : ℤ) → neg_ℤ (neg_ℤ z) ≡ z
 back z = omega (arith, ints)
 
--- a square below the plane's level
-module _ (t : Tree) (box : Bounds) (least : square.IsLeastBox t box) (high : 1 ≤ depth t) (low : depth t < MAX_LEVEL) (rule : Rule) (generation : ℕ) where
+-- a box that fits into a quarter of the plane
+module _ (t : Tree) (box : Bounds) (least : square.IsLeastBox t box) (columns : box.right <ℤ (box.left +ℤ pos (2 ^ 61)))
+    (rows : box.bottom <ℤ (box.top +ℤ pos (2 ^ 61))) (rule : Rule) (generation : ℕ) where
   abbrev u : Universe
   u = square_universe rule generation t
 
   abbrev form : Universe
   form = record { rule = rule; generation = generation; cell = cells_from t box.left box.top }
 
-  half : half_side t + half_side t ≤ 2 ^ 61
-  half =
-      let twice = side (depth t) high in
-      let less : 2 ^ depth t ≤ 2 ^ 61 = pow_mono {i = depth t} {j = 61} (omega (arith, low)) in
-      omega (arith, twice, less)
-
   way : IsWay (tree_cell t) (neg_ℤ box.left) (neg_ℤ box.top)
   way =
-      let w = half in
       let e = high-end in
-      let left = (cells_lie_inside t _ _ least.at_left.1).0 in
-      let right = (cells_lie_inside t _ _ least.at_right.1).1 in
-      let top = (cells_lie_inside t _ _ least.at_top.1).2 in
-      let bottom = (cells_lie_inside t _ _ least.at_bottom.1).3 in
-      way-of-box t box _ _ least (at_zero (omega (arith, ints)) (omega (arith, ints, w, e, left, right)))
-      (at_zero (omega (arith, ints)) (omega (arith, ints, w, e, top, bottom)))
+      way-of-box t box _ _ least (at_zero (omega (arith, ints)) (omega (arith, ints, e, columns)))
+      (at_zero (omega (arith, ints)) (omega (arith, ints, e, rows)))
 
   form-moved : IsMoved MAX_LEVEL u form
   form-moved =
@@ -143,22 +130,85 @@ module _ (t : Tree) (box : Bounds) (least : square.IsLeastBox t box) (high : 1 �
       moved-same MAX_LEVEL u (shifted u (neg_ℤ box.left) (neg_ℤ box.top)) form (way-moved u _ _ way)
       (record { rule = refl; generation = refl; cells = λ x y i. tree_cell t (x +ℤ ex i) (y +ℤ ey i) })
 
-  pub middle-root : (m : ℕ) (root : Tree) → root ≡ trimmed (plane_from t box.left box.top) m → IsMovedRoot u m root
+  pub middle-root : (m : ℕ) (root : Tree) → root ≡ root_from t box.left box.top m → IsMovedRoot u m root
   middle-root m root is = record { form = form; moved = form-moved; square = is ∙ ap (λ p. trimmed p m) (centred-is _) }
 
-  pub middle-needed : (P : Tree → Type 0) (m : ℕ) → SomeOfPlane P (plane_from t box.left box.top) m → SomeOfMoved P u m
-  middle-needed P m h = (form, form-moved, subst (λ p. SomeOfPlane P p m) (centred-is _) h)
+  pub middle-needed : (P : Tree → Type 0) (m : ℕ) → SomePart P (root_from t box.left box.top m) → SomeOfMovedRoot P u m
+  middle-needed P m h = (form, form-moved, subst (λ p. SomePart P (trimmed p m)) (centred-is _) h)
 
--- a square of the whole plane
-module _ (t : Tree) (a b : ℤ) (way : IsWay (tree_cell t) a b) (rule : Rule) (generation : ℕ) where
-  abbrev v : Universe
-  v = square_universe rule generation t
+-- a side that doesn't fit into half of the plane ends far from its middle
+far-end : (low high : ℤ) → IsInPlace MAX_LEVEL low high → (low +ℤ pos (2 ^ 61)) ≤ℤ high → pos (2 ^ 60) ≤ℤ high
+far-end low high (at_zero first less) long = let e = high-end in absurd (omega (arith, ints, e, first, less, long))
+far-end low high (at_edge before end) long = let e = high-end in omega (arith, ints, e, end)
 
-  pub plane-root : (m : ℕ) (root : Tree) → root ≡ trimmed (plane_from t (neg_ℤ a) (neg_ℤ b)) m → IsMovedRoot v m root
-  plane-root m root is = record { form = shifted v a b; moved = way-moved v a b way; square = is ∙ ap (λ p. trimmed p m) (centred-is _) }
+less-or-not : (a b : ℕ) → (a < b) ⊎ (b ≤ a)
+less-or-not a b = grind arith
 
-  pub plane-needed : (P : Tree → Type 0) (m : ℕ) → SomeOfPlane P (plane_from t (neg_ℤ a) (neg_ℤ b)) m → SomeOfMoved P v m
-  plane-needed P m h = (shifted v a b, way-moved v a b way, subst (λ p. SomeOfPlane P p m) (centred-is _) h)
+-- a box that doesn't
+module _ (t : Tree) (box : Bounds) (least : square.IsLeastBox t box)
+    (long : ((box.left +ℤ pos (2 ^ 61)) ≤ℤ box.right) ⊎ ((box.top +ℤ pos (2 ^ 61)) ≤ℤ box.bottom)) (full : IsFull t) (low : depth t ≤ MAX_LEVEL) where
+  wide-level : (n : ℕ) → n ≤ 62 → 2 ^ 61 < 2 ^ n → n ≡ 62
+  wide-level n le more = by (less-or-not n 62)
+    where
+      by : (n < 62) ⊎ (62 ≤ n) → n ≡ 62
+      by (inl l) = let short : 2 ^ n ≤ 2 ^ 61 = pow_mono {i = n} {j = 61} (omega (arith, l)) in absurd (omega (arith, short, more))
+      by (inr l) = omega (arith, le, l)
+
+  beyond : 1 ≤ depth t → ((box.left +ℤ pos (2 ^ 61)) ≤ℤ box.right) ⊎ ((box.top +ℤ pos (2 ^ 61)) ≤ℤ box.bottom) → 2 ^ 61 < 2 ^ depth t
+  beyond high (inl l) =
+      let w = (cells_lie_inside t _ _ least.at_left.1).0 in
+      let e = (cells_lie_inside t _ _ least.at_right.1).1 in
+      let twice = side (depth t) high in
+      omega (arith, ints, l, w, e, twice)
+  beyond high (inr l) =
+      let w = (cells_lie_inside t _ _ least.at_top.1).2 in
+      let e = (cells_lie_inside t _ _ least.at_bottom.1).3 in
+      let twice = side (depth t) high in
+      omega (arith, ints, l, w, e, twice)
+
+  -- the square is that of the whole plane
+  pub is-whole : 1 ≤ depth t → depth t ≡ MAX_LEVEL
+  is-whole high = wide-level (depth t) low (beyond high long)
+
+  module _ (a b : ℤ) (way : IsWay (tree_cell t) a b) (rule : Rule) (generation : ℕ) (m : ℕ) (positive : 1 ≤ m) where
+    abbrev v : Universe
+    v = square_universe rule generation t
+
+    abbrev placed : Universe
+    placed = shifted v a b
+
+    placed-moved : IsMoved MAX_LEVEL v placed
+    placed-moved = way-moved v a b way
+
+    placed-states : (x y : ℤ) → placed.cell x y < 256
+    placed-states x y = cell-below t full _ _
+
+    abbrev plane : Tree
+    plane = centred placed.cell MAX_LEVEL
+
+    -- a cell in its place
+    there : (x y : ℤ) → tree_cell t x y ≢ 0 → tree_cell plane (x +ℤ a) (y +ℤ b) ≢ 0
+    there x y some e =
+        let cells = cells-centred placed.cell placed-states (form-outside t rule generation placed low placed-moved) (x +ℤ a) (y +ℤ b) in
+        let ex : (x +ℤ a) +ℤ neg_ℤ a ≡ x = omega (arith, ints) in
+        let ey : (y +ℤ b) +ℤ neg_ℤ b ≡ y = omega (arith, ints) in
+        some (sym (λ i. tree_cell t (ex i) (ey i)) ∙ sym cells ∙ e)
+
+    plane-still : ((box.left +ℤ pos (2 ^ 61)) ≤ℤ box.right) ⊎ ((box.top +ℤ pos (2 ^ 61)) ≤ℤ box.bottom) → trimmed plane m ≡ plane
+    plane-still (inl l) =
+        let place = (way box (box-of-square t box least)).0 in
+        trim-reach plane (full-centred placed.cell placed-states) m positive 61 (depth-centred placed.cell placed-states) _ _ (there _ _ least.at_right.1)
+        (inl (far-end _ _ place (omega (arith, ints, l))))
+    plane-still (inr l) =
+        let place = (way box (box-of-square t box least)).1 in
+        trim-reach plane (full-centred placed.cell placed-states) m positive 61 (depth-centred placed.cell placed-states) _ _ (there _ _ least.at_bottom.1)
+        (inr (far-end _ _ place (omega (arith, ints, l))))
+
+    pub plane-root : (root : Tree) → root ≡ plane_from t (neg_ℤ a) (neg_ℤ b) → IsMovedRoot v m root
+    plane-root root is = record { form = placed; moved = placed-moved; square = is ∙ centred-is _ ∙ sym (plane-still long) }
+
+    pub plane-needed : (P : Tree → Type 0) → SomePart P (plane_from t (neg_ℤ a) (neg_ℤ b)) → SomeOfMovedRoot P v m
+    plane-needed P h = (placed, placed-moved, subst (SomePart P) (centred-is _ ∙ sym (plane-still long)) h)
 
 -- ---- the root is that of a pattern
 
@@ -193,3 +243,24 @@ module _ (t : Tree) (full : IsFull t) (low : depth t ≤ MAX_LEVEL) (rule : Rule
   root-trimmed centre known upto =
       plane-trimmed centre store rule generation root (centred w.cell MAX_LEVEL) known is.square (full-centred w.cell states) (depth-centred w.cell states)
       (shift-up-to (largest_state rule) (square_universe rule generation t) _ (moved-same MAX_LEVEL _ w _ is.moved plane-same).shift upto)
+
+-- ---- one root
+
+-- patterns that are the same are one
+one-universe : (v w : Universe) → IsSame v w → v ≡ w
+one-universe v w same = λ i. record { rule = same.rule i; generation = same.generation i; cell = λ x y. same.cells x y i }
+
+-- each moved form of a square has the root that is found
+pub root-of-form : (t : Tree) → depth t ≤ MAX_LEVEL → (rule : Rule) (generation : ℕ) (root : Tree)
+    → IsMovedRoot (square_universe rule generation t) (least_level rule) root → (v : Universe) → IsMoved MAX_LEVEL (square_universe rule generation t) v
+    → root ≡ whole MAX_LEVEL v
+unfolding whole
+root-of-form t low rule generation root is v moved =
+    let u = square_universe rule generation t in
+    let same = one-universe is.form v (forms-of-shifts MAX_LEVEL u u is.form v (outside-blank t low) is.moved moved (still u u (same-refl u))) in
+    is.square ∙ (λ i. trimmed (centred (same i).cell MAX_LEVEL) (least_level rule)) ∙ ap (λ r. trimmed (centred v.cell MAX_LEVEL) (least_level r)) moved.shift.rule
+
+pub form-of-root : (P : Tree → Type 0) (u : Universe) → SomeOfMovedRoot P u (least_level u.rule) → SomeOfMovedForm P u
+unfolding whole
+form-of-root P u (v, moved, some) =
+    (v, moved, subst (λ r. SomePart P (trimmed (centred v.cell MAX_LEVEL) (least_level r))) moved.shift.rule some)

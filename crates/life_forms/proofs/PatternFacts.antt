@@ -7,19 +7,17 @@ use Rattle.life_base.specs.declared.rule.Rule.{Rule}
 use Rattle.life_base.specs.declared.rule.Rule.TheVariants.{Life, Named}
 use Rattle.life_mc.specs.Macrocell.{largest_state}
 use Rattle.life_mc.specs.Squares.{HasStatesUpTo}
-use Rattle.life_quad.specs.Cells.{population}
 use Rattle.life_quad.specs.Moves.{trimmed}
 use Rattle.life_quad.specs.Store.{Nodes}
 use Rattle.life_quad.specs.declared.id.Id.{Id}
-use Rattle.life_quad.proofs.LawLemmas.{trimming_keeps_cells, trimmed_is_fixed, trimming_stops, cells_are_listed, list_is_population}
+use Rattle.life_quad.proofs.LawLemmas.{trimming_keeps_cells, trimmed_is_fixed, trimming_stops}
 use Rattle.life_canon.specs.Laws.{SquaresAreCentred}
 use Rattle.life_canon.specs.Store.{IsKnown, IsTrimmed, content}
 use Rattle.life_canon.specs.Universe.{Universe, IsSame, square, centred, corner, least_level, square_universe}
 pub use Rattle.life_canon.proofs.Fits.{least-one, root-high}
 use Rattle.life_forms.specs.Forms.{IsShift, IsMoved}
-use Rattle.life_forms.specs.Needed.{HasFewCells}
 use Rattle.life_forms.proofs.ShiftFacts.{same-sym, still, shift-trans, there-and-back}
-use Rattle.life_forms.proofs.PlaneFacts.{are-cells, moved-same}
+use Rattle.life_forms.proofs.PlaneFacts.{moved-same}
 
 -- ---- states
 
@@ -109,11 +107,3 @@ plane-moved store rule generation root t u is full moved =
 -- what moves a pattern moves each that is the same
 pub same-moved : (top : ℕ) (u v w : Universe) → IsSame u v → IsMoved top u w → IsMoved top v w
 same-moved top u v w same moved = record { shift = shift-trans v u w (still v u (same-sym u v same)) moved.shift; form = moved.form }
-
--- ---- few cells
-
--- the list of a square's cells is as long as they are many
-pub few-cells : (t : Tree) → IsFull t → 1 ≤ depth t → population t ≤ 2 ^ 20 → HasFewCells (tree_cell t)
-few-cells t full high few =
-    let list = cells_are_listed t full high in
-    (list.0, are-cells t list.0 list.1, subst (λ (n : ℕ). n ≤ 2 ^ 20) (sym (list_is_population t list.0 full high list.1)) few)

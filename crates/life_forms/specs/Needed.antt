@@ -1,22 +1,20 @@
--- Which squares a call needs that moves cells: all that it stores are such, and where the store is full it lacks one.
-use Rattle.std.specs.Prelude.{◌≡◌, ℕ, ◌^◌, ◌<◌, ◌≤◌, ◌⊎◌, ℤ, List, length}
+-- Which squares a moved form has, and when it has too many.
+use Rattle.std.specs.Prelude.{◌≡◌, ◌≢◌, ℕ, ◌^◌, ◌<◌, min, false, List, length, All, AllPairs}
 use Rattle.life_base.specs.Refusal.{OrMemory, fault_of}
-use Rattle.life_base.specs.Tree.{Tree}
-use Rattle.life_base.specs.declared.cell.Cell.{Cell}
+use Rattle.life_base.specs.Tree.{Tree, is_blank_tree}
 use Rattle.life_base.specs.declared.cell.TheConstants.{MAX_LEVEL}
 use Rattle.life_base.specs.declared.fault.Fault.{Fault}
-use Rattle.life_base.specs.declared.kind.Kind.TheVariants.{TooManyCells}
-use Rattle.life_quad.specs.Cells.{population}
+use Rattle.life_base.specs.declared.kind.Kind.TheVariants.{Full}
 use Rattle.life_quad.specs.Keeping.{AddsOnly}
 use Rattle.life_quad.specs.Moves.{trimmed}
-use Rattle.life_quad.specs.Refused.{SomePart, TrimmedTo}
+use Rattle.life_quad.specs.Refused.{SomePart}
 use Rattle.life_quad.specs.Store.{Nodes, held}
 use Rattle.life_canon.specs.Needs.{IsNew}
-use Rattle.life_canon.specs.Store.{content}
-use Rattle.life_canon.specs.Texts.{AreCellsOf}
-use Rattle.life_canon.specs.Universe.{Universe, least_level, centred}
+use Rattle.life_canon.specs.Store.{universe_in}
+use Rattle.life_canon.specs.Universe.{Universe, centred, whole}
 use Rattle.life_canon.specs.declared.pattern.Pattern.{Pattern}
 use Rattle.life_forms.specs.Forms.{IsMoved}
+use Rattle.life_forms.specs.Turns.{Turn, image}
 
 -- the root of a pattern that is moved into its place: the square of the whole plane of the moved form, trimmed down to this least level at most
 pub record IsMovedRoot (u : Universe) (least : ℕ) (root : Tree) : Type 0 where
@@ -24,40 +22,39 @@ pub record IsMovedRoot (u : Universe) (least : ℕ) (root : Tree) : Type 0 where
   pub moved : IsMoved MAX_LEVEL u form
   pub square : root ≡ trimmed (centred form.cell MAX_LEVEL) least
 
--- a part of that square of the whole plane, or the root, has a property
-abbrev pub SomeOfMoved : (Tree → Type 0) → Universe → ℕ → Type 0
-SomeOfMoved P u least =
-    (v : Universe) × IsMoved MAX_LEVEL u v × (SomePart P (centred v.cell MAX_LEVEL) ⊎ TrimmedTo P (centred v.cell MAX_LEVEL) least)
+-- that root, or a part of it, has a property
+abbrev pub SomeOfMovedRoot : (Tree → Type 0) → Universe → ℕ → Type 0
+SomeOfMovedRoot P u least = (v : Universe) × IsMoved MAX_LEVEL u v × SomePart P (trimmed (centred v.cell MAX_LEVEL) least)
 
--- at most 2^20 cells aren't 0
-abbrev pub HasFewCells : (ℤ → ℤ → ℕ) → Type 0
-HasFewCells cell = (cells : List Cell) × AreCellsOf cell cells × (length cells ≤ 2 ^ 20)
-
--- so it is with the cells of a pattern in a store
-abbrev pub IsFew : Nodes → Pattern → Type 0
-IsFew store pattern = population (content store pattern.root) ≤ 2 ^ 20
-
--- a pattern in a store has more cells than can be moved or turned
-abbrev pub IsMany : Nodes → Pattern → Type 0
-IsMany store pattern = 2 ^ 20 < population (content store pattern.root)
-
--- memory was refused, or the pattern has too many cells
-abbrev pub RefusesTurning : Nodes → Pattern → Fault → Type 0
-RefusesTurning store pattern fault = OrMemory fault ((fault ≡ fault_of TooManyCells) × IsMany store pattern)
-
--- A square that is needed to move a pattern has a property: the pattern has few enough cells, and it is a part of the square of the whole plane of the
--- moved form, or the square to which that one is trimmed.
+-- the root of the moved form of a pattern, or a part of it, has a property
 abbrev pub SomeOfMovedForm : (Tree → Type 0) → Universe → Type 0
-SomeOfMovedForm P u = HasFewCells u.cell × SomeOfMoved P u (least_level u.rule)
+SomeOfMovedForm P u = (v : Universe) × IsMoved MAX_LEVEL u v × SomePart P (whole MAX_LEVEL v)
 
--- the store lacks such a square
+-- a store lacks such a square
 abbrev pub LacksForMoved : Universe → Nodes → Type 0
 LacksForMoved u store = SomeOfMovedForm (IsNew store) u
 
--- a call stores no square but such as are needed to move the pattern
+-- a call stores no square but such ones
 abbrev pub AddsMoved : Universe → Nodes → Nodes → Type 0
 AddsMoved u old new = AddsOnly held (λ P. SomeOfMovedForm P u) old new
 
--- a call stores no square but such as are needed to move one of two patterns
-abbrev pub AddsEitherMoved : Universe → Universe → Nodes → Nodes → Type 0
-AddsEitherMoved u v old new = AddsOnly held (λ P. SomeOfMovedForm P u ⊎ SomeOfMovedForm P v) old new
+-- More different squares are needed than this, and none of them is blank. `Needs` says of a property that a square which is needed has it.
+abbrev pub NeedsMore : ((Tree → Type 0) → Type 0) → ℕ → Type 0
+NeedsMore Needs most =
+    (squares : List Tree) × AllPairs ◌≢◌ squares × All (λ t. (is_blank_tree t ≡ false) × Needs (λ u. u ≡ t)) squares × (most < length squares)
+
+-- the root of the moved form of a pattern and its parts are more different squares than this, without blank ones
+abbrev pub HasLargerForm : ℕ → Universe → Type 0
+HasLargerForm most u = NeedsMore (λ P. SomeOfMovedForm P u) most
+
+-- they are more than 2^21, or than the store of the pattern may hold
+abbrev pub HasLargeForm : Nodes → Pattern → Type 0
+HasLargeForm store pattern = HasLargerForm (min (2 ^ 21) store.limit) (universe_in store pattern)
+
+-- so it is with one of the eight images of the pattern
+abbrev pub HasLargeImage : Nodes → Pattern → Type 0
+HasLargeImage store pattern = (turn : Turn) × HasLargerForm (min (2 ^ 21) store.limit) (image turn (universe_in store pattern))
+
+-- why there is no turned form: memory was refused, or an image has too large a form
+abbrev pub RefusesTurning : Nodes → Pattern → Fault → Type 0
+RefusesTurning store pattern fault = OrMemory fault ((fault ≡ fault_of Full) × HasLargeImage store pattern)

@@ -3,19 +3,18 @@ pub use Rattle.life_base.specs.Refusal.{IsMemory, OrMemory, fault_of}
 pub use Rattle.life_base.specs.Rules.{IsRule}
 pub use Rattle.life_base.specs.Tree.{depth, tree_cell}
 pub use Rattle.life_base.specs.declared.cell.TheConstants.{MAX_LEVEL}
-pub use Rattle.life_base.specs.declared.kind.Kind.TheVariants.{Full, TooManyCells, Memory}
+pub use Rattle.life_base.specs.declared.kind.Kind.TheVariants.{Full, Memory}
 pub use Rattle.life_base.specs.declared.rule.Rule.{Rule}
-pub use Rattle.life_canon.specs.Store.{IsTrimmed, IsWant, universe_in, IsKnown, content}
+pub use Rattle.life_canon.specs.Store.{IsTrimmed, universe_in, IsKnown, content}
 pub use Rattle.life_canon.specs.Texts.{IsOrdered}
 pub use Rattle.life_canon.specs.Universe.{Universe, square_universe, least_level}
 pub use Rattle.life_forms.specs.Forms.{IsShift, IsTurnedShift, IsMoved, IsUpTo, IsInPlace}
 pub use Rattle.life_forms.specs.Images.{IsImageText, IsTurnedText, numbered}
-pub use Rattle.life_forms.specs.Laws.{TurnsAreEight, TurnsAreClosed, TurnsHaveInverses, ImagesStayOnPlane, ImagesKeepShifts, MovedFormsExist, MovedFormsAreOnPlane, MovedFormsTellShifts, MovedFormsAreFixed, MovedTextsTellShifts, MovedTextsTellFiles, TurnedTextsTellFiles, MovedTextsAreFiles, TurnedTextsAreFiles, FilesHaveForms, ForFaithfulTexts, TurnedFormsExist, TurnedFormsAreOnPlane, TurnedTextsTellTurns, TurnedFormsAreFixed}
-pub use Rattle.life_forms.specs.Needed.{IsFew, IsMany, AddsMoved, AddsEitherMoved, IsMovedRoot, LacksForMoved, RefusesTurning, SomeOfMoved}
+pub use Rattle.life_forms.specs.Laws.{TurnsAreEight, TurnsAreClosed, TurnsHaveInverses, ImagesStayOnPlane, ImagesKeepShifts, ShiftsHaveOneSize, TurnsHaveOneSize, MovedFormsExist, MovedFormsAreOnPlane, MovedFormsTellShifts, MovedFormsAreFixed, MovedTextsTellShifts, MovedTextsTellFiles, TurnedTextsTellFiles, MovedTextsAreFiles, TurnedTextsAreFiles, FilesHaveForms, ForFaithfulTexts, TurnedFormsExist, TurnedFormsAreOnPlane, TurnedTextsTellTurns, TurnedFormsAreFixed}
+pub use Rattle.life_forms.specs.Needed.{AddsMoved, HasLargeForm, HasLargeImage, HasLargerForm, IsMovedRoot, LacksForMoved, RefusesTurning, SomeOfMovedForm, SomeOfMovedRoot}
 pub use Rattle.life_forms.specs.Turns.{image}
 pub use Rattle.life_mc.specs.Macrocell.{largest_state}
-pub use Rattle.life_quad.specs.Cells.{IsLeastBox as IsSquareBox, population}
-pub use Rattle.life_quad.specs.Grows.{IsWantOf}
+pub use Rattle.life_quad.specs.Cells.{IsLeastBox as IsSquareBox}
 pub use Rattle.life_quad.specs.Keeping.{IsWantKind}
 pub use Rattle.life_quad.specs.Store.{held}
 pub use Rattle.life_slide.specs.Pieces.{IsNear}

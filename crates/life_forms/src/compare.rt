@@ -1,15 +1,14 @@
 //! Two patterns, compared in a form.
 
-ghost use Rattle.std.specs.Prelude.{◌≡◌, ◌↔◌, ◌⊎◌, Err, IfOk, IfErr, OnOk, IsTrue};
-ghost use Rattle.life_forms.specs.Words.{OrMemory, fault_of, IsRule, Full, TooManyCells, IsTrimmed, IsWant, universe_in, IsShift, IsTurnedShift, IsFew, IsMany, AddsEitherMoved, LacksForMoved};
-ghost use Rattle.life_canon.specs.Store.{Keeps};
+ghost use Rattle.std.specs.Prelude.{◌≡◌, ◌↔◌, ◌⊎◌, IfOk, IfErr, OnOk, IsTrue};
+ghost use Rattle.life_forms.specs.Words.{OrMemory, fault_of, IsRule, Full, IsTrimmed, universe_in, IsShift, IsTurnedShift, HasLargeForm, HasLargeImage};
 
-use crate::images::turned_text;
-use crate::patterns::moved_of;
+use crate::images::{WITHOUT_LIMIT, turned_text};
+use crate::patterns::{brought, moved_of};
 use life_base::Fault;
 use life_canon::laws::texts_tell_universes;
 use life_canon::{Pattern, are_same};
-use life_quad::Shared;
+use life_quad::{Shared, SharedSquares};
 use std::alloc::Global;
 
 /// Whether two patterns of one store have one rule and one generation, and a shift takes the cells of the one to those of the other: whether
@@ -18,28 +17,21 @@ use std::alloc::Global;
 /// # Errors
 ///
 /// Those of `moved_of`, for the first pattern and then for the second.
-pub fn are_shifts(
-    alloc: Global,
-    store: &mut Shared,
-    a: &Pattern,
-    b: &Pattern,
-) -> Result<bool, Fault>
-    requires a { IsTrimmed store.old a.now }
-    requires b { IsTrimmed store.old b.now }
-    ensures answer { IfOk result (λ answer. IsTrue answer ↔ IsShift (universe_in store.old a.now)
-        (universe_in store.old b.now)) }
-    ensures few { OnOk result (IsFew store.old a.now × IsFew store.old b.now) }
-    ensures fault { IfErr result (λ fault. ((fault ≡ fault_of TooManyCells)
-        × (IsMany store.old a.now ⊎ IsMany store.old b.now)) ⊎ IsWant store.new fault) }
-    ensures needed { result ≡ Err (fault_of Full)
-        → LacksForMoved (universe_in store.old a.now) store.new
-        ⊎ LacksForMoved (universe_in store.old b.now) store.new }
-    ensures adds { AddsEitherMoved (universe_in store.old a.now) (universe_in store.old b.now)
-        store.old store.new }
-    ensures keeps { Keeps store.old store.new }
+pub fn are_shifts(alloc: Global, store: &Shared, a: &Pattern, b: &Pattern) -> Result<bool, Fault>
+    requires a { IsTrimmed store.now a.now }
+    requires b { IsTrimmed store.now b.now }
+    ensures answer { IfOk result (λ answer. IsTrue answer ↔ IsShift (universe_in store.now a.now)
+        (universe_in store.now b.now)) }
+    ensures small { OnOk result
+        (¬ HasLargeForm store.now a.now × ¬ HasLargeForm store.now b.now) }
+    ensures fault { IfErr result (λ fault. OrMemory fault ((fault ≡ fault_of Full)
+        × (HasLargeForm store.now a.now ⊎ HasLargeForm store.now b.now))) }
 {
-    let first = moved_of(alloc, store, a)?;
-    let second = moved_of(alloc, store, b)?;
+    let (one, first) = moved_of(alloc, store, a)?;
+    let (other, second) = moved_of(alloc, store, b)?;
+    let mut both = Shared::seeded(alloc, store.seed(), WITHOUT_LIMIT);
+    let first = brought(alloc, &one, &mut both, first)?;
+    let second = brought(alloc, &other, &mut both, second)?;
     Ok(are_same(&first, &second))
 }
 
@@ -56,7 +48,7 @@ fn are_equal(first: &[u8], second: &[u8]) -> bool
 /// # Errors
 ///
 /// Those of `turned_text`, for the first pattern and then for the second, if their generations are one. Patterns of two generations are never refused
-/// for their cells.
+/// for their forms.
 pub fn are_turns(alloc: Global, store: &Shared, a: &Pattern, b: &Pattern) -> Result<bool, Fault>
     requires a { IsTrimmed store.now a.now }
     requires b { IsTrimmed store.now b.now }
@@ -64,11 +56,9 @@ pub fn are_turns(alloc: Global, store: &Shared, a: &Pattern, b: &Pattern) -> Res
     requires b_rule { IsRule b.now.rule }
     ensures answer { IfOk result (λ answer. IsTrue answer ↔ IsTurnedShift
         (universe_in store.now a.now) (universe_in store.now b.now)) }
-    ensures few { OnOk result (a.now.generation ≡ b.now.generation
-        → IsFew store.now a.now × IsFew store.now b.now) }
-    ensures fault { IfErr result (λ fault. OrMemory fault
-        ((fault ≡ fault_of TooManyCells) × (a.now.generation ≡ b.now.generation)
-        × (IsMany store.now a.now ⊎ IsMany store.now b.now))) }
+    ensures fault { IfErr result (λ fault. OrMemory fault ((fault ≡ fault_of Full)
+        × (a.now.generation ≡ b.now.generation)
+        × (HasLargeImage store.now a.now ⊎ HasLargeImage store.now b.now))) }
 {
     if a.generation != b.generation {
         return Ok(false);

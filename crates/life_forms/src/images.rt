@@ -1,17 +1,17 @@
 //! Texts of a pattern's images.
 
-ghost use Rattle.std.specs.Prelude.{◌≡◌, ◌≢◌, ◌⊎◌, IfOk, IfErr, OnOk};
-ghost use Rattle.life_forms.specs.Words.{MAX_LEVEL, Memory, TooManyCells, IsWantKind, IsTrimmed, universe_in, held, IsMoved, IsUpTo, IsImageText, IsTurnedText, numbered, IsFew, IsMany, RefusesTurning, image};
+ghost use Rattle.std.specs.Prelude.{◌≡◌, ◌⊎◌, ◌^◌, ◌≤◌, IfOk, IfErr, OnOk};
+ghost use Rattle.life_forms.specs.Words.{MAX_LEVEL, Full, OrMemory, fault_of, IsTrimmed, universe_in, IsMoved, IsUpTo, IsImageText, IsTurnedText, numbered, HasLargerForm, RefusesTurning, image};
 
-use crate::patterns::moved_pattern;
-use life_base::{Fault, Kind};
+use crate::patterns::{form_of, most_squares, without_limit};
+use life_base::Fault;
 use life_canon::laws::{centred_squares_tell_cells, squares_are_centred};
-use life_canon::{MOST_CELLS, Pattern, text_of};
-use life_quad::{Shared, SharedSquares, Turn, population, turned};
+use life_canon::{Pattern, text_of};
+use life_quad::{Shared, SharedSquares, Turn, turned};
 use std::alloc::Global;
 
-/// A store of an image is bounded by memory alone.
-const MOST_SQUARES: u64 = 1 << 62;
+/// A store of an image that isn't moved yet is bounded by memory alone.
+pub(crate) const WITHOUT_LIMIT: u64 = 1 << 62;
 
 /// The turn with this number.
 fn numbered(number: u8) -> Turn
@@ -34,41 +34,35 @@ fn numbered(number: u8) -> Turn
     }
 }
 
-/// Where a store that is bounded by memory alone is full, memory was refused.
-fn without_limit(kind: Kind) -> Kind
-    ensures kind { (result ≡ kind) ⊎ (result ≡ Memory) }
-    ensures room { result ≢ Kind.Full }
-{
-    match kind {
-        Kind::Full => Kind::Memory,
-        other => other,
-    }
-}
-
-/// The image of a pattern, moved, in another store.
+/// The image of a pattern, moved, in a store of its own, which holds this many squares at most.
 fn moved_image(
     alloc: Global,
-    squares: &mut Shared,
     store: &Shared,
+    most: u64,
     pattern: &Pattern,
     turn: Turn,
-) -> Result<Pattern, Kind>
-    requires { IsTrimmed store.now pattern.now }
-    ensures trimmed { IfOk result (IsTrimmed squares.new) }
-    ensures moved { IfOk result (λ moved. IsMoved MAX_LEVEL
-        (image turn (universe_in store.now pattern.now)) (universe_in squares.new moved)) }
-    ensures many { IfErr result (λ kind. kind ≡ TooManyCells → IsMany store.now pattern.now) }
-    ensures refusals { IfErr result
-        (λ kind. (kind ≡ TooManyCells) ⊎ IsWantKind (held squares.new) squares.new.limit kind) }
+) -> Result<(Shared, Pattern), Fault>
+    requires most { most ≤ 2 ^ 62 }
+    requires trimmed { IsTrimmed store.now pattern.now }
+    ensures trimmed { IfOk result (λ form. IsTrimmed form.0 form.1) }
+    ensures moved { IfOk result (λ form. IsMoved MAX_LEVEL
+        (image turn (universe_in store.now pattern.now)) (universe_in form.0 form.1)) }
+    ensures small { OnOk result
+        (¬ HasLargerForm most (image turn (universe_in store.now pattern.now))) }
+    ensures fault { IfErr result (λ fault. OrMemory fault ((fault ≡ fault_of Full)
+        × HasLargerForm most (image turn (universe_in store.now pattern.now)))) }
 {
     squares_are_centred();
     centred_squares_tell_cells();
     let rule = pattern.rule.copy(alloc)?;
-    let square = turned(alloc, store, squares, turn, pattern.root)?;
-    moved_pattern(alloc, squares, rule, pattern.generation, square)
+    let mut squares = Shared::seeded(alloc, store.seed(), WITHOUT_LIMIT);
+    match turned(alloc, store, &mut squares, turn, pattern.root) {
+        Ok(square) => form_of(alloc, &squares, most, rule, pattern.generation, square),
+        Err(kind) => Err(Fault::of(without_limit(kind))),
+    }
 }
 
-/// The canonical text of an image of a pattern, moved, which is made in a store of its own.
+/// The canonical text of an image of a pattern, moved.
 fn image_text(
     alloc: Global,
     store: &Shared,
@@ -80,11 +74,8 @@ fn image_text(
         (λ text. IsImageText MAX_LEVEL (universe_in store.now pattern.now) turn text.items) }
     ensures fault { IfErr result (RefusesTurning store.now pattern.now) }
 {
-    let mut squares = Shared::seeded(alloc, store.seed(), MOST_SQUARES);
-    match moved_image(alloc, &mut squares, store, pattern, turn) {
-        Ok(moved) => text_of(alloc, &squares, &moved),
-        Err(kind) => Err(Fault::of(without_limit(kind))),
-    }
+    let (form, moved) = moved_image(alloc, store, most_squares(store), pattern, turn)?;
+    text_of(alloc, &form, &moved)
 }
 
 /// The first of two texts, unless the second is less, byte by byte.
@@ -106,18 +97,14 @@ fn lesser(first: Vec<u8>, second: Vec<u8>) -> Vec<u8>
 ///
 /// # Errors
 ///
-/// `TooManyCells` where more than 2^20 cells aren't 0, and only there, and `Memory`, at no line. The store and its limit have no part in
-/// it: each image is made in a store of its own.
+/// `Full` where the moved form of one of the eight has more different squares than `MOST_SQUARES`, or than the pattern's store may hold, and `Memory`,
+/// at no line. A turn followed by a shift takes the eight forms to the same eight, so `Full` is returned for all of them or for none.
 pub fn turned_text(alloc: Global, store: &Shared, pattern: &Pattern) -> Result<Vec<u8>, Fault>
     requires { IsTrimmed store.now pattern.now }
     ensures text { IfOk result
         (λ text. IsTurnedText MAX_LEVEL (universe_in store.now pattern.now) text.items) }
-    ensures few { OnOk result (IsFew store.now pattern.now) }
     ensures fault { IfErr result (RefusesTurning store.now pattern.now) }
 {
-    if population(alloc, store, pattern.root)? > u128::from(MOST_CELLS) {
-        return Err(Fault::of(Kind::TooManyCells));
-    }
     let mut best = image_text(alloc, store, pattern, numbered(0))?;
     for number in 1..8u8 {
         let text = image_text(alloc, store, pattern, numbered(number))?;

@@ -10,4 +10,4 @@ mod patterns;
 pub use compare::{are_shifts, are_turns};
 pub use images::turned_text;
 pub use life_quad::Turn;
-pub use patterns::moved_of;
+pub use patterns::{MOST_SQUARES, moved_of};

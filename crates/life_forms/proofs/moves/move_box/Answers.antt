@@ -1,48 +1,44 @@
-use Rattle.std.proofs.Common.{◌≡◌, ℕ, ◌<◌, ◌≤◌, inl, inr, to_z, of_z, w64, ap, ◌∙◌, subst, arith}
+use Rattle.std.proofs.Common.{◌≡◌, ◌⊎◌, ℕ, ◌≤◌, true, false, to_z, of_z, w64, ◌∙◌, sym, subst, arith}
 use Rattle.std.proofs.lemmas.Result.{IfOk-weaker}
 use Rattle.life_base.specs.Tree.{tree_cell}
-use Rattle.life_base.specs.declared.cell.TheConstants.{MAX_LEVEL}
-use Rattle.life_quad.specs.Moves.{trimmed}
-use Rattle.life_quad.specs.Refused.{TrimmedTo}
-use Rattle.life_quad.proofs.KeepingLemmas.{keeps-then, adds-as, adds-then}
+use Rattle.life_quad.proofs.GrowsLemmas.{grows-as, only-grows}
 use Rattle.life_forms.specs.Cells.{IsWay}
-use Rattle.life_forms.proofs.MovedFacts.{middle-needed, middle-root, plane-needed, plane-root}
+use Rattle.life_forms.proofs.MovedFacts.{is-whole, middle-needed, middle-root, plane-needed, plane-root}
 use Rattle.life_forms.proofs.PlaneFacts.{columns-ordered, rows-ordered, ordered-read, place-read, way-of-box}
-use Rattle.life_forms.proofs.RefusalFacts.{of-err}
 use Rattle.life_forms.proofs.moves.move_box.Given.{Over}
 use Rattle.life_forms.proofs.moves.move_box.Goals as goal
 use Rattle.life_forms.proofs.moves.move_box.Goals.{After-side_way-rows}
 
-low-of : (n k : ℕ) → n ≡ k → n < MAX_LEVEL → k < MAX_LEVEL
-low-of n k e l = omega (arith, e, l)
-
-whole-of : (n k : ℕ) → n ≡ k → MAX_LEVEL ≤ n → k ≤ MAX_LEVEL → k ≡ MAX_LEVEL
-whole-of n k e l low = omega (arith, e, l, low)
-
 high-of : (m k : ℕ) → 1 ≤ m → m ≤ k → 1 ≤ k
 high-of m k p h = omega (arith, p, h)
 
-pub returns-then-level-lt-MAX_LEVEL-clause-moved : goal.returns-then-level-lt-MAX_LEVEL-clause-moved
-returns-then-level-lt-MAX_LEVEL-clause-moved g c =
-    let t = g.S.Squares.content c.args.squares.now c.args.root in
-    let low = low-of _ _ c.level.ensures.level c.if-level-lt-MAX_LEVEL.true in
+pub fits_quarter-requires-clause-columns : goal.fits_quarter-requires-clause-columns
+fits_quarter-requires-clause-columns g c = columns-ordered _ c.args.found.now (g.met.S.Squares.low _ _ c.requires.known) c.requires.bounds
+
+pub fits_quarter-requires-clause-rows : goal.fits_quarter-requires-clause-rows
+fits_quarter-requires-clause-rows g c = rows-ordered _ c.args.found.now (g.met.S.Squares.low _ _ c.requires.known) c.requires.bounds
+
+pub moved_to_middle-requires-clause-columns : goal.moved_to_middle-requires-clause-columns
+moved_to_middle-requires-clause-columns g c = (c.fits_quarter.ensures.short c.if-fits_quarter.true).0
+
+pub moved_to_middle-requires-clause-rows : goal.moved_to_middle-requires-clause-rows
+moved_to_middle-requires-clause-rows g c = (c.fits_quarter.ensures.short c.if-fits_quarter.true).1
+
+pub returns-then-fits_quarter-clause-moved : goal.returns-then-fits_quarter-clause-moved
+returns-then-fits_quarter-clause-moved g c =
+    let t = g.S.Squares.content c.args.from.now c.args.root in
+    let short = c.fits_quarter.ensures.short c.if-fits_quarter.true in
     IfOk-weaker c.moved_to_middle.result _ _
-    (λ id h rule generation. middle-root t c.args.found.now c.requires.bounds (high-of _ _ c.requires.positive c.requires.high) low rule generation _ _ h)
+    (λ id h rule generation. middle-root t c.args.found.now c.requires.bounds short.0 short.1 rule generation _ _ h)
     c.moved_to_middle.ensures.square
 
-pub returns-then-level-lt-MAX_LEVEL-clause-needed : goal.returns-then-level-lt-MAX_LEVEL-clause-needed
-returns-then-level-lt-MAX_LEVEL-clause-needed g c full rule generation =
-    let t = g.S.Squares.content c.args.squares.now c.args.root in
-    let low = low-of _ _ c.level.ensures.level c.if-level-lt-MAX_LEVEL.true in
-    middle-needed t c.args.found.now c.requires.bounds (high-of _ _ c.requires.positive c.requires.high) low rule generation _ _
-    (of-err c.moved_to_middle.result full c.moved_to_middle.ensures.needed)
-
-pub returns-then-level-lt-MAX_LEVEL-clause-adds : goal.returns-then-level-lt-MAX_LEVEL-clause-adds
-returns-then-level-lt-MAX_LEVEL-clause-adds g c =
-    let t = g.S.Squares.content c.args.squares.now c.args.root in
-    let low = low-of _ _ c.level.ensures.level c.if-level-lt-MAX_LEVEL.true in
-    adds-as _ c.moved_to_middle.ensures.adds
-    (λ P s rule generation. middle-needed t c.args.found.now c.requires.bounds (high-of _ _ c.requires.positive c.requires.high) low rule generation P _ s)
+pub returns-then-fits_quarter-clause-grows : goal.returns-then-fits_quarter-clause-grows
+returns-then-fits_quarter-clause-grows g c =
+    let t = g.S.Squares.content c.args.from.now c.args.root in
+    let short = c.fits_quarter.ensures.short c.if-fits_quarter.true in
+    let e = c.moved_to_middle.ensures in
+    grows-as _ (only-grows (record { keeps = e.keeps; refusals = e.refusals; needed = e.needed; adds = e.adds }))
+    (λ P s rule generation. middle-needed t c.args.found.now c.requires.bounds short.0 short.1 rule generation P _ s)
 
 pub side_way-columns-requires : goal.side_way-columns-requires
 side_way-columns-requires g c = ordered-read _ _ (columns-ordered _ c.args.found.now (g.met.S.Squares.low _ _ c.requires.known) c.requires.bounds)
@@ -52,7 +48,7 @@ side_way-rows-requires g c = ordered-read _ _ (rows-ordered _ c.args.found.now (
 
 -- the way of the box
 way : (g : Over) (c : After-side_way-rows g)
-    → IsWay (tree_cell (g.S.Squares.content c.args.squares.now c.args.root)) (to_z w64 (of_z w64 c.side_way-columns.result))
+    → IsWay (tree_cell (g.S.Squares.content c.args.from.now c.args.root)) (to_z w64 (of_z w64 c.side_way-columns.result))
     (to_z w64 (of_z w64 c.side_way-rows.result))
 way g c =
     let low = g.met.S.Squares.low _ _ c.requires.known in
@@ -65,40 +61,23 @@ way g c =
 
 pub moved_on_plane-requires-clause-whole : goal.moved_on_plane-requires-clause-whole
 moved_on_plane-requires-clause-whole g c =
-    whole-of _ _ c.level.ensures.level c.if-level-lt-MAX_LEVEL.false (g.met.S.Squares.low _ _ c.requires.known)
-
-pub returns-in_err-plane-clause-needed : goal.returns-in_err-plane-clause-needed
-returns-in_err-plane-clause-needed g c full rule generation =
-    let t = g.S.Squares.content c.args.squares.now c.args.root in
-    plane-needed t _ _ (way g (goal.at.returns-in_err-plane-clause-needed g c).After-side_way-rows) rule generation _ _ (inl c.in_err-plane.ensures.needed)
-
-pub returns-in_err-plane-clause-adds : goal.returns-in_err-plane-clause-adds
-returns-in_err-plane-clause-adds g c =
-    let t = g.S.Squares.content c.args.squares.now c.args.root in
-    adds-as _ c.in_err-plane.ensures.adds
-    (λ P s rule generation. plane-needed t _ _ (way g (goal.at.returns-in_err-plane-clause-adds g c).After-side_way-rows) rule generation P _ (inl s))
+    is-whole _ c.args.found.now c.requires.bounds (c.fits_quarter.ensures.long c.if-fits_quarter.false) (g.met.S.Squares.full _ _ c.requires.known)
+    (g.met.S.Squares.low _ _ c.requires.known) (high-of _ _ c.requires.positive c.requires.high)
 
 pub returns-clause-moved : goal.returns-clause-moved
 returns-clause-moved g c =
-    let t = g.S.Squares.content c.args.squares.now c.args.root in
-    IfOk-weaker c.trim.result _ _
-    (λ id h rule generation. plane-root t _ _ (way g (goal.at.returns-clause-moved g c).After-side_way-rows) rule generation _ _
-    (h ∙ ap (λ p. trimmed p c.args.least) c.in_ok-plane.ensures.square))
-    c.trim.ensures.square
+    let t = g.S.Squares.content c.args.from.now c.args.root in
+    let w = way g (goal.at.returns-clause-moved g c).After-side_way-rows in
+    IfOk-weaker c.moved_on_plane.result _ _
+    (λ id h rule generation. plane-root t c.args.found.now c.requires.bounds (c.fits_quarter.ensures.long c.if-fits_quarter.false)
+    (g.met.S.Squares.full _ _ c.requires.known) (g.met.S.Squares.low _ _ c.requires.known) _ _ w rule generation _ c.requires.positive _ h)
+    c.moved_on_plane.ensures.square
 
-pub returns-clause-keeps : goal.returns-clause-keeps
-returns-clause-keeps g c = keeps-then c.in_ok-plane.ensures.keeps c.trim.ensures.keeps
-
-pub returns-clause-needed : goal.returns-clause-needed
-returns-clause-needed g c full rule generation =
-    let t = g.S.Squares.content c.args.squares.now c.args.root in
-    plane-needed t _ _ (way g (goal.at.returns-clause-needed g c).After-side_way-rows) rule generation _ _
-    (inr (subst (λ p. TrimmedTo (g.S.Squares.needs_node c.trim.new.squares) p c.args.least) c.in_ok-plane.ensures.square
-    (of-err c.trim.result full c.trim.ensures.needed)))
-
-pub returns-clause-adds : goal.returns-clause-adds
-returns-clause-adds g c =
-    let t = g.S.Squares.content c.args.squares.now c.args.root in
-    let w = way g (goal.at.returns-clause-adds g c).After-side_way-rows in
-    adds-then _ c.in_ok-plane.ensures.adds c.trim.ensures.adds (λ P s rule generation. plane-needed t _ _ w rule generation P _ (inl s))
-    (λ P s rule generation. plane-needed t _ _ w rule generation P _ (inr (subst (λ p. TrimmedTo P p c.args.least) c.in_ok-plane.ensures.square s)))
+pub returns-clause-grows : goal.returns-clause-grows
+returns-clause-grows g c =
+    let t = g.S.Squares.content c.args.from.now c.args.root in
+    let w = way g (goal.at.returns-clause-grows g c).After-side_way-rows in
+    let e = c.moved_on_plane.ensures in
+    grows-as _ (only-grows (record { keeps = e.keeps; refusals = e.refusals; needed = e.needed; adds = e.adds }))
+    (λ P s rule generation. plane-needed t c.args.found.now c.requires.bounds (c.fits_quarter.ensures.long c.if-fits_quarter.false)
+    (g.met.S.Squares.full _ _ c.requires.known) (g.met.S.Squares.low _ _ c.requires.known) _ _ w rule generation _ c.requires.positive P s)
