@@ -16,7 +16,7 @@ use Rattle.life_canon.specs.Running as running
 use Rattle.life_canon.specs.Store.{IsWant}
 use Rattle.pattern_sources.specs.Faults.{status_of}
 use Rattle.pattern_sources.specs.Forms.{IsTextIn}
-use Rattle.pattern_sources.specs.Sources.{by_file, by_input, by_length, by_source, by_want, ComesOf, HasNoText, HasText, InputRefuses, IsTooSmallFor, RefusesInForm, RefusesMany}
+use Rattle.pattern_sources.specs.Sources.{by_file, by_input, by_length, by_source, by_want, ComesOf, HasNoText, HasText, InputRefuses, IsTooSmallFor, RefusesInForm}
 use Rattle.file_keys.specs.Keys.{IsKeyIn, IsStatus}
 use Rattle.command_line.specs.declared.plans.Form.{Form}
 use Rattle.command_line.specs.declared.plans.Form.TheVariants.{Placed, Moved, Turned}
@@ -46,7 +46,7 @@ no_key : (source : SourceRun) (sink : SinkRun) (store : Nodes) (fault : Fault) �
     → RunRefuses MAX_LEVEL (2 ^ 30) store source sink fault → (fault ≡ fault_of kinds.Full → IsTooSmallFor [] source store)
     → HasNoText (RefusesInForm Placed) source fault
 no_key source sink store fault limit works takes (running.by_reading reading) lacks =
-    no_pattern (RefusesInForm Placed) source store fault limit (λ bytes h. h) reading lacks
+    no_pattern (RefusesInForm Placed) source store fault limit (λ bytes h. inl h) reading lacks
 no_key source sink store fault limit works takes (running.by_writing is broke) lacks = elim broke.cause [
   | inl failed ↦ let bad : 0 ≡ 1 = sym works ∙ failed in absurd cc
   | inr stalled ↦ let bad : false ≡ true = sym takes ∙ stalled in absurd cc
@@ -85,15 +85,9 @@ module _ (law : RefusalsHaveKinds MAX_LEVEL) where
   file_kind bytes fault refuses read =
       let of_file : is_file_kind kinds.ReadFault ≡ true = subst (λ (k : Kind). is_file_kind k ≡ true) read (law (lines_of bytes) fault refuses).0 in cc
 
-  many_kind : (bytes : List ℕ) (fault : Fault) → RefusesMany bytes fault → fault.kind ≡ kinds.ReadFault → ⊥
-  many_kind bytes fault (inl refuses) = file_kind bytes fault refuses
-  many_kind bytes fault (inr many) = other_kind fault kinds.TooManyCells many.0 (λ same. cc)
-
   form_kind : (form : Form) (bytes : List ℕ) (fault : Fault) → RefusesInForm form bytes fault → fault.kind ≡ kinds.ReadFault → ⊥
-  form_kind Placed bytes fault refuses = file_kind bytes fault refuses
-  form_kind Moved bytes fault (inl refuses) = many_kind bytes fault refuses
-  form_kind Moved bytes fault (inr want) = want_kind want.0 fault want.2
-  form_kind Turned bytes fault refuses = many_kind bytes fault refuses
+  form_kind form bytes fault (inl refuses) = file_kind bytes fault refuses
+  form_kind form bytes fault (inr large) = other_kind fault kinds.Full large.0 (λ same. cc)
 
   input_failed : (source : SourceRun) (fault : Fault) → InputRefuses source fault → fault.kind ≡ kinds.ReadFault → source.failures ≡ 1
   input_failed source fault (by_length is came) read = absurd (other_kind fault kinds.InputTooLong is (λ same. cc) read)

@@ -37,7 +37,7 @@ use Rattle.pattern_sources.specs.declared.refusals.Refusal.{Refusal}
 use Rattle.life_cli.specs.declared.jobs.Made.{Made}
 use Rattle.life_cli.specs.declared.jobs.Made.TheVariants.{Comparison, Text}
 use Rattle.pattern_sources.specs.Faults.{refusal_of}
-use Rattle.life_cli.specs.Forms.{AreSameIn, HasTooMany}
+use Rattle.life_cli.specs.Forms.{AreSameIn}
 use Rattle.pattern_sources.specs.Forms.{IsTextIn}
 use Rattle.command_line.specs.Plans.{HasSecond}
 use Rattle.life_cli.specs.Jobs.{WritesPlacedText}
@@ -122,14 +122,14 @@ answers form a b true is = inl (refl, is.0 refl, refl)
 answers form a b false is = inr (refl, (λ same. let bad : false ≡ true = is.1 same in absurd cc), refl)
 
 compared_files : (form : Form) (first second : SourceRun) (a b : List ℕ) (answer : Bool) → ReadAll (2 ^ 30) first.before first.after a
-    → ReadAll (2 ^ 30) second.before second.after b → Accepted MAX_LEVEL a → Accepted MAX_LEVEL b → ¬ HasTooMany form MAX_LEVEL a b
+    → ReadAll (2 ^ 30) second.before second.after b → Accepted MAX_LEVEL a → Accepted MAX_LEVEL b
     → IsTrue answer ↔ AreSameIn form MAX_LEVEL a b → TaskMakes (Same form) first second (Comparison answer)
-compared_files form first second a b answer one two first_is second_is few is = record {
+compared_files form first second a b answer one two first_is second_is is = record {
   first_bytes = a;
   second_bytes = b;
   first_read = one;
   second_read = λ _. two;
-  writes = (first_is, second_is, few, answers form a b answer is);
+  writes = (first_is, second_is, answers form a b answer is);
 }
 
 -- two files were read into one store, and their patterns compared in a form, or not
@@ -137,31 +137,28 @@ module _ (form : Form) (first second : SourceRun) (store : Nodes) (a b : List �
     (one : ReadAll (2 ^ 30) first.before first.after a) (two : ReadAll (2 ^ 30) second.before second.after b) (reads : IsRead MAX_LEVEL a store p)
     (others : IsRead MAX_LEVEL b store q) where
   pub compared_in : IfOk r (λ answer. (f s : List ℕ) → IsRead MAX_LEVEL f store p → IsRead MAX_LEVEL s store q → IsTrue answer ↔ AreSameIn form MAX_LEVEL f s)
-      → OnOk r ((f s : List ℕ) → IsRead MAX_LEVEL f store p → IsRead MAX_LEVEL s store q → ¬ HasTooMany form MAX_LEVEL f s)
       → IfOk r (λ answer. TaskMakes (Same form) first second (Comparison answer))
-  compared_in h few = go r h few
+  compared_in h = go r h
     where
       go : (r : Result Bool Fault)
           → IfOk r (λ answer. (f s : List ℕ) → IsRead MAX_LEVEL f store p → IsRead MAX_LEVEL s store q → IsTrue answer ↔ AreSameIn form MAX_LEVEL f s)
-          → OnOk r ((f s : List ℕ) → IsRead MAX_LEVEL f store p → IsRead MAX_LEVEL s store q → ¬ HasTooMany form MAX_LEVEL f s)
           → IfOk r (λ answer. TaskMakes (Same form) first second (Comparison answer))
-      go (Ok answer) h few =
-          compared_files form first second a b answer one two (reads.universe, reads.reads) (others.universe, others.reads) (few a b reads others)
-          (h a b reads others)
-      go (Err fault) h few = tt
+      go (Ok answer) h =
+          compared_files form first second a b answer one two (reads.universe, reads.reads) (others.universe, others.reads) (h a b reads others)
+      go (Err fault) h = tt
 
-  pub uncompared_in : HoldsTwoFiles a b store → IfErr r (λ fault. (fault ≡ fault_of Memory)
-      ⊎ ((f s : List ℕ) → IsRead MAX_LEVEL f store p → IsRead MAX_LEVEL s store q → HoldsTwoFiles f s store → RefusesSame form f s fault))
+  pub uncompared_in : IfErr r (λ fault. (fault ≡ fault_of Memory)
+      ⊎ ((f s : List ℕ) → IsRead MAX_LEVEL f store p → IsRead MAX_LEVEL s store q → RefusesSame form f s fault))
       → IfErr r (AreUncompared form first second)
-  uncompared_in only h = go r h
+  uncompared_in h = go r h
     where
       go : (r : Result Bool Fault) → IfErr r (λ fault. (fault ≡ fault_of Memory)
-          ⊎ ((f s : List ℕ) → IsRead MAX_LEVEL f store p → IsRead MAX_LEVEL s store q → HoldsTwoFiles f s store → RefusesSame form f s fault))
+          ⊎ ((f s : List ℕ) → IsRead MAX_LEVEL f store p → IsRead MAX_LEVEL s store q → RefusesSame form f s fault))
           → IfErr r (AreUncompared form first second)
       go (Ok answer) h = tt
       go (Err fault) (inl memory) = by_second_shortage a [] one (no_squares first a one) (inl memory)
       go (Err fault) (inr refuses) =
-          by_form a b one two (reads.universe, reads.reads) (others.universe, others.reads) (refuses a b reads others only)
+          by_form a b one two (reads.universe, reads.reads) (others.universe, others.reads) (refuses a b reads others)
 
 -- what the step of a pattern needs, that of its file needs
 of_file : (needs : Rule → Tree → Type 0) (bytes : List ℕ) (store : Nodes) (pattern : Pattern) → IsRead MAX_LEVEL bytes store pattern

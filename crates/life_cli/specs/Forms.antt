@@ -1,11 +1,11 @@
 -- What files say in a form of their patterns.
-use Rattle.std.specs.Prelude.{◌≡◌, ◌⊎◌, ℕ, ◌^◌, List}
+use Rattle.std.specs.Prelude.{◌≡◌, ◌⊎◌, ℕ, List}
 use Rattle.life_canon.specs.Files.{Reads, Same}
-use Rattle.life_canon.specs.Texts.{HasMoreCells}
 use Rattle.life_canon.specs.Universe.{Universe}
 use Rattle.life_forms.specs.Forms.{IsShift, IsTurnedShift}
 use Rattle.command_line.specs.declared.plans.Form.{Form}
 use Rattle.command_line.specs.declared.plans.Form.TheVariants.{Placed, Moved, Turned}
+use Rattle.pattern_sources.specs.Forms.{HasLargeForm}
 
 -- both are files, and what the first says is related to what the second says
 pub record SayRelated (relates : Universe → Universe → Type 0) (top : ℕ) (a b : List ℕ) : Type 0 where
@@ -25,8 +25,8 @@ AreSameIn Turned top a b = SayRelated IsTurnedShift top a b
 abbrev pub AreOfOneGeneration : Universe → Universe → Type 0
 AreOfOneGeneration u v = u.generation ≡ v.generation
 
--- one of two files has too many cells to be compared in the form: more than 2^20 that aren't 0, turned only where both are of one generation
-abbrev pub HasTooMany : Form → ℕ → List ℕ → List ℕ → Type 0
-HasTooMany Placed top a b = ⊥
-HasTooMany Moved top a b = HasMoreCells top a (2 ^ 20) ⊎ HasMoreCells top b (2 ^ 20)
-HasTooMany Turned top a b = SayRelated AreOfOneGeneration top a b × (HasMoreCells top a (2 ^ 20) ⊎ HasMoreCells top b (2 ^ 20))
+-- one of two files has too large a form to be compared; turned only where both are of one generation
+abbrev pub HasTooLarge : Form → ℕ → List ℕ → List ℕ → Type 0
+HasTooLarge Placed top a b = ⊥
+HasTooLarge Moved top a b = HasLargeForm Moved top a ⊎ HasLargeForm Moved top b
+HasTooLarge Turned top a b = SayRelated AreOfOneGeneration top a b × (HasLargeForm Turned top a ⊎ HasLargeForm Turned top b)

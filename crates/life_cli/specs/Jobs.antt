@@ -23,8 +23,8 @@ use Rattle.life_table.specs.Reading.{Refuses as RefusesTable}
 use Rattle.life_table.specs.declared.table.Table.{Table}
 use Rattle.life_step.specs.Refusals.{LifeRefusal, SomeOfNextFile, SomeOfNextFileBy, TableRefusal}
 use Rattle.life_step.specs.Stepped.{IsStepped, IsSteppedBy}
-use Rattle.life_cli.specs.Forms.{AreSameIn, HasTooMany}
-use Rattle.pattern_sources.specs.Sources.{AreOfInput, HasNoText, HasText, HoldsNoneBut, InputRefuses, IsTooSmallFor, RefusesInForm, RefusesMany, SomeToMove, Wants, WantsFor}
+use Rattle.life_cli.specs.Forms.{AreSameIn, HasTooLarge}
+use Rattle.pattern_sources.specs.Sources.{AreOfInput, HasNoText, HasText, HoldsNoneBut, InputRefuses, IsTooSmallFor, RefusesInForm, RefusesMany, Wants, WantsFor}
 use Rattle.pattern_sources.specs.Forms.{IsTextIn}
 use Rattle.command_line.specs.Plans.{HasSecond}
 use Rattle.command_line.specs.declared.plans.Form.{Form}
@@ -54,7 +54,7 @@ Writes (Canon form) first second status text = (status ≡ 0) × IsTextIn form M
 Writes (Convert Rle) first second status text = (status ≡ 0) × IsRleOf MAX_LEVEL (2 ^ 20) first text
 Writes (Convert Mc) first second status text = (status ≡ 0) × IsCanonical MAX_LEVEL first text
 Writes (Same form) first second status text =
-    Accepted MAX_LEVEL first × Accepted MAX_LEVEL second × (¬ HasTooMany form MAX_LEVEL first second) × Compares form first second status text
+    Accepted MAX_LEVEL first × Accepted MAX_LEVEL second × Compares form first second status text
 Writes Show first second status text = (status ≡ 0) × IsShown MAX_LEVEL first text
 Writes Step first second status text = (status ≡ 0) × IsStepped first text
 Writes StepTable first second status text = (status ≡ 0) × ((table : Table) × IsFile (lines_of second) table × IsSteppedBy table first text)
@@ -114,12 +114,9 @@ IsOfEither first second t = IsOfFile first t ⊎ IsOfFile second t
 abbrev pub HoldsTwoFiles : (first second : List ℕ) → Nodes → Type 0
 HoldsTwoFiles first second = HoldsNoneBut (IsOfEither first second)
 
--- why two files aren't compared in a form: one of them has too many cells, or room or memory is wanted to move them
+-- why two files aren't compared in a form: one of them has too large a form
 abbrev pub RefusesSame : Form → List ℕ → List ℕ → Fault → Type 0
-RefusesSame Placed a b fault = ⊥
-RefusesSame Moved a b fault =
-    ((fault ≡ fault_of TooManyCells) × HasTooMany Moved MAX_LEVEL a b) ⊎ WantsFor (IsOfEither a b) (λ P. SomeToMove a P ⊎ SomeToMove b P) fault
-RefusesSame Turned a b fault = (fault ≡ fault_of TooManyCells) × HasTooMany Turned MAX_LEVEL a b
+RefusesSame form a b fault = (fault ≡ fault_of Full) × HasTooLarge form MAX_LEVEL a b
 
 -- Why two files aren't compared: the first isn't read; all of it was read, and the second isn't; all of both was read, and the first is no
 -- file, or it is one and the second isn't, or both are, and aren't compared in the form; or room or memory is wanted for the first, or, once all

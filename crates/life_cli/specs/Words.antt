@@ -3,19 +3,18 @@ pub use Rattle.command_line.specs.Plans.{HasSecond, task_of}
 pub use Rattle.life_base.specs.DeviceRuns.{optional_source_run, sink_run, source_run, SourceRun}
 pub use Rattle.life_base.specs.DeviceState.{has_failed}
 pub use Rattle.life_base.specs.Inputs.{ReadAll}
-pub use Rattle.life_base.specs.Refusal.{fault_of}
+pub use Rattle.life_base.specs.Refusal.{fault_of, OrMemory}
 pub use Rattle.life_canon.specs.Files.{Refuses}
 pub use Rattle.life_canon.specs.ReadWhole.{ReadsWhole}
 pub use Rattle.life_canon.specs.Running.{AreWorking, ReadsPattern, RunsCanon}
 pub use Rattle.life_canon.specs.Store.{content, IsOfFile, IsRead, IsTrimmed, IsWant, Keeps, universe_in}
 pub use Rattle.life_canon.specs.Texts.{IsRleOf, IsShown}
-pub use Rattle.life_cli.specs.Forms.{AreSameIn, HasTooMany}
+pub use Rattle.life_cli.specs.Forms.{AreSameIn}
 pub use Rattle.life_cli.specs.Jobs.{AreUncompared, BreaksOff, CanonRefuses, HasNoTable, HasNoTextByTable, HasTable, HasTextByTable, HoldsTwoFiles, IsPatternIn}
 pub use Rattle.life_cli.specs.Jobs.{made_status, made_text, MadeOf, OfFile, OfTable, RefusesSame, RefusesStep, RefusesStepBy, TaskMakes, TaskRan, TaskRefuses}
 pub use Rattle.life_cli.specs.Jobs.{Worked, WritesPlacedText}
 pub use Rattle.life_cli.specs.Origins.{FailsToOpen, OpensFiles}
 pub use Rattle.life_cli.specs.Usages.{is_asked, is_out_of_memory, text_line, text_status, usage_line, usage_status, words_line, words_status}
-pub use Rattle.life_forms.specs.Needed.{AddsMoved, LacksForMoved}
 pub use Rattle.life_quad.specs.Cells.{population}
 pub use Rattle.life_quad.specs.Store.{held}
 pub use Rattle.life_step.specs.Stepped.{IsStepped, IsSteppedBy}

@@ -1,10 +1,10 @@
 //! The work of the jobs that take a pattern in a form.
 
-ghost use Rattle.std.specs.Prelude.{◌≡◌, ◌⊎◌, ◌↔◌, ◌^◌, ◌<◌, ◌≤◌, Err, IfOk, IfErr, OnOk, IsTrue, List, ℕ};
-ghost use Rattle.life_cli.specs.Words.{source_run, fault_of, population, IsOfFile, IsRead, IsTrimmed, IsWant, Keeps, content, universe_in, AddsMoved, HoldsOneFile, HoldsTwoFiles, LacksForMoved, AreSameIn, HasTooMany, IsMovedText, IsTextIn, ComesOf, RefusesInForm, RefusesSame};
+ghost use Rattle.std.specs.Prelude.{◌≡◌, ◌↔◌, ◌^◌, IfOk, IfErr, IsTrue, List, ℕ};
+ghost use Rattle.life_cli.specs.Words.{OrMemory, IsOfFile, IsRead, AreSameIn, RefusesSame};
 
 use command_line::Form;
-use life_base::{Fault, Kind, MAX_LEVEL};
+use life_base::{Fault, MAX_LEVEL};
 use life_canon::laws::{files_are_on_plane, files_are_unique, patterns_fit, patterns_tell_files};
 use life_canon::{Pattern, are_same};
 use life_forms::{are_shifts, are_turns};
@@ -14,22 +14,19 @@ use std::alloc::Global;
 /// Whether the patterns of two files are one in a form.
 pub(crate) fn are_same_in(
     alloc: Global,
-    store: &mut Shared,
+    store: &Shared,
     form: Form,
     a: &Pattern,
     b: &Pattern,
 ) -> Result<bool, Fault>
-    requires a { IsOfFile MAX_LEVEL store.old a.now }
-    requires b { IsOfFile MAX_LEVEL store.old b.now }
-    requires limit { store.old.limit ≡ 2 ^ 31 }
+    requires a { IsOfFile MAX_LEVEL store.now a.now }
+    requires b { IsOfFile MAX_LEVEL store.now b.now }
+    requires limit { store.now.limit ≡ 2 ^ 31 }
     ensures answer { IfOk result (λ answer. (first second : List ℕ)
-        → IsRead MAX_LEVEL first store.old a.now → IsRead MAX_LEVEL second store.old b.now
+        → IsRead MAX_LEVEL first store.now a.now → IsRead MAX_LEVEL second store.now b.now
         → IsTrue answer ↔ AreSameIn form MAX_LEVEL first second) }
-    ensures few { OnOk result ((first second : List ℕ) → IsRead MAX_LEVEL first store.old a.now
-        → IsRead MAX_LEVEL second store.old b.now → ¬ HasTooMany form MAX_LEVEL first second) }
-    ensures fault { IfErr result (λ fault. (fault ≡ fault_of Kind.Memory)
-        ⊎ ((first second : List ℕ) → IsRead MAX_LEVEL first store.old a.now
-        → IsRead MAX_LEVEL second store.old b.now → HoldsTwoFiles first second store.old
+    ensures fault { IfErr result (λ fault. OrMemory fault ((first second : List ℕ)
+        → IsRead MAX_LEVEL first store.now a.now → IsRead MAX_LEVEL second store.now b.now
         → RefusesSame form first second fault)) }
 {
     patterns_fit();
@@ -38,12 +35,7 @@ pub(crate) fn are_same_in(
     files_are_on_plane();
     match form {
         Form::Placed => Ok(are_same(a, b)),
-        Form::Moved => {
-            let answer = are_shifts(alloc, store, a, b);
-            // As in `pattern_of`.
-            let _ = store.len();
-            answer
-        }
+        Form::Moved => are_shifts(alloc, store, a, b),
         Form::Turned => are_turns(alloc, store, a, b),
     }
 }

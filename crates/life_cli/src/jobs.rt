@@ -150,7 +150,7 @@ fn compared<A: Source, B: Source>(
     let mut store = Shared::seeded(alloc, seeds.squares, MOST_SQUARES);
     let a = pattern_in(alloc, &mut store, one)?;
     let b = pattern_in(alloc, &mut store, other)?;
-    are_same_in(alloc, &mut store, form, &a?, &b?)
+    are_same_in(alloc, &store, form, &a?, &b?)
 }
 
 /// A text that was made, or the refusal with its fault, which is none of a table.

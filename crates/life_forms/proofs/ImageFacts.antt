@@ -1,11 +1,11 @@
 -- Squares of a plane, turned, are squares of its image.
-use Rattle.std.proofs.Common.{◌≡◌, ℕ, zero, suc, ◌+◌, ◌^◌, ◌≤◌, Bool, true, false, refl, sym, ap, ap₂, ◌∙◌, subst, ℤ, pos, neg_ℤ, ◌+ℤ◌, arith, if◌then◌else◌}
+use Rattle.std.proofs.Common.{◌≡◌, ℕ, zero, suc, ◌^◌, ◌≤◌, Bool, true, false, refl, sym, ap, ap₂, ◌∙◌, subst, ℤ, pos, neg_ℤ, ◌+ℤ◌, arith, if◌then◌else◌}
 use Rattle.std.proofs.lemmas.Int.{ints}
 use Rattle.life_base.specs.Tree.{Tree, point, quad, depth, tree_cell, IsFull}
 use Rattle.life_canon.specs.Laws.{SquaresAreCentred, CentredSquaresTellCells}
 use Rattle.life_canon.specs.Universe.{square, centred, corner, IsBlankOutside}
 use Rattle.life_quad.specs.Turning.{differ, one_of_four, side_of, end_of, turned_tree}
-use Rattle.life_forms.specs.Turns.{Turn, turn_of, counted, column_of, row_of}
+use Rattle.life_forms.specs.Turns.{Turn, counted, column_of, row_of}
 use Rattle.life_forms.proofs.TurnFacts.{backwards-is, pow_suc, image_cells, image-outside}
 
 -- a coordinate, or the one so many further

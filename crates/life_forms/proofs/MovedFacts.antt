@@ -1,7 +1,7 @@
 -- The plane of the moved cells of a square, and its root.
-use Rattle.std.proofs.Common.{◌≡◌, ◌≢◌, ◌⊎◌, ℕ, zero, suc, ◌+◌, ◌^◌, ◌<◌, ◌≤◌, true, inl, inr, refl, sym, ◌∙◌, ap, subst, ℤ, pos, neg_ℤ, ◌+ℤ◌, ◌≤ℤ◌, ◌<ℤ◌, arith, pow_mono}
+use Rattle.std.proofs.Common.{◌≡◌, ◌≢◌, ◌⊎◌, ℕ, zero, suc, ◌^◌, ◌<◌, ◌≤◌, true, inl, inr, refl, sym, ◌∙◌, ap, subst, ℤ, pos, neg_ℤ, ◌+ℤ◌, ◌≤ℤ◌, ◌<ℤ◌, arith, pow_mono}
 use Rattle.std.proofs.lemmas.Int.{ints}
-use Rattle.life_base.specs.Tree.{Tree, depth, blank, tree_cell, half_side, is_blank_tree, IsFull}
+use Rattle.life_base.specs.Tree.{Tree, depth, blank, tree_cell, is_blank_tree, IsFull}
 use Rattle.life_base.specs.declared.bounds.Bounds.{Bounds}
 use Rattle.life_base.specs.declared.cell.TheConstants.{MAX_LEVEL}
 use Rattle.life_base.specs.declared.rule.Rule.{Rule}

@@ -1,7 +1,7 @@
 -- How many squares are needed, by those that a store holds.
 --
 -- A `Needs` says of a property that a square which is needed has it; so `Needs (λ u. u ≡ t)` says that t is needed.
-use Rattle.std.proofs.Common.{◌≡◌, ◌≢◌, ◌⊎◌, inl, inr, ℕ, zero, suc, ◌<◌, ◌≤◌, true, false, true≢false, List, [], ◌∷◌, length, AllPairs, sym, ap, subst, ◌∙◌, arith}
+use Rattle.std.proofs.Common.{◌≡◌, ◌≢◌, inl, inr, ℕ, zero, suc, ◌<◌, ◌≤◌, true, false, true≢false, List, [], ◌∷◌, length, AllPairs, sym, ap, subst, ◌∙◌, arith}
 use Rattle.std.specs.Prelude.{All, Contains}
 use Rattle.std.proofs.lemmas.List.{length-map}
 use Rattle.std.proofs.lemmas.List.Elements.{All-contains, All-contains_itself}
@@ -18,10 +18,10 @@ use Rattle.life_quad.specs.StoreLaws.{Names, the_state, the_blank, the_node, nam
 use Rattle.life_quad.specs.declared.id.Id.{Id}
 use Rattle.life_canon.specs.Needs.{IsNew}
 use Rattle.life_canon.specs.Store.{IsKnown}
-use Rattle.life_canon.specs.Universe.{Universe, least_level, square_universe, whole}
+use Rattle.life_canon.specs.Universe.{Universe, least_level, square_universe}
 use Rattle.life_canon.proofs.RoomCount.{Found, found-as, find-part}
 use Rattle.life_canon.proofs.RoomLists.{Among, among-contains, contains-among, distinct-pairs, pigeons}
-use Rattle.life_forms.specs.Forms.{IsShift, IsMoved, IsTurnedShift}
+use Rattle.life_forms.specs.Forms.{IsShift, IsTurnedShift}
 use Rattle.life_forms.specs.Laws.{ShiftsHaveOneSize, TurnsHaveOneSize}
 use Rattle.life_forms.specs.Turns.{Turn, after, back, image}
 use Rattle.life_forms.specs.Needed.{HasLargerForm, IsMovedRoot, LacksForMoved, NeedsMore, SomeOfMovedForm}

@@ -81,19 +81,16 @@ holds_more IsToRead Added ToMake old new only f adds t there = elim (adds.each t
 
 -- no text in a form
 pub refused_in : (form : Form) (bytes : List ℕ) (fault : Fault) → Refuses MAX_LEVEL bytes fault → RefusesInForm form bytes fault
-refused_in Placed bytes fault h = h
-refused_in Moved bytes fault h = inl (inl h)
-refused_in Turned bytes fault h = inl h
+refused_in form bytes fault h = inl h
 
-pub refused_text : {X : Type 0} (form : Form) (source : SourceRun) (empty store : Nodes) (pattern : Pattern) (r : Result X Fault) → held empty ≡ []
+pub refused_text : {X : Type 0} (form : Form) (source : SourceRun) (empty store : Nodes) (pattern : Pattern) (r : Result X Fault)
     → ReadsWhole (2 ^ 30) empty store source pattern
     → IfErr r (λ fault. (fault ≡ fault_of Memory)
-    ⊎ ((b : List ℕ) → IsRead MAX_LEVEL b store pattern → HoldsOneFile b store → RefusesInForm form b fault))
+    ⊎ ((b : List ℕ) → IsRead MAX_LEVEL b store pattern → RefusesInForm form b fault))
     → IfErr r (HasNoText (RefusesInForm form) source)
-refused_text form source empty store pattern (Ok x) none has h = tt
-refused_text form source empty store pattern (Err fault) none has (inl memory) = by_want (inl memory)
-refused_text form source empty store pattern (Err fault) none has (inr refuses) =
-    by_file has.bytes has.read (refuses has.bytes has.is (holds_one has.bytes empty store none has.adds))
+refused_text form source empty store pattern (Ok x) has h = tt
+refused_text form source empty store pattern (Err fault) has (inl memory) = by_want (inl memory)
+refused_text form source empty store pattern (Err fault) has (inr refuses) = by_file has.bytes has.read (refuses has.bytes has.is)
 
 -- all of a file was read, and a call on its pattern gave its text
 text_of_pattern : {X : Type 0} (gives : List ℕ → List ℕ → Type 0) (items : X → List ℕ) (source : SourceRun) (store : Nodes) (pattern : Pattern)

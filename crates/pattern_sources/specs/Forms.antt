@@ -2,10 +2,12 @@
 use Rattle.std.specs.Prelude.{◌≡◌, ℕ, ◌^◌, List}
 use Rattle.life_canon.specs.Files.{Reads}
 use Rattle.life_canon.specs.Listing.{canon_text}
-use Rattle.life_canon.specs.Texts.{HasMoreCells, IsCanonical}
+use Rattle.life_canon.specs.Texts.{IsCanonical}
 use Rattle.life_canon.specs.Universe.{Universe}
 use Rattle.life_forms.specs.Forms.{IsMoved}
 use Rattle.life_forms.specs.Images.{IsTurnedText}
+use Rattle.life_forms.specs.Needed.{HasLargerForm}
+use Rattle.life_forms.specs.Turns.{Turn, image}
 use Rattle.command_line.specs.declared.plans.Form.{Form}
 use Rattle.command_line.specs.declared.plans.Form.TheVariants.{Placed, Moved, Turned}
 
@@ -15,11 +17,10 @@ pub record IsMovedText (top : ℕ) (u : Universe) (text : List ℕ) : Type 0 whe
   pub moved : IsMoved top u form
   pub is : text ≡ canon_text top form
 
--- the bytes are a file with no more than 2^20 nonzero cells, and this is a text of what it says
+-- the bytes are a file, and this is a text of what it says
 pub record SaysText (is_text : Universe → List ℕ → Type 0) (top : ℕ) (bytes text : List ℕ) : Type 0 where
   pub universe : Universe
   pub reads : Reads top bytes universe
-  pub few : ¬ HasMoreCells top bytes (2 ^ 20)
   pub is : is_text universe text
 
 -- the bytes are a file, and this is the text of its pattern in the form
@@ -27,3 +28,9 @@ abbrev pub IsTextIn : Form → ℕ → List ℕ → List ℕ → Type 0
 IsTextIn Placed top bytes text = IsCanonical top bytes text
 IsTextIn Moved top bytes text = SaysText (IsMovedText top) top bytes text
 IsTextIn Turned top bytes text = SaysText (IsTurnedText top) top bytes text
+
+-- the bytes are a file, and the moved form of what it says has more than 2^21 different squares; turned, that of one of its eight images
+abbrev pub HasLargeForm : Form → ℕ → List ℕ → Type 0
+HasLargeForm Placed top bytes = ⊥
+HasLargeForm Moved top bytes = (u : Universe) × Reads top bytes u × HasLargerForm (2 ^ 21) u
+HasLargeForm Turned top bytes = (u : Universe) × Reads top bytes u × ((turn : Turn) × HasLargerForm (2 ^ 21) (image turn u))

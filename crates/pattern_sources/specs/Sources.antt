@@ -9,16 +9,14 @@ use Rattle.life_base.specs.declared.fault.Fault.{Fault}
 use Rattle.life_base.specs.declared.cell.TheConstants.{MAX_LEVEL}
 use Rattle.life_base.specs.declared.kind.Kind.TheVariants.{Full, InputTooLong, Memory, ReadFault, TooManyCells}
 use Rattle.life_quad.specs.Store.{Nodes, held}
-use Rattle.life_canon.specs.Files.{Reads, Refuses}
+use Rattle.life_canon.specs.Files.{Refuses}
 use Rattle.life_canon.specs.Needs.{IsNew}
 use Rattle.life_canon.specs.Room.{IsOfFile, room_for}
 use Rattle.life_canon.specs.Running.{LacksForRead}
 use Rattle.life_canon.specs.Store.{IsWant}
 use Rattle.life_canon.specs.Texts.{HasMoreCells}
-use Rattle.life_canon.specs.Universe.{Universe}
-use Rattle.life_forms.specs.Needed.{SomeOfMovedForm}
 use Rattle.command_line.specs.declared.plans.Form.{Form}
-use Rattle.command_line.specs.declared.plans.Form.TheVariants.{Placed, Moved, Turned}
+use Rattle.pattern_sources.specs.Forms.{HasLargeForm}
 
 -- why an input isn't read to its end: too much came, or the source failed
 pub data InputRefuses (source : SourceRun) (fault : Fault) : Type 0 where
@@ -88,10 +86,6 @@ abbrev pub WantsFor : (Tree → Type 0) → ((Tree → Type 0) → Type 0) → F
 WantsFor IsToRead ToMake fault =
     (store : Nodes) × (store.limit ≡ 2 ^ 31) × IsWant store fault × (fault ≡ fault_of Full → IsTooSmallToMake IsToRead ToMake store)
 
--- a square that is needed to move the pattern of a file has a property
-abbrev pub SomeToMove : List ℕ → (Tree → Type 0) → Type 0
-SomeToMove bytes P = (u : Universe) × Reads MAX_LEVEL bytes u × SomeOfMovedForm P u
-
 -- the store holds no squares but those of a file, or of two files
 abbrev pub HoldsOneFile : List ℕ → Nodes → Type 0
 HoldsOneFile bytes = HoldsNoneBut (IsOfFile bytes)
@@ -100,8 +94,6 @@ HoldsOneFile bytes = HoldsNoneBut (IsOfFile bytes)
 abbrev pub RefusesMany : List ℕ → Fault → Type 0
 RefusesMany bytes fault = Refuses MAX_LEVEL bytes fault ⊎ ((fault ≡ fault_of TooManyCells) × HasMoreCells MAX_LEVEL bytes (2 ^ 20))
 
--- why bytes have no text in a form
+-- why bytes have no text in a form: they are no file, or one whose form is too large
 abbrev pub RefusesInForm : Form → List ℕ → Fault → Type 0
-RefusesInForm Placed bytes fault = Refuses MAX_LEVEL bytes fault
-RefusesInForm Moved bytes fault = RefusesMany bytes fault ⊎ WantsFor (IsOfFile bytes) (SomeToMove bytes) fault
-RefusesInForm Turned bytes fault = RefusesMany bytes fault
+RefusesInForm form bytes fault = Refuses MAX_LEVEL bytes fault ⊎ ((fault ≡ fault_of Full) × HasLargeForm form MAX_LEVEL bytes)

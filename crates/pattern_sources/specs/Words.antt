@@ -1,11 +1,11 @@
 -- The words of the contracts of this crate.
 pub use Rattle.life_base.specs.DeviceRuns.{sink_run, source_run}
-pub use Rattle.life_base.specs.Refusal.{fault_of}
+pub use Rattle.life_base.specs.Refusal.{fault_of, OrMemory}
 pub use Rattle.life_base.specs.Writing.{WritesText}
 pub use Rattle.life_canon.specs.ReadWhole.{ReadsWhole}
 pub use Rattle.life_canon.specs.Running.{AreWorking, ReadsPattern, RunsCanon}
 pub use Rattle.life_canon.specs.Store.{content, IsOfFile, IsRead, IsTrimmed, IsWant, Keeps, universe_in}
-pub use Rattle.life_forms.specs.Needed.{AddsMoved, LacksForMoved}
+pub use Rattle.life_forms.specs.Needed.{HasLargeForm}
 pub use Rattle.life_quad.specs.Cells.{population}
 pub use Rattle.life_quad.specs.Store.{held}
 pub use Rattle.pattern_sources.specs.Faults.{fault_line, is_of_table, line_word, refusal_of, status_of, Tells}

@@ -1,60 +1,48 @@
 //! The texts of patterns in a form.
 
-ghost use Rattle.std.specs.Prelude.{◌≡◌, ◌⊎◌, ◌^◌, ◌<◌, ◌≤◌, Err, IfOk, IfErr, OnOk, List, ℕ};
-ghost use Rattle.pattern_sources.specs.Words.{source_run, fault_of, population, IsOfFile, IsRead, IsTrimmed, IsWant, Keeps, content, universe_in, AddsMoved, HoldsOneFile, LacksForMoved, IsMovedText, IsTextIn, ComesOf, RefusesInForm};
+ghost use Rattle.std.specs.Prelude.{◌≡◌, ◌^◌, IfOk, IfErr, List, ℕ};
+ghost use Rattle.pattern_sources.specs.Words.{source_run, fault_of, OrMemory, IsOfFile, IsRead, IsTrimmed, universe_in, HasLargeForm, IsMovedText, IsTextIn, ComesOf, RefusesInForm};
 
 use crate::patterns::{MOST_SQUARES, pattern_of};
 use crate::seeds::Seeds;
 use command_line::Form;
 use life_base::{Fault, Kind, MAX_LEVEL, Source};
-use life_canon::laws::{files_are_unique, patterns_fit};
+use life_canon::laws::patterns_fit;
 use life_canon::{Pattern, text_of};
 use life_forms::{moved_of, turned_text};
 use life_quad::Shared;
 use std::alloc::Global;
 
 /// The canonical text of a pattern's moved form.
-fn moved_text(alloc: Global, store: &mut Shared, pattern: &Pattern) -> Result<Vec<u8>, Fault>
-    requires { IsTrimmed store.old pattern.now }
+fn moved_text(alloc: Global, store: &Shared, pattern: &Pattern) -> Result<Vec<u8>, Fault>
+    requires { IsTrimmed store.now pattern.now }
     ensures text { IfOk result
-        (λ text. IsMovedText MAX_LEVEL (universe_in store.old pattern.now) text.items) }
-    ensures few { OnOk result (population (content store.old pattern.now.root) ≤ 2 ^ 20) }
-    ensures fault { IfErr result (λ fault. ((fault ≡ fault_of Kind.TooManyCells)
-        × (2 ^ 20 < population (content store.old pattern.now.root))) ⊎ IsWant store.new fault) }
-    ensures needed { result ≡ Err (fault_of Kind.Full)
-        → LacksForMoved (universe_in store.old pattern.now) store.new }
-    ensures adds { AddsMoved (universe_in store.old pattern.now) store.old store.new }
-    ensures keeps { Keeps store.old store.new }
+        (λ text. IsMovedText MAX_LEVEL (universe_in store.now pattern.now) text.items) }
+    ensures fault { IfErr result (λ fault. OrMemory fault
+        ((fault ≡ fault_of Kind.Full) × HasLargeForm store.now pattern.now)) }
 {
-    let moved = moved_of(alloc, store, pattern)?;
-    text_of(alloc, store, &moved)
+    let (form, moved) = moved_of(alloc, store, pattern)?;
+    text_of(alloc, &form, &moved)
 }
 
 /// The text of a file's pattern in a form.
 fn text_in(
     alloc: Global,
-    store: &mut Shared,
+    store: &Shared,
     form: Form,
     pattern: &Pattern,
 ) -> Result<Vec<u8>, Fault>
-    requires read { IsOfFile MAX_LEVEL store.old pattern.now }
-    requires limit { store.old.limit ≡ 2 ^ 31 }
+    requires read { IsOfFile MAX_LEVEL store.now pattern.now }
+    requires limit { store.now.limit ≡ 2 ^ 31 }
     ensures text { IfOk result (λ text. (bytes : List ℕ)
-        → IsRead MAX_LEVEL bytes store.old pattern.now → IsTextIn form MAX_LEVEL bytes text.items) }
-    ensures fault { IfErr result (λ fault. (fault ≡ fault_of Kind.Memory)
-        ⊎ ((bytes : List ℕ) → IsRead MAX_LEVEL bytes store.old pattern.now
-        → HoldsOneFile bytes store.old → RefusesInForm form bytes fault)) }
+        → IsRead MAX_LEVEL bytes store.now pattern.now → IsTextIn form MAX_LEVEL bytes text.items) }
+    ensures fault { IfErr result (λ fault. OrMemory fault ((bytes : List ℕ)
+        → IsRead MAX_LEVEL bytes store.now pattern.now → RefusesInForm form bytes fault)) }
 {
     patterns_fit();
-    files_are_unique();
     match form {
         Form::Placed => text_of(alloc, store, pattern),
-        Form::Moved => {
-            let text = moved_text(alloc, store, pattern);
-            // As in `pattern_of`.
-            let _ = store.len();
-            text
-        }
+        Form::Moved => moved_text(alloc, store, pattern),
         Form::Turned => turned_text(alloc, store, pattern),
     }
 }
@@ -63,7 +51,8 @@ fn text_in(
 ///
 /// # Errors
 ///
-/// Those of `pattern_of`, and `TooManyCells` where the form isn't `Placed` and the pattern has more than 2^20 cells that aren't 0.
+/// Those of `pattern_of`, and `Full` where the form isn't `Placed` and has more than 2^21 different squares; if it is `Turned`, where the moved form of one
+/// of the eight images has more.
 pub fn text_of_source<A: Source>(
     alloc: Global,
     seeds: &Seeds,
@@ -76,5 +65,5 @@ pub fn text_of_source<A: Source>(
 {
     let mut store = Shared::seeded(alloc, seeds.squares, MOST_SQUARES);
     let pattern = pattern_of(alloc, &mut store, first)?;
-    text_in(alloc, &mut store, form, &pattern)
+    text_in(alloc, &store, form, &pattern)
 }

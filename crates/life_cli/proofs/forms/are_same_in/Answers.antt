@@ -1,6 +1,5 @@
-use Rattle.std.proofs.Common.{◌∙◌}
 use Rattle.life_forms.specs.Forms.{IsShift, IsTurnedShift}
-use Rattle.life_cli.proofs.FormLemmas.{few_shifted, few_turned, related, rule_of_file, unshifted, unturned_two}
+use Rattle.life_cli.proofs.FormLemmas.{related, rule_of_file, unshifted, unturned_two}
 use Rattle.life_cli.proofs.forms.are_same_in.Goals as goal
 
 pub returns-in-Placed-clause-answer : goal.returns-in-Placed-clause-answer
@@ -11,32 +10,19 @@ returns-in-Placed-clause-answer c =
 
 pub returns-in-Moved-clause-answer : goal.returns-in-Moved-clause-answer
 returns-in-Moved-clause-answer c =
-    rw c.in-Moved.is (related c.patterns_fit.ensures c.files_are_unique.ensures _ _ _ IsShift c.are_shifts-answer.result c.are_shifts-answer.ensures.answer)
-
-pub returns-in-Placed-clause-few : goal.returns-in-Placed-clause-few
-returns-in-Placed-clause-few c = rw c.in-Placed.is (λ first second p q many. many)
-
-pub returns-in-Moved-clause-few : goal.returns-in-Moved-clause-few
-returns-in-Moved-clause-few c =
-    rw c.in-Moved.is (few_shifted c.patterns_fit.ensures c.files_are_unique.ensures _ _ _ c.are_shifts-answer.result c.are_shifts-answer.ensures.few)
+    rw c.in-Moved.is (related c.patterns_fit.ensures c.files_are_unique.ensures _ _ _ IsShift c.are_shifts.result c.are_shifts.ensures.answer)
 
 pub returns-in-Moved-clause-fault : goal.returns-in-Moved-clause-fault
 returns-in-Moved-clause-fault c =
-    rw c.in-Moved.is (unshifted c.patterns_fit.ensures c.files_are_unique.ensures _ _ _ c.are_shifts-answer.new.store
-    c.are_shifts-answer.result (c.are_shifts-answer.ensures.keeps.limit ∙ c.requires.limit) c.len.ensures.distinct
-    (λ t there. (c.len.ensures.only t there).0) c.are_shifts-answer.ensures.adds c.are_shifts-answer.ensures.fault c.are_shifts-answer.ensures.needed)
+    rw c.in-Moved.is (unshifted c.patterns_fit.ensures c.files_are_unique.ensures _ _ _ c.are_shifts.result c.requires.limit c.are_shifts.ensures.fault)
 
 pub returns-in-Turned-clause-answer : goal.returns-in-Turned-clause-answer
 returns-in-Turned-clause-answer c =
     rw c.in-Turned.is (related c.patterns_fit.ensures c.files_are_unique.ensures _ _ _ IsTurnedShift c.are_turns.result c.are_turns.ensures.answer)
 
-pub returns-in-Turned-clause-few : goal.returns-in-Turned-clause-few
-returns-in-Turned-clause-few c =
-    rw c.in-Turned.is (few_turned c.patterns_fit.ensures c.files_are_unique.ensures _ _ _ c.are_turns.result c.are_turns.ensures.few)
-
 pub returns-in-Turned-clause-fault : goal.returns-in-Turned-clause-fault
 returns-in-Turned-clause-fault c =
-    rw c.in-Turned.is (unturned_two c.patterns_fit.ensures c.files_are_unique.ensures _ _ _ c.are_turns.result c.are_turns.ensures.fault)
+    rw c.in-Turned.is (unturned_two c.patterns_fit.ensures c.files_are_unique.ensures _ _ _ c.are_turns.result c.requires.limit c.are_turns.ensures.fault)
 
 pub are_turns-requires-clause-a_rule : goal.are_turns-requires-clause-a_rule
 are_turns-requires-clause-a_rule c = rule_of_file c.files_are_on_plane.ensures c.requires.a.0 c.args.store.now c.args.a.now c.requires.a.1
@@ -44,11 +30,11 @@ are_turns-requires-clause-a_rule c = rule_of_file c.files_are_on_plane.ensures c
 pub are_turns-requires-clause-b_rule : goal.are_turns-requires-clause-b_rule
 are_turns-requires-clause-b_rule c = rule_of_file c.files_are_on_plane.ensures c.requires.b.0 c.args.store.now c.args.b.now c.requires.b.1
 
-pub are_shifts-answer-requires-clause-a : goal.are_shifts-answer-requires-clause-a
-are_shifts-answer-requires-clause-a c = (c.patterns_fit.ensures c.requires.a.0 c.args.store.now c.args.a.now c.requires.a.1).0
+pub are_shifts-requires-clause-a : goal.are_shifts-requires-clause-a
+are_shifts-requires-clause-a c = (c.patterns_fit.ensures c.requires.a.0 c.args.store.now c.args.a.now c.requires.a.1).0
 
-pub are_shifts-answer-requires-clause-b : goal.are_shifts-answer-requires-clause-b
-are_shifts-answer-requires-clause-b c = (c.patterns_fit.ensures c.requires.b.0 c.args.store.now c.args.b.now c.requires.b.1).0
+pub are_shifts-requires-clause-b : goal.are_shifts-requires-clause-b
+are_shifts-requires-clause-b c = (c.patterns_fit.ensures c.requires.b.0 c.args.store.now c.args.b.now c.requires.b.1).0
 
 pub are_turns-requires-clause-a : goal.are_turns-requires-clause-a
 are_turns-requires-clause-a c = (c.patterns_fit.ensures c.requires.a.0 c.args.store.now c.args.a.now c.requires.a.1).0

@@ -1,7 +1,7 @@
 use Rattle.std.proofs.Common.{◌≡◌, ◌∙◌, ℕ, inl, inr, sym}
 use Rattle.std.proofs.lemmas.Result.{err_from_is_err_and}
 use Rattle.life_cli.specs.Jobs.{by_files}
-use Rattle.life_cli.proofs.WorkLemmas.{compared_in, holds_two, no_first_input, no_second_input, uncompared_in}
+use Rattle.life_cli.proofs.WorkLemmas.{compared_in, no_first_input, no_second_input, uncompared_in}
 use Rattle.life_cli.proofs.jobs.compared.Goals as goal
 
 pub returns-in_err-a-clause-err : goal.returns-in_err-a-clause-err
@@ -52,15 +52,13 @@ pub returns-clause-ok : goal.returns-clause-ok
 returns-clause-ok g c =
     compared_in c.args.form _ _ c.pattern_in-2.new.store _ _ _ _ c.are_same_in.result c.in_ok-a.ensures.pattern.read c.in_ok-b.ensures.pattern.read
     (c.patterns_stay.ensures _ _ _ _ c.pattern_in-2.ensures.keeps (rw c.in_ok-a-2.was at c.in_ok-a.ensures.pattern.pattern))
-    (rw c.in_ok-b-2.was at c.in_ok-b.ensures.pattern.pattern) c.are_same_in.ensures.answer c.are_same_in.ensures.few
+    (rw c.in_ok-b-2.was at c.in_ok-b.ensures.pattern.pattern) c.are_same_in.ensures.answer
 
 pub returns-clause-err : goal.returns-clause-err
 returns-clause-err g c =
     uncompared_in c.args.form _ _ c.pattern_in-2.new.store _ _ _ _ c.are_same_in.result c.in_ok-a.ensures.pattern.read c.in_ok-b.ensures.pattern.read
     (c.patterns_stay.ensures _ _ _ _ c.pattern_in-2.ensures.keeps (rw c.in_ok-a-2.was at c.in_ok-a.ensures.pattern.pattern))
     (rw c.in_ok-b-2.was at c.in_ok-b.ensures.pattern.pattern)
-    (holds_two c.in_ok-a.ensures.pattern.bytes c.in_ok-b.ensures.pattern.bytes _ c.pattern_in.new.store c.pattern_in-2.new.store
-    c.seeded-store.ensures.stored (rw c.in_ok-a-2.was at c.in_ok-a.ensures.pattern.adds) (rw c.in_ok-b-2.was at c.in_ok-b.ensures.pattern.adds))
     c.are_same_in.ensures.fault
 
 -- what has not failed has not failed once

@@ -1,4 +1,4 @@
-use Rattle.std.proofs.Common.{◌≡◌, ◌⊎◌, ℕ, ◌≤◌, true, false, to_z, of_z, w64, ◌∙◌, sym, subst, arith}
+use Rattle.std.proofs.Common.{ℕ, ◌≤◌, to_z, of_z, w64, arith}
 use Rattle.std.proofs.lemmas.Result.{IfOk-weaker}
 use Rattle.life_base.specs.Tree.{tree_cell}
 use Rattle.life_quad.proofs.GrowsLemmas.{grows-as, only-grows}

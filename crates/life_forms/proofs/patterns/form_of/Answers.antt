@@ -1,6 +1,5 @@
-use Rattle.std.proofs.Common.{◌≡◌, ◌⊎◌, inl, inr, ℕ, ap, ◌∙◌, subst, Err}
+use Rattle.std.proofs.Common.{◌≡◌, inl, inr, ℕ, ap, ◌∙◌, subst, Err}
 use Rattle.life_base.specs.Refusal.{OrMemory, fault_of}
-use Rattle.life_base.specs.declared.fault.Fault.{Fault}
 use Rattle.life_base.specs.declared.kind.Kind.{Kind}
 use Rattle.life_base.specs.declared.kind.Kind.TheVariants.{Full}
 use Rattle.life_quad.specs.Keeping.{IsWantKind}

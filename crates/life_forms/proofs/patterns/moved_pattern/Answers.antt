@@ -7,7 +7,6 @@ use Rattle.life_canon.specs.Store.{content}
 use Rattle.life_canon.specs.Universe.{square_universe}
 use Rattle.life_forms.specs.Needed.{IsMovedRoot, SomeOfMovedRoot}
 use Rattle.life_forms.proofs.MovedFacts.{form-of-root, root-moved, root-trimmed}
-use Rattle.life_forms.proofs.PatternFacts.{root-high}
 use Rattle.life_forms.proofs.RefusalFacts.{handed-on}
 use Rattle.life_forms.proofs.patterns.moved_pattern.Goals as goal
 

@@ -1,4 +1,3 @@
-use Rattle.std.proofs.Common.{◌∙◌}
 use Rattle.life_base.specs.declared.cell.TheConstants.{MAX_LEVEL}
 use Rattle.life_forms.specs.Images.{IsTurnedText}
 use Rattle.pattern_sources.specs.Forms.{IsMovedText}
@@ -10,28 +9,25 @@ returns-in-Placed-clause-text c = rw c.in-Placed.is (placed_text c.patterns_fit.
 
 pub returns-in-Moved-clause-text : goal.returns-in-Moved-clause-text
 returns-in-Moved-clause-text c =
-    rw c.in-Moved.is (said_text c.patterns_fit.ensures _ _ c.files_are_unique.ensures (IsMovedText MAX_LEVEL)
-    (λ text. text.items) c.moved_text-text.result c.moved_text-text.ensures.text c.moved_text-text.ensures.few)
+    rw c.in-Moved.is (said_text c.patterns_fit.ensures _ _ (IsMovedText MAX_LEVEL) (λ text. text.items) c.moved_text.result c.moved_text.ensures.text)
 
 pub returns-in-Moved-clause-fault : goal.returns-in-Moved-clause-fault
 returns-in-Moved-clause-fault c =
-    rw c.in-Moved.is (unmoved c.patterns_fit.ensures _ _ c.moved_text-text.new.store c.moved_text-text.result
-    (c.moved_text-text.ensures.keeps.limit ∙ c.requires.limit) c.len.ensures.distinct (λ t there. (c.len.ensures.only t there).0)
-    c.moved_text-text.ensures.adds c.moved_text-text.ensures.fault c.moved_text-text.ensures.needed)
+    rw c.in-Moved.is (unmoved c.patterns_fit.ensures _ _ c.moved_text.result c.requires.limit c.moved_text.ensures.fault)
 
 pub returns-in-Turned-clause-text : goal.returns-in-Turned-clause-text
 returns-in-Turned-clause-text c =
-    rw c.in-Turned.is (said_text c.patterns_fit.ensures _ _ c.files_are_unique.ensures (IsTurnedText MAX_LEVEL)
-    (λ text. text.items) c.turned_text.result c.turned_text.ensures.text c.turned_text.ensures.few)
+    rw c.in-Turned.is (said_text c.patterns_fit.ensures _ _ (IsTurnedText MAX_LEVEL) (λ text. text.items) c.turned_text.result c.turned_text.ensures.text)
 
 pub returns-in-Turned-clause-fault : goal.returns-in-Turned-clause-fault
-returns-in-Turned-clause-fault c = rw c.in-Turned.is (unturned c.patterns_fit.ensures _ _ c.turned_text.result c.turned_text.ensures.fault)
+returns-in-Turned-clause-fault c =
+    rw c.in-Turned.is (unturned c.patterns_fit.ensures _ _ c.turned_text.result c.requires.limit c.turned_text.ensures.fault)
 
 pub text_of-requires : goal.text_of-requires
 text_of-requires c = (c.patterns_fit.ensures c.requires.read.0 c.args.store.now c.args.pattern.now c.requires.read.1).0
 
-pub moved_text-text-requires : goal.moved_text-text-requires
-moved_text-text-requires c = (c.patterns_fit.ensures c.requires.read.0 c.args.store.now c.args.pattern.now c.requires.read.1).0
+pub moved_text-requires : goal.moved_text-requires
+moved_text-requires c = (c.patterns_fit.ensures c.requires.read.0 c.args.store.now c.args.pattern.now c.requires.read.1).0
 
 pub turned_text-requires : goal.turned_text-requires
 turned_text-requires c = (c.patterns_fit.ensures c.requires.read.0 c.args.store.now c.args.pattern.now c.requires.read.1).0

@@ -23,5 +23,5 @@ pub returns : goal.returns
 returns g c =
     comes_of_pattern _ (IsTextIn c.args.form MAX_LEVEL) (RefusesInForm c.args.form) _ c.pattern_of.new.store c.in_ok-pattern.pattern c.text_in.result
     c.in_ok-pattern.ensures.reads.pattern c.in_ok-pattern.ensures.reads.works c.text_in.ensures.text
-    (refused_text c.args.form _ _ c.pattern_of.new.store c.in_ok-pattern.pattern c.text_in.result c.seeded-store.ensures.stored c.in_ok-pattern.ensures.only
+    (refused_text c.args.form _ _ c.pattern_of.new.store c.in_ok-pattern.pattern c.text_in.result c.in_ok-pattern.ensures.only
     c.text_in.ensures.fault)
