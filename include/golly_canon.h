@@ -124,8 +124,8 @@ enum {
  * text, a key or a comparison only if no more than the limit are needed to read the files. So a call on files in which each cell is 0 never returns Full.
  *
  * A limit of `14 * length + 264` suffices to read a file. For two files take the sum of both; for a stream `length` is the number of all bytes that are
- * fed. That is proved too: with this limit, canon, to_rle, show, same, and the calls with a form other than moved, never return Full. No such number
- * is known for the next generation and for the form moved, which need further squares. A limit above 2^62 counts as 2^62; but beyond some 2^32
+ * fed. That is proved too: with this limit, canon, to_rle, show, same, and the calls with the form placed, never return Full. No such number is known for
+ * the next generation, which needs further squares, and for the forms moved and turned. A limit above 2^62 counts as 2^62; but beyond some 2^32
  * squares the answer is Memory, whatever the limit. As measured, a square takes 32 to 39 bytes of the store, or less if it has at most 4 x 4 cells of the
  * states 0 and 1.
  *
@@ -176,9 +176,9 @@ uint32_t golly_canon_same(const unsigned char *first, size_t first_length,
 
 /* The canonical text of the pattern of a file in a form. Two files have the same text exactly if they have the same rule and generation, and the cells
  * of one are those of the other: as they lie (placed: the text of golly_canon_canon), shifted (moved), or turned or reflected and then shifted
- * (turned). For moved and turned the call returns TooManyCells if more than 2^20 cells aren't 0. The moved pattern is stored in the same store, and counts
- * against the limit. The eight images have stores of their own, which only memory limits. For a number of no form the call returns NoForm, with 0 in
- * `*needed` and `*line`.
+ * (turned). The moved pattern has a store of its own, and so has each of the eight of the form turned; each of these stores may hold as many squares as the
+ * limit says, and at most 2^21. If one of them is too small, the call returns Full. For a number of no form the call returns NoForm, with 0 in `*needed` and
+ * `*line`.
  * The caller guarantees what golly_canon_canon names: `out` was written before, and neither `needed` nor `line` is NULL. */
 uint32_t golly_canon_canon_form(const unsigned char *bytes, size_t length, uint32_t form, uint64_t limit, uint64_t seed,
                                 unsigned char *out, size_t room, size_t *needed, uint64_t *line);
@@ -190,8 +190,8 @@ uint32_t golly_canon_key(const unsigned char *bytes, size_t length, uint32_t for
                          unsigned char *out, size_t room, size_t *needed, uint64_t *line);
 
 /* Whether two files have the same text in a form: `*is_same` is 1 or 0, and 0 if the status isn't GOLLY_CANON_OK. The fault is that of the first file
- * if that is refused, and otherwise that of the second one. If both are accepted and the form is moved or turned, the call returns TooManyCells if more than
- * 2^20 cells of one of them aren't 0; but for the form turned, files of different generations are different, however many cells they have. For a number of no
+ * if that is refused, and otherwise that of the second one. If both are accepted, the call returns Full if the form of one of them has too many squares, as
+ * golly_canon_canon_form does; but for the form turned, files of different generations are different, whatever their forms. For a number of no
  * form the call returns NoForm, with 0 in `*line`.
  * The caller guarantees what golly_canon_same names: NULL is allowed for neither `is_same` nor `line`. */
 uint32_t golly_canon_same_form(const unsigned char *first, size_t first_length,

@@ -383,8 +383,8 @@ def _streamed(source: Union[BinaryIO, Iterable[Bytes]], gives: str, form: Form, 
 
 
 def canon(data: Bytes, form: Form = "placed", *, limit: int = SQUARES) -> bytes:
-    """The canonical text of the pattern of a file, in a form. Raises `Refused`, also of a pattern with more than 2^20 cells that aren't 0 (`TooManyCells`),
-    unless the form is `placed`."""
+    """The canonical text of the pattern of a file, in a form. Raises `Refused`, also of a pattern whose form has more than 2^21 different squares
+    (`Full`), unless the form is `placed`."""
     return _streamed([data], "canon", form, limit, 3)
 
 

@@ -5,7 +5,7 @@ export type Data = string | ArrayBuffer | ArrayBufferView;
 
 /**
  * A form of a pattern: the pattern where it lies; wherever it lies; or also however it is turned or reflected. Rule and generation count in each. The
- * last two are for patterns of up to 2^20 cells that aren't 0.
+ * last two may have up to 2^21 different squares.
  */
 export type Form = "placed" | "moved" | "turned";
 

@@ -445,8 +445,8 @@ function rowOf(file, group) {
 /** Why a file has no key in a form, in words. */
 function whyNoKey(file, which) {
   const kind = file.lacking?.[which];
-  return kind === undefined ? "It isn't computed yet, or was stopped." : kind === "TooManyCells"
-    ? `There is none for a pattern of more than ${powerOf(20)} cells.` : `There is none: ${kind}. ${sentenceOf(kind)}`;
+  return kind === undefined ? "It isn't computed yet, or was stopped." : kind === "Full"
+    ? `There is none, because the moved pattern has more than ${powerOf(21)} different squares.` : `There is none: ${kind}. ${sentenceOf(kind)}`;
 }
 
 /** The list as a table with commas: a line for each file, those of one pattern with one number, and its key in the form that is shown. */

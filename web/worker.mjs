@@ -7,8 +7,6 @@ import { treeOf } from "./tree.mjs";
 
 /** The most different squares: a store of so many takes some 2.5 GB. */
 const LIMIT = 2 ** 26;
-/** The most cells that aren't 0 of a pattern that is moved, turned or written as RLE. */
-const MOST_CELLS = 2n ** 20n;
 let golly = null;
 
 /** The text of the file that was read last, where its other keys are lacking. */
@@ -29,9 +27,6 @@ function otherKeys(text) {
   }
   return { keys, lacking };
 }
-
-/** Why a pattern of too many cells has no other keys. */
-const TOO_MANY = Object.fromEntries(FORMS.slice(1).map(form => [form, "TooManyCells"]));
 
 /** The chunks of a file, which `watch` sees too. */
 async function* watched(chunks, watch) {
@@ -66,9 +61,8 @@ const acts = {
       throw why;
     }
     const found = isShown ? opened(text) : { summary: golly.show(text, { limit: LIMIT }) };
-    const hasForms = found.summary.population <= MOST_CELLS;
-    last = isShown && hasForms ? text.slice() : null;
-    const others = !hasForms ? { keys: {}, lacking: TOO_MANY } : isShown ? { keys: {}, lacking: {} } : otherKeys(text);
+    last = isShown ? text.slice() : null;
+    const others = isShown ? { keys: {}, lacking: {} } : otherKeys(text);
     const keys = { placed: sha256(text), ...others.keys };
     return { ...found, keys, lacking: others.lacking, warning: watch.warning, lacksKeys: last !== null };
   },

@@ -72,15 +72,15 @@ STEPPED = {
 }
 
 # Files with their least limits for a moved text, and for a comparison with the first of them, moved, counted with the squares of the independent reader:
-# of each file what reading it takes; then the square of the moved plane that begins at (0, 0) and has the level of the file's root, with its parts, or
-# those of the whole moved plane where the root is the whole plane; and the root of the moved pattern.
+# of each file what reading it takes, or, if that is more, the root of its moved pattern with its parts, because a form has a store of its own; of two
+# files what reading both takes, because their forms have no more.
 MOVED = {
     "a glider": (small_files.LIFE_FILES["a glider"], 66, 66),
-    "a glider far away": (b"#CXRLE Pos=-12345,777\nx = 3, y = 3\nbo$2bo$3o!\n", 85, 132),
-    "the example glider.mc": (small_files.LIFE_FILES["the example glider.mc"], 11, 70),
+    "a glider far away": (b"#CXRLE Pos=-12345,777\nx = 3, y = 3\nbo$2bo$3o!\n", 67, 132),
+    "the example glider.mc": (small_files.LIFE_FILES["the example glider.mc"], 6, 70),
     "a blank plane": (b"x = 0, y = 0, rule = 23/3\n!\n", 0, 66),
-    "two states at the corner": (small_files.NAMED_FILES["two states at the corner"][0], 125, 191),
-    "cells at the ends of the plane": (b"#CXRLE Pos=-2305843009213693952,777\nx = 1, y = 1\no4611686018427387902bo!\n", 246, 309),
+    "two states at the corner": (small_files.NAMED_FILES["two states at the corner"][0], 124, 190),
+    "cells at the ends of the plane": (b"#CXRLE Pos=-2305843009213693952,777\nx = 1, y = 1\no4611686018427387902bo!\n", 123, 188),
     "no header": (b"o!\n", 0, 66),
 }
 

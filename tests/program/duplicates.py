@@ -91,7 +91,7 @@ def worked_rows(place):
 
 def refused_rows(place):
     for names in ([b"absent"], [b"child.mc"], [b"glider", b"absent", b"shifted"], [b"child.mc", b"glider", b"glider"], [b"absent", b"child.mc"],
-                  [b"empty", b"empty"], [b"many.rle", b"many.rle"]):
+                  [b"empty", b"empty"]):
         place.row(f"files without a key: {b' '.join(names).decode()}", names, place.wanted(names))
     place.row("a folder without -r", [".", "glider"], Answer(3, b"", b".: is a folder\n"))
     place.row("standard input", ["-", "glider"], answer_of([(b"-", outcome_of(SMALL[b"shifted"], "moved")), (b"glider", outcome_of(SMALL[b"glider"], "moved"))]),
@@ -189,7 +189,7 @@ def random_rows(place, seed, count):
 
 def many_rows(place, measured):
     """A list of many names of few files, and what it takes."""
-    names = [name for name in SMALL if name not in (b"long", b"many.rle")]
+    names = [name for name in SMALL if name != b"long"]
     few = [names[number % len(names)] for number in range(NAMES)]
     answer = place.wanted(few)
     place.put(b"list", listed(few))

@@ -196,13 +196,12 @@ SMALL = {
     b"empty": FILES["empty"],
     b"bad.rle": FILES["bad.rle"],
     b"child.mc": b"[M2]\n#R B3/S23\n....*$$$$$$$$\n4 0 0 0 9\n",
-    b"many.rle": HEADER + b"%do!\n" % (2**20 + 1),  # more cells than have a moved form
     b"long": b"[M2]\n#" + b"C" * LONGEST + b"\n",
     b"glider": b"x = 3, y = 3\nbo$2bo$3o!\n",
     b"turned": b"#CXRLE Pos=-70,5\nx = 3, y = 3\n3o$o$bo!\n",
     b"shifted": b"#CXRLE Pos=-7,1000\r\nx = 3, y = 3, rule = 23/3\r\nbo$2bo$3o!\r\n",
 }
-ORDER = b"pair.rle empty pair.mc absent child.mc glider pair.rle long blank many.rle turned shifted bad.rle".split()
+ORDER = b"pair.rle empty pair.mc absent child.mc glider pair.rle long blank turned shifted bad.rle".split()
 GLIDER = LIFE + b"$$$$.....*$......*$....***$$\n"
 WORKED = [
     ("placed", b"pair.rle", PAIR_TEXT),
@@ -230,7 +229,6 @@ REFUSED = [
     (b"loop", 3, b"loop: can't be opened\n"),
     (b"n" * 300, 3, b"n" * 300 + b": can't be opened\n"),
 ]
-TOO_MANY = b"many.rle: TooManyCells: More than 2^20 cells aren't 0: too many for convert --to rle, for step, and for the forms moved and turned.\n"
 
 
 def form_rows(place):
@@ -253,8 +251,6 @@ def refused_rows(place):
         place.row(f"{name[:20].decode()!r} is told", [name], Answer(status, b"", error))
         line = key_line(key_of(PAIR_TEXT), b"pair.rle")
         place.row(f"{name[:20].decode()!r} is passed over", ["pair.rle", name, "pair.rle"], Answer(status, line + line, error))
-    for form in ("moved", "turned"):
-        place.row(f"too many cells, {form}", ["many.rle", "--form", form], Answer(2, b"", TOO_MANY))
     for name, names in (("first", [b"absent", b"child.mc", b"pair.rle"]), ("last", [b"pair.rle", b"child.mc", b"absent"])):
         place.row(f"the greater status comes {name}", names, place.wanted(names)._replace(status=3))
     os.mkdir(os.path.join(place.here, "locked"), 0)
@@ -621,7 +617,7 @@ def random_rows(place, seed, count):
 
 def many_rows(place, measured):
     """A list of many names of few files, and what it takes."""
-    names = [name for name in SMALL if name not in (b"long", b"many.rle")]
+    names = [name for name in SMALL if name != b"long"]
     few = [names[number % len(names)] for number in range(NAMES)]
     answer = wanted([(name, SMALL[name]) for name in few])
     place.put(b"list", listed(few))

@@ -9,8 +9,8 @@ use std::alloc::Global;
 /// The canonical text of the moved form of a file.
 pub(crate) fn moved_text(alloc: Global, store: &mut Shared, file: &[u8]) -> Result<Vec<u8>, Fault> {
     let pattern = read(alloc, store, file)?;
-    let moved = moved_of(alloc, store, &pattern)?;
-    text_of(alloc, store, &moved)
+    let (form, moved) = moved_of(alloc, store, &pattern)?;
+    text_of(alloc, &form, &moved)
 }
 
 /// The canonical text of the turned form of a file.

@@ -149,7 +149,7 @@ fn advice(kind: Kind) -> &'static str {
         Kind::Timeline =>
             "Open the file in Golly, and save one of its patterns as a file of its own.",
         Kind::TooManyCells =>
-            "The commands canon and keys have no such limit where the form is placed.",
+            "The commands canon and keys have no such limit.",
         Kind::NeedsTable => "Name the rule table: golly_canon step --table NAME.rule FILE.",
         Kind::RuleMismatch => "Take the table of that name; for a B/S rule leave --table out.",
         Kind::NoRuleLine =>

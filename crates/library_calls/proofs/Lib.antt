@@ -1,7 +1,6 @@
 pub mod Numbered
 pub mod Answering
 pub mod Pointer
-pub mod Finding
 pub mod NeedFacts
 pub mod TextFacts
 pub mod StreamFacts

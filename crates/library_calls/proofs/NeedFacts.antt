@@ -22,74 +22,10 @@ use Rattle.life_canon.specs.Store.{IsRead}
 use Rattle.life_canon.specs.declared.pattern.Pattern.{Pattern}
 use Rattle.life_canon.proofs.RoomCount.{Found, find-file, find-lines}
 use Rattle.life_canon.proofs.RoomLists.{Among, among-contains, contains-among, distinct-pairs, pigeons}
-use Rattle.library_calls.specs.InForm.{SomeOfMoving, SomeToMove}
+pub use Rattle.life_forms.proofs.SizeFacts.{HoldsOnce, HoldsNeeded, no-square, all-cons, more-than-held, needs-more, within, longer, enough, from-empty}
 use Rattle.library_calls.specs.Outputs.{IsTooLowForFront, SomeOfFront}
 use Rattle.library_calls.specs.Texts.{Fits, IsTooLowFor, NeedsMore, SomeToRead, room_of}
 use Rattle.library_calls.proofs.Answering.{tight, tight-alone}
-
--- what `len` of a store says: it holds each square once, and none that is blank
-pub record HoldsOnce (store : Nodes) : Type 0 where
-  pub distinct : AllPairs ◌≢◌ (held store)
-  pub live : (t : Tree) → Contains (held store) t → is_blank_tree t ≡ false
-
--- all squares that a store holds are needed
-abbrev pub HoldsNeeded : ((Tree → Type 0) → Type 0) → Nodes → Type 0
-HoldsNeeded Needs store = (t : Tree) → Contains (held store) t → Needs (λ u. u ≡ t)
-
-no-square : {A : Type 0} (t : Tree) → Contains {X = Tree} [] t → A
-no-square t there = absurd (omega (arith, there.1))
-
--- ---- more than the limit
-
-all-cons : (P : Tree → Type 0) (t : Tree) (squares : List Tree) → P t → All P squares → All P (t ∷ squares)
-all-cons P t squares p all zero d lt = p
-all-cons P t squares p all (suc k) d lt = all k d (omega (arith, lt))
-
--- a store at its limit that holds needed squares alone and lacks one
-pub more-than-held : (Needs : (Tree → Type 0) → Type 0) (store : Nodes) → HoldsOnce store → HoldsNeeded Needs store → Found (IsNew store) Needs
-    → length (held store) ≡ store.limit → NeedsMore Needs store.limit
-more-than-held Needs store once needed lack full =
-    let squares = held store in
-    let new : All (λ u. lack.square ≢ u) squares = λ k d lt e.
-    lack.holds.1 (subst (Contains squares) (sym e) (All-contains_itself squares k d lt)) in
-    let Is = λ (t : Tree). (is_blank_tree t ≡ false) × Needs (λ u. u ≡ t) in
-    let one : (t : Tree) → Contains squares t → Is t = λ t there. (once.live t there, needed t there) in (
-      lack.square ∷ squares,
-      AllPairs-cons ◌≢◌ lack.square squares new once.distinct,
-      all-cons Is lack.square squares (lack.holds.0, lack.some) (λ k d lt. one _ (All-contains_itself squares k d lt)),
-      omega (arith, full),
-    )
-
--- what is needed is needed for more
-pub needs-more : (Needs Others : (Tree → Type 0) → Type 0) (most : ℕ) → ((P : Tree → Type 0) → Needs P → Others P) → NeedsMore Needs most
-    → NeedsMore Others most
-needs-more Needs Others most f more = (more.0, more.1, λ k d lt. let it = more.2 k d lt in (it.0, f _ it.1), more.3)
-
--- ---- no more than the limit
-
--- a store that has an Id is within its limit
-pub within : (store : Nodes) → IsShared store → length (held store) ≤ store.limit
-within store shared = let same = length-map store.log (λ k. content store (id_of k)) in let len = shared.len in omega (arith, same, len)
-
--- a list that has all that is needed is longer than what more is needed than
-pub longer : (Needs : (Tree → Type 0) → Type 0) (list : List Tree) (most : ℕ)
-    → ((t : Tree) → is_blank_tree t ≡ false → Needs (λ u. u ≡ t) → Contains list t) → NeedsMore Needs most → most < length list
-longer Needs list most all more =
-    let squares = more.0 in
-    let Is = λ (t : Tree). (is_blank_tree t ≡ false) × Needs (λ u. u ≡ t) in
-    let have : (x : Tree) → Among squares x → Among list x = λ x a.
-    let it : Is x = All-contains Is squares x more.2 (contains-among squares x a) in among-contains list x (all x it.0 it.1) in
-    let least = pigeons squares list (distinct-pairs squares more.1) have in
-    let over = more.3 in
-    omega (arith, least, over)
-
--- all that is needed is held
-pub enough : (Needs : (Tree → Type 0) → Type 0) (store : Nodes) → IsShared store
-    → ((t : Tree) → is_blank_tree t ≡ false → Needs (λ u. u ≡ t) → Contains (held store) t) → ¬ NeedsMore Needs store.limit
-enough Needs store shared all more =
-    let long = longer Needs (held store) store.limit all more in
-    let most = within store shared in
-    omega (arith, long, most)
 
 -- ---- the bound by the bytes
 
@@ -101,39 +37,7 @@ below-room few bytes most more =
     let short = squares.1 in
     omega (arith, long, short)
 
--- squares that are needed to read a file or to move its pattern are all needed to read it, or one is needed to move it
-read-or-moved : (bytes : List ℕ) (squares : List Tree) → All (λ t. (is_blank_tree t ≡ false) × SomeToMove bytes (λ u. u ≡ t)) squares
-    → All (λ t. (is_blank_tree t ≡ false) × SomeToRead bytes (λ u. u ≡ t)) squares ⊎ ((t : Tree) × SomeOfMoving bytes (λ u. u ≡ t))
-read-or-moved bytes [] all = inl (λ k d lt. absurd (omega (arith, lt)))
-read-or-moved bytes (t ∷ rest) all =
-    let Reads = λ (u : Tree). (is_blank_tree u ≡ false) × SomeToRead bytes (λ v. v ≡ u) in
-    let first = all zero t (omega arith) in
-    elim first.1 [
-      | inr moving ↦ inr (t, moving)
-      | inl reading ↦
-          elim (read-or-moved bytes rest (λ k d lt. all (suc k) d (omega (arith, lt)))) [
-            | inl more ↦ inl (all-cons Reads t rest (first.0, reading) more)
-            | inr moving ↦ inr moving
-          ]
-    ]
-
--- Where more squares are needed to read a file and to move its pattern than the limit, the limit is below the bound by the bytes, or a square is
--- needed to move the pattern, and those are bounded by no length of a file.
-pub below-room-or-moved : FewSquares → (bytes : List ℕ) (most : ℕ) → NeedsMore (SomeToMove bytes) most
-    → (most < room_for (length bytes)) ⊎ ((t : Tree) × SomeOfMoving bytes (λ u. u ≡ t))
-below-room-or-moved few bytes most more = elim (read-or-moved bytes more.0 more.2) [
-  | inl reads ↦ inl (below-room few bytes most (more.0, more.1, reads, more.3))
-  | inr moving ↦ inr moving
-]
-
 -- ---- what a store holds
-
--- a store that was empty holds what calls added
-pub from-empty : (Needs : (Tree → Type 0) → Type 0) (old new : Nodes) → held old ≡ [] → AddsOnly held Needs old new → HoldsNeeded Needs new
-from-empty Needs old new empty adds t there = elim (adds.each t there) [
-  | inl before ↦ no-square t (subst (λ (squares : List Tree). Contains squares t) empty before)
-  | inr it ↦ it
-]
 
 -- one that held needed squares alone
 pub from-needed : (Before Added Needs : (Tree → Type 0) → Type 0) (old new : Nodes) → ((P : Tree → Type 0) → Before P → Needs P)

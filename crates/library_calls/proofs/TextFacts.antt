@@ -25,7 +25,7 @@ use Rattle.life_table.specs.declared.table.Table.{Table}
 use Rattle.life_step.specs.Refusals.{LacksForLife, LacksForTable, LifeRefusal, SomeByRule, SomeByTable, SomeOfStep, SomeOfStepBy, TableRefusal}
 use Rattle.library_calls.specs.Texts.{IsCanonicalText, IsTooLowFor, NeedsMore, SomeToRead, room_of}
 use Rattle.library_calls.specs.Outputs.{IsTextOf, IsTextOfRead, RefusesTextOf, RefusesTextOfRead, text_in}
-use Rattle.library_calls.specs.InForm.{IsTextInForm, RefusesInForm, SomeToMove}
+use Rattle.library_calls.specs.InForm.{IsTextInForm, RefusesInForm}
 use Rattle.library_calls.specs.Stepping.{RefusesStepByWithin}
 use Rattle.library_calls.specs.Told.{Told, Answers}
 use Rattle.library_calls.specs.declared.texts.Output.{Output}
@@ -83,9 +83,7 @@ text-fault Next limit bytes store fault is (inr want) low =
     inr (inl (wanted (NeedsMore (λ P. SomeOfStep P bytes)) limit store fault is want (λ full at. needs-more (SomeToRead bytes) (λ P. SomeOfStep P bytes) _
     (λ P s. inl s) (low full at).0)))
 text-fault Moved limit bytes store fault is (inl refuses) low = inl (inl refuses)
-text-fault Moved limit bytes store fault is (inr want) low =
-    inl (inr (wanted (NeedsMore (SomeToMove bytes)) limit store fault is want (λ full at. needs-more (SomeToRead bytes) (SomeToMove bytes) _ (λ P s. inl s)
-    (low full at).0)))
+text-fault Moved limit bytes store fault is (inr want) low = inl (inr (wanted (IsTooLowFor bytes) limit store fault is want low))
 text-fault Turned limit bytes store fault is (inl refuses) low = inl (inl refuses)
 text-fault Turned limit bytes store fault is (inr want) low = inl (inr (wanted (IsTooLowFor bytes) limit store fault is want low))
 

@@ -1,18 +1,15 @@
 -- What the comparison of two files in a form tells.
-use Rattle.std.specs.Prelude.{◌≡◌, ◌⊎◌, ◌^◌, ℕ, List}
+use Rattle.std.specs.Prelude.{◌≡◌, ◌⊎◌, ℕ, List}
 use Rattle.life_base.specs.Kinds.{kind_number}
 use Rattle.life_base.specs.Refusal.{fault_of}
-use Rattle.life_base.specs.Tree.{Tree}
 use Rattle.life_base.specs.declared.cell.TheConstants.{MAX_LEVEL}
 use Rattle.life_base.specs.declared.fault.Fault.{Fault}
-use Rattle.life_base.specs.declared.kind.Kind.TheVariants.{TooManyCells}
-use Rattle.life_canon.specs.Files.{Accepted, Reads, Refuses, Same}
-use Rattle.life_canon.specs.Texts.{HasMoreCells}
+use Rattle.life_base.specs.declared.kind.Kind.TheVariants.{Full}
+use Rattle.life_canon.specs.Files.{Accepted, Reads, Same}
 use Rattle.life_canon.specs.Universe.{Universe}
 use Rattle.life_forms.specs.Forms.{IsShift, IsTurnedShift}
-use Rattle.library_calls.specs.Texts.{NeedsMore, SomeToRead, Wants}
 use Rattle.library_calls.specs.Comparing.{Compared, RefusesEither}
-use Rattle.library_calls.specs.InForm.{SomeToMove}
+use Rattle.library_calls.specs.InForm.{form_room, HasLargeForm}
 use Rattle.library_calls.specs.declared.pattern_form.PatternForm.{PatternForm}
 use Rattle.library_calls.specs.declared.pattern_form.PatternForm.TheVariants.{Placed, Moved, Turned}
 
@@ -34,37 +31,25 @@ AreOneInForm Turned = SayRelated IsTurnedShift
 abbrev pub AreOfOneGeneration : Universe → Universe → Type 0
 AreOfOneGeneration u v = u.generation ≡ v.generation
 
--- the first file has more than 2^20 cells that aren't 0, or the second
-abbrev pub EitherHasMany : List ℕ → List ℕ → Type 0
-EitherHasMany first second = HasMoreCells MAX_LEVEL first (2 ^ 20) ⊎ HasMoreCells MAX_LEVEL second (2 ^ 20)
-
--- both are files, turned of one generation, and one of them has too many cells for this form
-abbrev pub HasTooMany : PatternForm → List ℕ → List ℕ → Type 0
-HasTooMany Placed first second = ⊥
-HasTooMany Moved first second = Accepted MAX_LEVEL first × Accepted MAX_LEVEL second × EitherHasMany first second
-HasTooMany Turned first second = SayRelated AreOfOneGeneration first second × EitherHasMany first second
-
--- a square that is needed to read one of the two files, or to move its pattern, has a property
-abbrev pub SomeToMoveBoth : List ℕ → List ℕ → (Tree → Type 0) → Type 0
-SomeToMoveBoth first second P = SomeToMove first P ⊎ SomeToMove second P
-
--- the limit is too low to read the first file, or, where that is a file, to read and move both
-abbrev pub IsTooLowToMoveBoth : List ℕ → List ℕ → ℕ → Type 0
-IsTooLowToMoveBoth first second most =
-    NeedsMore (SomeToRead first) most ⊎ (Accepted MAX_LEVEL first × NeedsMore (SomeToMoveBoth first second) most)
+-- both are files, turned of one generation, and one of them has a form with more different squares than this
+abbrev pub HasTooLarge : PatternForm → ℕ → List ℕ → List ℕ → Type 0
+HasTooLarge Placed most first second = ⊥
+HasTooLarge Moved most first second =
+    Accepted MAX_LEVEL first × Accepted MAX_LEVEL second × (HasLargeForm Moved most first ⊎ HasLargeForm Moved most second)
+HasTooLarge Turned most first second =
+    SayRelated AreOfOneGeneration first second × (HasLargeForm Turned most first ⊎ HasLargeForm Turned most second)
 
 -- why two files aren't compared in this form
 abbrev pub RefusesEitherInForm : PatternForm → ℕ → List ℕ → List ℕ → Fault → Type 0
 RefusesEitherInForm Placed limit first second fault = RefusesEither limit first second fault
 RefusesEitherInForm Moved limit first second fault =
-    Refuses MAX_LEVEL first fault ⊎ (Accepted MAX_LEVEL first × Refuses MAX_LEVEL second fault)
-    ⊎ Wants (IsTooLowToMoveBoth first second) limit fault ⊎ ((fault ≡ fault_of TooManyCells) × HasTooMany Moved first second)
+    RefusesEither limit first second fault ⊎ ((fault ≡ fault_of Full) × HasTooLarge Moved (form_room limit) first second)
 RefusesEitherInForm Turned limit first second fault =
-    RefusesEither limit first second fault ⊎ ((fault ≡ fault_of TooManyCells) × HasTooMany Turned first second)
+    RefusesEither limit first second fault ⊎ ((fault ≡ fault_of Full) × HasTooLarge Turned (form_room limit) first second)
 
--- both are files of not too many cells, and the answer is told, 1 or 0; or the fault that keeps it from being found
+-- both are files, and the answer is told, 1 or 0; or the fault that keeps it from being found
 pub data ComparesInForm (form : PatternForm) (limit : ℕ) (first second : List ℕ) (told : Compared) : Type 0 where
-  by_answer : told.status ≡ 0 → told.line ≡ 0 → Accepted MAX_LEVEL first → Accepted MAX_LEVEL second → ¬ HasTooMany form first second
+  by_answer : told.status ≡ 0 → told.line ≡ 0 → Accepted MAX_LEVEL first → Accepted MAX_LEVEL second
       → ((told.is_same ≡ 1) × AreOneInForm form first second) ⊎ ((told.is_same ≡ 0) × (¬ AreOneInForm form first second))
       → ComparesInForm form limit first second told
   by_fault : (fault : Fault) → told.status ≡ kind_number fault.kind → told.line ≡ fault.place.line → told.is_same ≡ 0

@@ -1,20 +1,19 @@
 -- The text of a pattern in a form, its key, and why there is none.
-use Rattle.std.specs.Prelude.{◌≡◌, ◌⊎◌, ◌==◌, ◌^◌, ℕ, List, Option, Some, None, MatchOption, if◌then◌else◌}
+use Rattle.std.specs.Prelude.{◌≡◌, ◌⊎◌, ◌==◌, ◌^◌, ℕ, min, List, Option, Some, None, MatchOption, if◌then◌else◌}
 use Rattle.sha2.specs.Sha256.{sha256}
 use Rattle.life_base.specs.Refusal.{fault_of}
-use Rattle.life_base.specs.Tree.{Tree}
 use Rattle.life_base.specs.declared.cell.TheConstants.{MAX_LEVEL}
 use Rattle.life_base.specs.declared.fault.Fault.{Fault}
-use Rattle.life_base.specs.declared.kind.Kind.TheVariants.{TooManyCells}
-use Rattle.life_canon.specs.Files.{Reads, Refuses}
+use Rattle.life_base.specs.declared.kind.Kind.TheVariants.{Full}
+use Rattle.life_canon.specs.Files.{Reads}
 use Rattle.life_canon.specs.Listing.{canon_text}
-use Rattle.life_canon.specs.Texts.{HasMoreCells}
 use Rattle.life_canon.specs.Universe.{Universe}
 use Rattle.life_forms.specs.Forms.{IsMoved}
 use Rattle.life_forms.specs.Images.{IsTurnedText}
-use Rattle.life_forms.specs.Needed.{HasFewCells, SomeOfMovedForm}
+use Rattle.life_forms.specs.Needed.{HasLargerForm}
+use Rattle.life_forms.specs.Turns.{Turn, image}
 use Rattle.library_calls.specs.Told.{Told, Answers}
-use Rattle.library_calls.specs.Texts.{IsCanonicalText, NeedsMore, RefusesWithin, RefusesRleWithin, SomeToRead, Wants}
+use Rattle.library_calls.specs.Texts.{IsCanonicalText, RefusesWithin, room_of}
 use Rattle.library_calls.specs.declared.pattern_form.PatternForm.{PatternForm}
 use Rattle.library_calls.specs.declared.pattern_form.PatternForm.TheVariants.{Placed, Moved, Turned}
 
@@ -26,7 +25,6 @@ form_numbered number = if number == 0 then Some Placed else (if number == 1 then
 pub record IsTextMoved (bytes text : List ℕ) : Type 0 where
   pub universe : Universe
   pub reads : Reads MAX_LEVEL bytes universe
-  pub few : HasFewCells universe.cell
   pub form : Universe
   pub moved : IsMoved MAX_LEVEL universe form
   pub is : text ≡ canon_text MAX_LEVEL form
@@ -35,7 +33,6 @@ pub record IsTextMoved (bytes text : List ℕ) : Type 0 where
 pub record IsTextTurned (bytes text : List ℕ) : Type 0 where
   pub universe : Universe
   pub reads : Reads MAX_LEVEL bytes universe
-  pub few : HasFewCells universe.cell
   pub turned : IsTurnedText MAX_LEVEL universe text
 
 -- the text is the canonical text of the bytes' pattern in this form
@@ -48,21 +45,21 @@ IsTextInForm Turned = IsTextTurned
 abbrev pub IsKeyInForm : PatternForm → List ℕ → List ℕ → Type 0
 IsKeyInForm form bytes key = (text : List ℕ) × IsTextInForm form bytes text × (key ≡ sha256 text)
 
--- a square that is needed to move the pattern of the file has a property: those are bounded by no length of a file
-abbrev pub SomeOfMoving : List ℕ → (Tree → Type 0) → Type 0
-SomeOfMoving bytes P = (u : Universe) × Reads MAX_LEVEL bytes u × SomeOfMovedForm P u
+-- how many different squares a form has at most, by the limit that is asked for
+abbrev pub form_room : ℕ → ℕ
+form_room limit = min (2 ^ 21) (room_of limit)
 
--- so has one that is needed to read the file or to move its pattern
-abbrev pub SomeToMove : List ℕ → (Tree → Type 0) → Type 0
-SomeToMove bytes P = SomeToRead bytes P ⊎ SomeOfMoving bytes P
+-- the bytes are a file, and the moved form of its pattern has more different squares than this; turned, that of one of its eight images
+abbrev pub HasLargeForm : PatternForm → ℕ → List ℕ → Type 0
+HasLargeForm Placed most bytes = ⊥
+HasLargeForm Moved most bytes = (u : Universe) × Reads MAX_LEVEL bytes u × HasLargerForm most u
+HasLargeForm Turned most bytes = (u : Universe) × Reads MAX_LEVEL bytes u × ((turn : Turn) × HasLargerForm most (image turn u))
 
 -- why the bytes have no text in this form, within a limit of the store
 abbrev pub RefusesInForm : PatternForm → ℕ → List ℕ → Fault → Type 0
 RefusesInForm Placed limit bytes fault = RefusesWithin limit bytes fault
-RefusesInForm Moved limit bytes fault =
-    (Refuses MAX_LEVEL bytes fault ⊎ Wants (NeedsMore (SomeToMove bytes)) limit fault)
-    ⊎ ((fault ≡ fault_of TooManyCells) × HasMoreCells MAX_LEVEL bytes (2 ^ 20))
-RefusesInForm Turned limit bytes fault = RefusesRleWithin limit bytes fault
+RefusesInForm Moved limit bytes fault = RefusesWithin limit bytes fault ⊎ ((fault ≡ fault_of Full) × HasLargeForm Moved (form_room limit) bytes)
+RefusesInForm Turned limit bytes fault = RefusesWithin limit bytes fault ⊎ ((fault ≡ fault_of Full) × HasLargeForm Turned (form_room limit) bytes)
 
 -- no form has the number, which is told, and no byte was written
 pub record TellsNoForm (before after : List ℕ) (it : Told) : Type 0 where

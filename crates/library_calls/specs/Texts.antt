@@ -1,8 +1,8 @@
 -- The texts that the calls on whole files give, and why they refuse.
-use Rattle.std.specs.Prelude.{◌≡◌, ◌≢◌, ◌⊎◌, ◌<◌, ◌^◌, ℕ, false, List, [], length, min, All, AllPairs}
+use Rattle.std.specs.Prelude.{◌≡◌, ◌⊎◌, ◌<◌, ◌^◌, ℕ, List, [], length, min}
 use Rattle.life_base.specs.Refusal.{OrMemory, fault_of}
 use Rattle.life_base.specs.Text.{lines_of}
-use Rattle.life_base.specs.Tree.{Tree, is_blank_tree}
+use Rattle.life_base.specs.Tree.{Tree}
 use Rattle.life_base.specs.declared.cell.TheConstants.{MAX_LEVEL}
 use Rattle.life_base.specs.declared.fault.Fault.{Fault}
 use Rattle.life_base.specs.declared.kind.Kind.TheVariants.{Full, TooManyCells}
@@ -12,6 +12,7 @@ use Rattle.life_canon.specs.Least.{IsLeastText}
 use Rattle.life_canon.specs.Needs.{SomeOfFile}
 use Rattle.life_canon.specs.Room.{room_for}
 use Rattle.life_canon.specs.Texts.{IsCanonical, IsRleOf, HasMoreCells}
+pub use Rattle.life_forms.specs.Needed.{NeedsMore}
 use Rattle.library_calls.specs.Told.{Told}
 
 -- how many squares the store of a call holds at most, by the limit that is asked for
@@ -22,11 +23,6 @@ room_of limit = min limit (2 ^ 62)
 pub record IsFresh (limit : ℕ) (store : Nodes) : Type 0 where
   pub empty : held store ≡ []
   pub most : store.limit ≡ room_of limit
-
--- More different squares are needed than this, and none of them is blank. `Needs` says of a property that a square which is needed has it.
-abbrev pub NeedsMore : ((Tree → Type 0) → Type 0) → ℕ → Type 0
-NeedsMore Needs most =
-    (squares : List Tree) × AllPairs ◌≢◌ squares × All (λ t. (is_blank_tree t ≡ false) × Needs (λ u. u ≡ t)) squares × (most < length squares)
 
 -- no more are needed than the limit
 abbrev pub Fits : ((Tree → Type 0) → Type 0) → ℕ → Type 0

@@ -1,7 +1,7 @@
 -- The words of the contracts of this crate.
 pub use Rattle.library_calls.specs.Texts.{Fits, IsCanonicalText, IsFresh, IsRleText, NeedsMore, RefusesRleWithin, RefusesWithin, room_of, SomeToRead, TellsText}
 pub use Rattle.library_calls.specs.Comparing.{compared, ComparesWithin, IsTooLowForBoth, SomeToReadBoth}
-pub use Rattle.library_calls.specs.ComparingInForm.{AreOneInForm, ComparesInForm, ComparesInNone, HasTooMany, RefusesEitherInForm}
+pub use Rattle.library_calls.specs.ComparingInForm.{AreOneInForm, ComparesInForm, ComparesInNone, RefusesEitherInForm}
 pub use Rattle.library_calls.specs.Outputs.{IsTextOf, IsTextOfRead, RefusesPiece, RefusesTextOf, RefusesTextOfRead, text_in}
 pub use Rattle.library_calls.specs.InForm.{form_numbered, IsKeyInForm, IsTextInForm, AnswersInForm}
 pub use Rattle.library_calls.specs.Stepping.{RefusesStepByWithin, RefusesStepWithin, StepsByTable}

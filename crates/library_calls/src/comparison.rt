@@ -1,7 +1,7 @@
 //! The call that compares two files in a form.
 
 ghost use Rattle.std.specs.Prelude.{◌≡◌, ◌↔◌, ◌⊎◌, ℕ, [], Err, IfOk, IfErr, OnOk, IsTrue, MatchOption};
-ghost use Rattle.library_calls.specs.Words.{fault_of, MAX_LEVEL, Full, held, Accepted, Refuses, IsRead, IsWant, IsFresh, AddsOnly, Fits, IsTooLowForBoth, NeedsMore, SomeToReadBoth, form_numbered, AreOneInForm, HasTooMany, RefusesEitherInForm, ComparesInForm, ComparesInNone};
+ghost use Rattle.library_calls.specs.Words.{fault_of, MAX_LEVEL, Full, held, Accepted, Refuses, IsRead, IsWant, IsFresh, AddsOnly, Fits, IsTooLowForBoth, NeedsMore, SomeToReadBoth, form_numbered, AreOneInForm, RefusesEitherInForm, ComparesInForm, ComparesInNone};
 
 use crate::compared::Compared;
 use crate::in_form::{NO_FORM, form_of};
@@ -62,7 +62,6 @@ fn are_one(
     ensures accepted { OnOk result (Accepted MAX_LEVEL first.now × Accepted MAX_LEVEL second.now) }
     ensures answer { IfOk result
         (λ answer. IsTrue answer ↔ AreOneInForm form first.now second.now) }
-    ensures few { OnOk result (¬ HasTooMany form first.now second.now) }
     ensures fits { OnOk result ((limit : ℕ) → IsFresh limit store.old
         → Fits (SomeToReadBoth first.now second.now) limit) }
     ensures fault { IfErr result (λ fault. (limit : ℕ) → IsFresh limit store.old
@@ -75,12 +74,7 @@ fn are_one(
     let (a, b) = read_both(alloc, store, first, second)?;
     match form {
         PatternForm::Placed => Ok(are_same(&a, &b)),
-        PatternForm::Moved => {
-            let answer = are_shifts(alloc, store, &a, &b);
-            // As in `read_both`.
-            let _ = store.len();
-            answer
-        }
+        PatternForm::Moved => are_shifts(alloc, store, &a, &b),
         PatternForm::Turned => are_turns(alloc, store, &a, &b),
     }
 }

@@ -59,11 +59,8 @@ pub(crate) fn text_of_read(
             text
         }
         Output::Moved => {
-            let found = moved_of(alloc, store, &pattern);
-            // As above.
-            let _ = store.len();
-            let moved = found?;
-            text_of(alloc, store, &moved)
+            let (form, moved) = moved_of(alloc, store, &pattern)?;
+            text_of(alloc, &form, &moved)
         }
         Output::Turned => turned_text(alloc, store, &pattern),
     }

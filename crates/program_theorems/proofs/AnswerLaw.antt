@@ -36,7 +36,7 @@ use Rattle.program_theorems.specs.Jobs.{HasSecond, WritesCanonical, IsOutcome, I
 use Rattle.program_theorems.specs.Forms.{SameIn, IsTextIn}
 use Rattle.program_theorems.specs.Layers.{LayersAgree}
 use Rattle.program_theorems.proofs.FormTexts.{moved_exact, turned_exact}
-use Rattle.program_theorems.proofs.FormLaw.{few_to, moved_text_is, own_moved, own_text_of, own_turned, same_in_from, same_in_to, texts_tell_in, turned_text_is}
+use Rattle.program_theorems.proofs.FormLaw.{moved_text_is, own_moved, own_text_of, own_turned, same_in_from, same_in_to, texts_tell_in, turned_text_is}
 
 -- ---- second files
 
@@ -93,11 +93,11 @@ text_in laws Placed file text h = canonical laws file text h
 text_in laws Moved file text h =
     let is = moved_text_is laws file text h in
     let p = files_agree file h.universe h.reads in
-    (is.0, canonical laws text text (own_moved laws file text h), is.1, (p.pattern, p.is, moved_exact laws file text h))
+    (is, canonical laws text text (own_moved laws file text h), (p.pattern, p.is, moved_exact laws file text h))
 text_in laws Turned file text h =
     let is = turned_text_is laws file text h in
     let p = files_agree file h.universe h.reads in
-    (is.0, canonical laws text text (own_turned laws file text h), is.1, (p.pattern, p.is, turned_exact laws file text h))
+    (is, canonical laws text text (own_turned laws file text h), (p.pattern, p.is, turned_exact laws file text h))
 
 answers : LayersAgree → (task : Task) (file second : List ℕ) (status : ℕ) (text : List ℕ) → Writes task file second status text
     → IsOutcome task file second status text
@@ -106,8 +106,7 @@ answers laws (tasks.Convert Rle) file second status text h =
     (h.0, same_to file text (laws.rle (2 ^ 20) file text h.1), rle_format file text h.1, few_cells file text h.1, rle_of_file file text h.1)
 answers laws (tasks.Convert Mc) file second status text h = (h.0, canonical laws file text h.1)
 answers laws (tasks.Same form) file second status text h =
-    let few = few_to laws.on_plane form file second h.0.0 h.1.0 h.0.1 h.1.1 h.2 in
-    (accepted_is_ok file h.0, accepted_is_ok second h.1, few, compares laws form file second status text h.0 h.1 h.3)
+    (accepted_is_ok file h.0, accepted_is_ok second h.1, compares laws form file second status text h.0 h.1 h.2)
 answers laws tasks.Show file second status text h =
     let told = canon_text 62 h.1.universe in
     let c : IsCanonical 62 file told = record { universe = h.1.universe; reads = h.1.reads; is = refl } in

@@ -1,30 +1,27 @@
 -- What files say in a form is what they say in the layer below.
-use Rattle.std.proofs.Common.{◌≡◌, ◌↔◌, ℕ, ◌^◌, List, Bool, true, false, refl, ap, ap₂, ◌∙◌, sym, subst, arith, ◌⊎◌, inl, inr}
+use Rattle.std.proofs.Common.{◌≡◌, ◌↔◌, ℕ, List, Bool, true, false, refl, ap, ap₂, ◌∙◌, sym, subst, arith}
 use Rattle.std.specs.Prelude.{ℤ, pos, negsuc, ◌+ℤ◌, if◌then◌else◌}
 use Rattle.life_base.specs.Rules.{IsRule}
 use Rattle.life_canon.specs.Files.{Reads, as_macrocell}
 use Rattle.life_canon.specs.Laws.{FilesAreOnPlane}
 use Rattle.life_canon.specs.Listing.{canon_text, canonical_file}
-use Rattle.life_canon.specs.Texts.{AreCellsOf, IsCanonical}
-use Rattle.life_canon.specs.Texts.{HasMoreCells as LayerMoreCells}
+use Rattle.life_canon.specs.Texts.{IsCanonical}
 use Rattle.life_canon.specs.Universe.{Universe, IsOnPlane, macrocell_universe}
 use Rattle.life_forms.specs.Forms.{IsShift as LayerShift, IsTurnedShift as LayerTurnedShift}
 use Rattle.life_forms.specs.Images.{IsTurnedText}
 use Rattle.life_forms.specs.Turns.{turn_of}
 use Rattle.life_quad.specs.declared.turning.Turn.{Turn}
 use Rattle.life_forms.specs.Turns as layer
-use Rattle.life_cli.specs.Forms.{AreOfOneGeneration, AreSameIn, SayRelated, HasTooMany as LayerTooMany}
+use Rattle.life_cli.specs.Forms.{AreSameIn, SayRelated}
 use Rattle.pattern_sources.specs.Forms.{IsMovedText, SaysText, IsTextIn as LayerTextIn}
 use Rattle.command_line.specs.declared.plans.Form.{Form}
 use Rattle.command_line.specs.declared.plans.Form.TheVariants.{Placed, Moved, Turned}
 use Rattle.claims.specs.Files.{pattern_of}
-use Rattle.claims.specs.Generation.{SaysMoreCells}
 use Rattle.claims.specs.Pattern.{Pattern}
 use Rattle.claims.proofs.RuleLaw.{rule_in}
 use Rattle.claims.proofs.RuleBack.{rules_are}
-use Rattle.theorems.proofs.CellsLaw.{says_more}
 use Rattle.theorems.proofs.FileLaw.{Agrees, files_agree, ok_of, same_from, same_to, texts_are_exact}
-use Rattle.program_theorems.specs.Forms.{AreRelated, HasTooMany, IsShift, IsTurnedShift, SameIn, mirrored, image}
+use Rattle.program_theorems.specs.Forms.{AreRelated, IsShift, IsTurnedShift, SameIn, mirrored, image}
 use Rattle.program_theorems.specs.Layers.{LayersAgree}
 
 -- ---- patterns
@@ -118,46 +115,6 @@ same_in_from on_plane Placed a b u v h l s = same_from on_plane a b u v h l s
 same_in_from on_plane Moved a b u v h l s = say_related u v h l (related_from on_plane shift_from a b u v h l s)
 same_in_from on_plane Turned a b u v h l s = say_related u v h l (related_from on_plane turned_from a b u v h l s)
 
--- a file that the layer finds to have few cells has not more
-few_in : (bytes : List ℕ) (u : Universe) → Reads 62 bytes u → ¬ LayerMoreCells 62 bytes (2 ^ 20) → SaysMoreCells (2 ^ 20) bytes → ⊥
-few_in bytes u reads few more =
-    let p = files_agree bytes u reads in
-    let e : more.0 ≡ p.pattern = ok_of (pattern_of bytes) more.0 p.pattern more.1 p.is in
-    let cells : more.0.cell ≡ u.cell = λ i x y. (ap (λ (r : Pattern). r.cell x y) e ∙ p.cells x y) i in
-    let list = more.2 in
-    let are : AreCellsOf more.0.cell list.0 =
-    record { in_order = list.1.in_order; true_cells = list.1.true_cells; all_cells = list.1.all_cells } in
-    few (list.0, record { universe = u; reads = reads; are = subst (λ (f : ℤ → ℤ → ℕ). AreCellsOf f list.0) cells are }, list.2)
-
-either_few : (a b : List ℕ) (u v : Universe) → Reads 62 a u → Reads 62 b v → ¬ (LayerMoreCells 62 a (2 ^ 20) ⊎ LayerMoreCells 62 b (2 ^ 20))
-    → SaysMoreCells (2 ^ 20) a ⊎ SaysMoreCells (2 ^ 20) b → ⊥
-either_few a b u v h l few (inl more) = few_in a u h (λ m. few (inl m)) more
-either_few a b u v h l few (inr more) = few_in b v l (λ m. few (inr m)) more
-
-one_generation_from : FilesAreOnPlane 62 → (a b : List ℕ) (u v : Universe) → Reads 62 a u → Reads 62 b v
-    → AreRelated (λ p q. p.generation ≡ q.generation) a b → SayRelated AreOfOneGeneration 62 a b
-one_generation_from on_plane a b u v h l s =
-    say_related u v h l (related_from on_plane (λ p q x y one two says also is. sym says.generation ∙ is ∙ also.generation) a b u v h l s)
-
--- files of which the layer finds that neither has too many cells for a form have not too many
-pub few_to : FilesAreOnPlane 62 → (form : Form) (a b : List ℕ) (u v : Universe) → Reads 62 a u → Reads 62 b v → ¬ LayerTooMany form 62 a b
-    → HasTooMany form a b → ⊥
-few_to on_plane Placed a b u v h l few more = more
-few_to on_plane Moved a b u v h l few more = either_few a b u v h l few more
-few_to on_plane Turned a b u v h l few more =
-    either_few a b u v h l (λ m. few (one_generation_from on_plane a b u v h l more.0, m)) more.1
-
--- and one of which it finds too many has too many
-either_more : (a b : List ℕ) → LayerMoreCells 62 a (2 ^ 20) ⊎ LayerMoreCells 62 b (2 ^ 20) → SaysMoreCells (2 ^ 20) a ⊎ SaysMoreCells (2 ^ 20) b
-either_more a b (inl more) = inl (says_more a more)
-either_more a b (inr more) = inr (says_more b more)
-
-pub many_to : (form : Form) (a b : List ℕ) → LayerTooMany form 62 a b → HasTooMany form a b
-many_to Placed a b more = more
-many_to Moved a b more = either_more a b more
-many_to Turned a b more =
-    (related_to (λ p q u v says also is. says.generation ∙ is ∙ sym also.generation) a b more.0, either_more a b more.1)
-
 -- ---- texts
 
 -- the text of a pattern of the plane is its own canonical text
@@ -177,17 +134,17 @@ module _ (laws : LayersAgree) (file text : List ℕ) where
       own_text_of laws h.is.form text
       (laws.turned_on_plane (omega arith) h.universe h.is.form (laws.on_plane file h.universe h.reads) h.is.turned) h.is.is
 
-  pub moved_text_is : SaysText (IsMovedText 62) 62 file text → SameIn Moved file text × (SaysMoreCells (2 ^ 20) file → ⊥)
+  pub moved_text_is : SaysText (IsMovedText 62) 62 file text → SameIn Moved file text
   moved_text_is h =
       let f = laws.moved_files file h.universe h.is.form h.reads h.is.moved in
       let reads = subst (λ (t : List ℕ). Reads 62 t f.file) (sym h.is.is) f.reads in
-      (same_in_to Moved file text (say_related h.universe f.file h.reads reads f.shift), few_in file h.universe h.reads h.few)
+      same_in_to Moved file text (say_related h.universe f.file h.reads reads f.shift)
 
-  pub turned_text_is : SaysText (IsTurnedText 62) 62 file text → SameIn Turned file text × (SaysMoreCells (2 ^ 20) file → ⊥)
+  pub turned_text_is : SaysText (IsTurnedText 62) 62 file text → SameIn Turned file text
   turned_text_is h =
       let f = laws.turned_files file h.universe h.is.form h.reads h.is.turned in
       let reads = subst (λ (t : List ℕ). Reads 62 t f.file) (sym h.is.is) f.reads in
-      (same_in_to Turned file text (say_related h.universe f.file h.reads reads f.turned), few_in file h.universe h.reads h.few)
+      same_in_to Turned file text (say_related h.universe f.file h.reads reads f.turned)
 
 -- two texts in a form are equal exactly if the files are the same in it
 pub texts_tell_in : LayersAgree → (form : Form) (a b s t : List ℕ) → LayerTextIn form 62 a s → LayerTextIn form 62 b t → (s ≡ t) ↔ SameIn form a b

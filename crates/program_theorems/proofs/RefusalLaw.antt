@@ -1,5 +1,5 @@
 -- Why a task is refused, in the words of the claims.
-use Rattle.std.proofs.Common.{◌≡◌, ℕ, ◌^◌, List, [], ◌++◌, take, Bool, true, false, refl, ap, ◌∙◌, sym, subst, subst₂, ◌⊎◌, inl, inr}
+use Rattle.std.proofs.Common.{◌≡◌, ℕ, ◌^◌, List, [], ◌++◌, take, Bool, true, false, refl, ap, ◌∙◌, sym, subst, ◌⊎◌, inl, inr}
 use Rattle.std.specs.Prelude.{codes, Option, Some, None, Ok, Err, IsOk, IfSome, IsSomeAnd}
 use Rattle.std.specs.Option.{option_map_or}
 use Rattle.life_base.specs.DeviceRuns.{SourceRun, SinkRun}
@@ -24,7 +24,6 @@ use Rattle.pattern_sources.specs.Faults.{is_of_table, place_text, Tells, fault_l
 use Rattle.life_cli.specs.Jobs as layer
 use Rattle.pattern_sources.specs.Sources as sources
 use Rattle.command_line.specs.Plans.{HasSecond as LayerSecond}
-use Rattle.life_cli.specs.Forms.{HasTooMany as LayerTooMany}
 use Rattle.pattern_sources.specs.Forms.{IsTextIn as LayerTextIn}
 use Rattle.command_line.specs.declared.plans.Form.{Form}
 use Rattle.command_line.specs.declared.plans.Form.TheVariants.{Placed, Moved, Turned}
@@ -46,10 +45,8 @@ use Rattle.step_theorems.proofs.StepBy as by_table
 use Rattle.table_laws.specs.Tables.{IsTable}
 use Rattle.step_theorems.proofs.StepLaw.{unstepped_is}
 use Rattle.program_theorems.specs.Jobs.{HasSecond, IsShort, Refuses, RefusesMany, IsReason, of_files, of_want, of_length, of_source, of_sink, Holds}
-use Rattle.program_theorems.specs.Forms.{HasTooMany}
 use Rattle.program_theorems.specs.Layers.{LayersAgree}
 use Rattle.program_theorems.specs.Faults.{fault_line, status_of}
-use Rattle.program_theorems.proofs.FormLaw.{many_to}
 
 -- ---- kinds
 
@@ -237,10 +234,14 @@ module _ (laws : LayersAgree) (first second : SourceRun) (output : SinkRun) (ref
         inr (m.0, subst (SaysMoreCells (2 ^ 20)) (all_read (2 ^ 30) first.before first.after file bytes read f) (says_more bytes m.1)),
       ))
 
-  of_moved : refusal.in_table ≡ false → (bytes : List ℕ) → ReadAll (2 ^ 30) first.before first.after bytes → sources.RefusesInForm Moved bytes refusal.fault
-      → Origin (tasks.Canon Moved) first second output refusal
-  of_moved e bytes read (inl h) = of_many (tasks.Canon Moved) (λ file other h. h) e bytes read h
-  of_moved e bytes read (inr want) = from_want (want_as want.0 refusal.fault want.2)
+  -- a file whose pattern is taken in a form
+  of_form_text : (form : Form) (task : Task)
+      → ((file other : List ℕ) → IsShort file × (pattern_of file ≡ Err refusal.fault) → Refuses task file other false refusal.fault)
+      → refusal.in_table ≡ false → (bytes : List ℕ) → ReadAll (2 ^ 30) first.before first.after bytes → sources.RefusesInForm form bytes refusal.fault
+      → Origin task first second output refusal
+  of_form_text form task to e bytes read (inl h) =
+      of_pattern laws task first second output refusal e bytes h (λ file other f g. to file other (read_as _ _ bytes file _ read f h))
+  of_form_text form task to e bytes read (inr large) = from_want (inl large.0)
 
   of_step : refusal.in_table ≡ false → (bytes : List ℕ) → ReadAll (2 ^ 30) first.before first.after bytes → layer.RefusesStep bytes refusal.fault
       → Origin tasks.Step first second output refusal
@@ -258,37 +259,11 @@ module _ (laws : LayersAgree) (first second : SourceRun) (output : SinkRun) (ref
       ))
 
   -- two files
-  module _ (form : Form) (a b : List ℕ) (one : ReadAll (2 ^ 30) first.before first.after a) (two : ReadAll (2 ^ 30) second.before second.after b)
-      (p : Accepted 62 a) (q : Accepted 62 b) where
-    both_many : (refusal.fault ≡ fault_of kinds.TooManyCells) × LayerTooMany form 62 a b → Origin (tasks.Same form) first second output refusal
-    both_many m =
-        of_none laws (tasks.Same form) first second output refusal false (too_many m.0)
-        (λ file other f g.
-        let e = all_read (2 ^ 30) first.before first.after file a one f in
-        let k = all_read (2 ^ 30) second.before second.after other b two (g tt) in (
-          short _ _ a file one f,
-          short _ _ b other two (g tt),
-          refl,
-          inr (inr (
-            subst (λ (s : List ℕ). IsOk (pattern_of s)) e (accepted_is_ok a p),
-            subst (λ (s : List ℕ). IsOk (pattern_of s)) k (accepted_is_ok b q),
-            m.0,
-            subst₂ (HasTooMany form) e k (many_to form a b m.1),
-          )),
-        ))
-
-  of_form : (form : Form) (a b : List ℕ) → ReadAll (2 ^ 30) first.before first.after a → ReadAll (2 ^ 30) second.before second.after b
-      → Accepted 62 a → Accepted 62 b → layer.RefusesSame form a b refusal.fault → Origin (tasks.Same form) first second output refusal
-  of_form Placed a b one two p q h = absurd h
-  of_form Moved a b one two p q (inl m) = both_many Moved a b one two p q m
-  of_form Moved a b one two p q (inr want) = from_want (want_as want.0 refusal.fault want.2)
-  of_form Turned a b one two p q m = both_many Turned a b one two p q m
-
   of_files_compared : (form : Form) → refusal.in_table ≡ false → layer.AreUncompared form first second refusal.fault
       → Origin (tasks.Same form) first second output refusal
   of_files_compared form e (layer.by_first h) = of_first_input laws (tasks.Same form) first second output refusal h
   of_files_compared form e (layer.by_second a read h) = of_second_input laws (tasks.Same form) first second output refusal tt h
-  of_files_compared form e (layer.by_form a b one two p q h) = of_form form a b one two p q h
+  of_files_compared form e (layer.by_form a b one two p q h) = from_want (inl h.0)
   of_files_compared form e (layer.by_files a b one two (inl h)) =
       of_pattern laws (tasks.Same form) first second output refusal e a h
       (λ file other f g. let r = read_as _ _ a file _ one f h in (r.0, short _ _ b other two (g tt), refl, inl r.1))
@@ -298,10 +273,10 @@ module _ (laws : LayersAgree) (first second : SourceRun) (output : SinkRun) (ref
         short _ _ a file one f,
         r.0,
         refl,
-        inr (inl (
+        inr (
           subst (λ (s : List ℕ). IsOk (pattern_of s)) (all_read (2 ^ 30) first.before first.after file a one f) (accepted_is_ok a h.0),
           r.1,
-        )),
+        ),
       ))
   of_files_compared form e (layer.by_first_shortage want) = from_want (wanted [] first refusal.fault want)
   of_files_compared form e (layer.by_second_shortage a stored read are want) = from_want (wanted stored second refusal.fault want)
@@ -396,10 +371,10 @@ origin_of laws (tasks.Convert Mc) first second output refusal h =
     h.1.2
 origin_of laws (tasks.Canon Moved) first second output refusal h =
     of_file laws (tasks.Canon Moved) first second output refusal (LayerTextIn Moved 62) (sources.RefusesInForm Moved) (λ bytes other text is. (refl, is))
-    (λ has. has) (of_moved laws first second output refusal h.0) h.1
+    (λ has. has) (of_form_text laws first second output refusal Moved (tasks.Canon Moved) (λ file other r. (r.0, refl, r.1)) h.0) h.1
 origin_of laws (tasks.Canon Turned) first second output refusal h =
     of_file laws (tasks.Canon Turned) first second output refusal (LayerTextIn Turned 62) (sources.RefusesInForm Turned) (λ bytes other text is. (refl, is))
-    (λ has. has) (of_many laws first second output refusal (tasks.Canon Turned) (λ file other h. h) h.0) h.1
+    (λ has. has) (of_form_text laws first second output refusal Turned (tasks.Canon Turned) (λ file other r. (r.0, refl, r.1)) h.0) h.1
 origin_of laws (tasks.Convert Rle) first second output refusal h =
     of_file laws (tasks.Convert Rle) first second output refusal (IsRleOf 62 (2 ^ 20)) sources.RefusesMany (λ bytes other text is. (refl, is)) (λ has. has)
     (of_many laws first second output refusal (tasks.Convert Rle) (λ file other h. h) h.0) h.1

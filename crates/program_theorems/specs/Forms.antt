@@ -1,5 +1,5 @@
 -- The forms in which patterns are taken: as they lie, moved, and turned. They are this project's own.
-use Rattle.std.specs.Prelude.{◌≡◌, ◌⊎◌, ◌^◌, ℕ, Bool, true, false, if◌then◌else◌, ℤ, pos, negsuc, ◌+ℤ◌, ◌<ℤ◌, List, Ok}
+use Rattle.std.specs.Prelude.{◌≡◌, ◌⊎◌, ℕ, Bool, true, false, if◌then◌else◌, ℤ, pos, negsuc, ◌+ℤ◌, ◌<ℤ◌, List, Ok}
 use Rattle.std.specs.Cmp.Lexicographic.{slice_cmp}
 use Rattle.std.specs.Ordering.{nat_cmp, is_gt}
 use Rattle.life_base.specs.declared.bounds.Bounds.{Bounds}
@@ -8,7 +8,6 @@ use Rattle.command_line.specs.declared.plans.Form.TheVariants.{Placed, Moved, Tu
 use Rattle.claims.specs.Canonical.{IsTextOfPattern}
 use Rattle.claims.specs.Counting.{IsCanonicalText}
 use Rattle.claims.specs.Files.{pattern_of, Same}
-use Rattle.claims.specs.Generation.{SaysMoreCells}
 use Rattle.claims.specs.Pattern.{Pattern, coordinate_bound}
 use Rattle.claims.specs.Shown.{IsLeastBox}
 
@@ -49,12 +48,6 @@ SameIn Placed a b = Same a b
 SameIn Moved a b = AreRelated IsShift a b
 SameIn Turned a b = AreRelated IsTurnedShift a b
 
--- one of the files has too many cells to be compared in the form: more than 2^20 nonzero ones, turned only where both are of one generation
-abbrev pub HasTooMany : Form → List ℕ → List ℕ → Type 0
-HasTooMany Placed a b = ⊥
-HasTooMany Moved a b = SaysMoreCells (2 ^ 20) a ⊎ SaysMoreCells (2 ^ 20) b
-HasTooMany Turned a b = AreRelated (λ p q. p.generation ≡ q.generation) a b × (SaysMoreCells (2 ^ 20) a ⊎ SaysMoreCells (2 ^ 20) b)
-
 -- the columns or the rows of a box begin with 0; but those that would leave the plane so end with the plane
 abbrev pub IsInPlace : (first last : ℤ) → Type 0
 IsInPlace first last = ((first ≡ pos 0) × (last <ℤ coordinate_bound)) ⊎ ((first <ℤ pos 0) × (last +ℤ pos 1 ≡ coordinate_bound))
@@ -84,9 +77,8 @@ IsTextOfForm Placed pattern text = IsTextOfPattern pattern text
 IsTextOfForm Moved pattern text = IsMovedText pattern text
 IsTextOfForm Turned pattern text = IsTurnedText pattern text
 
--- The text is that of the file's pattern in the form. It is the canonical text of a pattern that is the same in the form; and the file has no more
--- than 2^20 nonzero cells, if they are moved.
+-- the text is that of the file's pattern in the form, and the canonical text of a pattern that is the same in the form
 abbrev pub IsTextIn : Form → List ℕ → List ℕ → Type 0
 IsTextIn Placed file text = IsCanonicalText file text
-IsTextIn form file text = SameIn form file text × IsCanonicalText text text × (SaysMoreCells (2 ^ 20) file → ⊥)
+IsTextIn form file text = SameIn form file text × IsCanonicalText text text
     × ((pattern : Pattern) × (pattern_of file ≡ Ok pattern) × IsTextOfForm form pattern text)

@@ -16,7 +16,7 @@ use Rattle.claims.specs.Generation.{SaysMoreCells, IsStepped, IsUnstepped}
 use Rattle.claims.specs.Table.{Table, table_of}
 use Rattle.claims.specs.ByTable.{IsSteppedBy, IsUnsteppedBy}
 use Rattle.theorems.specs.Patterns.{IsRleOfFile}
-use Rattle.program_theorems.specs.Forms.{SameIn, HasTooMany, IsTextIn}
+use Rattle.program_theorems.specs.Forms.{SameIn, IsTextIn}
 use Rattle.program_theorems.specs.Faults.{status_of, fault_line}
 
 -- the task has a second file: the one that the first is compared with, or a rule table
@@ -50,7 +50,7 @@ IsOutcome (tasks.Convert Mc) file second status text = (status ≡ 0) × IsCanon
 IsOutcome (tasks.Convert Rle) file second status text =
     (status ≡ 0) × Same file text × (begins_with text (codes "[M2]") ≡ false) × (SaysMoreCells (2 ^ 20) file → ⊥) × IsRleOfFile file text
 IsOutcome (tasks.Same form) file second status text =
-    IsOk (pattern_of file) × IsOk (pattern_of second) × (HasTooMany form file second → ⊥)
+    IsOk (pattern_of file) × IsOk (pattern_of second)
     × (((status ≡ 0) × SameIn form file second × (text ≡ codes "same\n")) ⊎ ((status ≡ 1) × (SameIn form file second → ⊥) × (text ≡ codes "different\n")))
 IsOutcome tasks.Show file second status text =
     (status ≡ 0) × ((pattern : Pattern) × (pattern_of file ≡ Ok pattern)
@@ -62,32 +62,25 @@ IsOutcome tasks.StepTable file second status text = (status ≡ 0) × ((table : 
 abbrev pub IsShort : List ℕ → Type 0
 IsShort bytes = length bytes ≤ 2 ^ 30
 
--- a file whose cells are listed is none, or one with too many
+-- a file that is to be written in RLE is none, or one with too many cells
 abbrev pub RefusesMany : (file : List ℕ) → (of_table : Bool) → Fault → Type 0
 RefusesMany file of_table fault =
     IsShort file × (of_table ≡ false) × ((pattern_of file ≡ Err fault) ⊎ ((fault ≡ fault_of TooManyCells) × SaysMoreCells (2 ^ 20) file))
 
--- one of two files has too many cells
-abbrev pub RefusesSame : Form → (file second : List ℕ) → Fault → Type 0
-RefusesSame form file second fault =
-    IsOk (pattern_of file) × IsOk (pattern_of second) × (fault ≡ fault_of TooManyCells) × HasTooMany form file second
-
 -- the fault for which a task refuses its files, and whether its line is one of a rule table
 abbrev pub Refuses : Task → (file second : List ℕ) → (of_table : Bool) → Fault → Type 0
-Refuses (tasks.Canon Moved) file second of_table fault = RefusesMany file of_table fault
-Refuses (tasks.Canon Turned) file second of_table fault = RefusesMany file of_table fault
 Refuses (tasks.Convert Rle) file second of_table fault = RefusesMany file of_table fault
 Refuses (tasks.Same form) file second of_table fault =
     IsShort file × IsShort second × (of_table ≡ false)
-    × ((pattern_of file ≡ Err fault) ⊎ ((IsOk (pattern_of file) × (pattern_of second ≡ Err fault)) ⊎ RefusesSame form file second fault))
+    × ((pattern_of file ≡ Err fault) ⊎ (IsOk (pattern_of file) × (pattern_of second ≡ Err fault)))
 Refuses tasks.Step file second of_table fault = IsShort file × (of_table ≡ false) × ((pattern_of file ≡ Err fault) ⊎ IsUnstepped file fault)
 Refuses tasks.StepTable file second of_table fault =
     IsShort second × (((of_table ≡ true) × (table_of second ≡ Err fault)) ⊎ (IsShort file × ((table : Table) × (table_of second ≡ Ok table)
     × (((of_table ≡ false) × (pattern_of file ≡ Err fault)) ⊎ ((of_table ≡ true) × IsUnsteppedBy table file fault)))))
 Refuses _ file second of_table fault = IsShort file × (of_table ≡ false) × (pattern_of file ≡ Err fault)
 
--- Why a run has no answer: what its files say; room or memory was wanted; a file is too long; a file could not be read; or the text could not be
--- written.
+-- Why a run has no answer: what its files say; room or memory was wanted, to read them or for the squares of the answer; a file is too long; a file could
+-- not be read; or the text could not be written.
 pub data IsReason (task : Task) (file second : List ℕ) (is_unread is_unwritten : Type 0) : Bool → Fault → Type 0 where
   of_files : (of_table : Bool) (fault : Fault) → Refuses task file second of_table fault → IsReason task file second is_unread is_unwritten of_table fault
   of_want : (fault : Fault) → IsWant fault → IsReason task file second is_unread is_unwritten false fault

@@ -3,19 +3,19 @@ use Rattle.std.specs.Prelude.{◌↔◌, IsTrue}
 use Rattle.std.proofs.lemmas.Result.{IfOk-weaker, IfErr-weaker, err_from_is_err_and}
 use Rattle.life_forms.specs.Forms.{IsShift, IsTurnedShift}
 use Rattle.library_calls.specs.Comparing.{SomeToReadBoth}
-use Rattle.library_calls.specs.ComparingInForm.{AreOneInForm, HasTooMany, RefusesEitherInForm}
+use Rattle.library_calls.specs.ComparingInForm.{AreOneInForm, RefusesEitherInForm}
 use Rattle.library_calls.specs.Texts.{NeedsMore}
 use Rattle.library_calls.specs.declared.pattern_form.PatternForm.{PatternForm}
-use Rattle.library_calls.proofs.Answering.{and-lacks, of-any}
-use Rattle.library_calls.proofs.FormFacts.{accepted-it, reads-it, either-unread, few-moved, either-unmoved, few-turned, either-unturned, files-told}
-use Rattle.library_calls.proofs.NeedFacts.{from-empty, where-ok}
+use Rattle.library_calls.proofs.Answering.{of-any}
+use Rattle.library_calls.proofs.FormFacts.{accepted-it, reads-it, either-unread, either-unmoved, either-unturned, files-told}
+use Rattle.library_calls.proofs.NeedFacts.{where-ok}
 use Rattle.library_calls.proofs.comparison.are_one.Goals as goal
 
-pub are_shifts-answer-requires-clause-a : goal.are_shifts-answer-requires-clause-a
-are_shifts-answer-requires-clause-a c = (c.patterns_fit.ensures _ _ _ c.in_ok-a.ensures.one).0
+pub are_shifts-requires-clause-a : goal.are_shifts-requires-clause-a
+are_shifts-requires-clause-a c = (c.patterns_fit.ensures _ _ _ c.in_ok-a.ensures.one).0
 
-pub are_shifts-answer-requires-clause-b : goal.are_shifts-answer-requires-clause-b
-are_shifts-answer-requires-clause-b c = (c.patterns_fit.ensures _ _ _ c.in_ok-a.ensures.other).0
+pub are_shifts-requires-clause-b : goal.are_shifts-requires-clause-b
+are_shifts-requires-clause-b c = (c.patterns_fit.ensures _ _ _ c.in_ok-a.ensures.other).0
 
 pub are_turns-requires-clause-a : goal.are_turns-requires-clause-a
 are_turns-requires-clause-a c = (c.patterns_fit.ensures _ _ _ c.in_ok-a.ensures.one).0
@@ -46,27 +46,17 @@ returns-in-Placed-clause-answer c =
     subst (λ (f : PatternForm). IsTrue c.are_same.result ↔ AreOneInForm f c.args.first.now c.args.second.now) (sym c.in-Placed.is)
     (λ yes. law.0 (c.are_same.ensures.0 yes), λ same. c.are_same.ensures.1 (law.1 same))
 
-pub returns-in-Placed-clause-few : goal.returns-in-Placed-clause-few
-returns-in-Placed-clause-few c =
-    subst (λ (f : PatternForm). ¬ HasTooMany f c.args.first.now c.args.second.now) (sym c.in-Placed.is) (λ many. many)
-
 pub returns-in-Moved-clause-accepted : goal.returns-in-Moved-clause-accepted
 returns-in-Moved-clause-accepted c =
-    of-any _ c.are_shifts-answer.result (accepted-it _ _ _ c.in_ok-a.ensures.one, accepted-it _ _ _ c.in_ok-a.ensures.other)
+    of-any _ c.are_shifts.result (accepted-it _ _ _ c.in_ok-a.ensures.one, accepted-it _ _ _ c.in_ok-a.ensures.other)
 
 pub returns-in-Moved-clause-answer : goal.returns-in-Moved-clause-answer
 returns-in-Moved-clause-answer c =
-    subst (λ (f : PatternForm). IfOk c.are_shifts-answer.result (λ answer. IsTrue answer ↔ AreOneInForm f c.args.first.now c.args.second.now))
+    subst (λ (f : PatternForm). IfOk c.are_shifts.result (λ answer. IsTrue answer ↔ AreOneInForm f c.args.first.now c.args.second.now))
     (sym c.in-Moved.is)
-    (IfOk-weaker c.are_shifts-answer.result _ _ (λ answer told. files-told c.files_are_unique.ensures IsShift c.args.first.now c.args.second.now _ _ answer
+    (IfOk-weaker c.are_shifts.result _ _ (λ answer told. files-told c.files_are_unique.ensures IsShift c.args.first.now c.args.second.now _ _ answer
     (reads-it c.patterns_fit.ensures _ _ _ c.in_ok-a.ensures.one) (reads-it c.patterns_fit.ensures _ _ _ c.in_ok-a.ensures.other) told)
-    c.are_shifts-answer.ensures.answer)
-
-pub returns-in-Moved-clause-few : goal.returns-in-Moved-clause-few
-returns-in-Moved-clause-few c =
-    subst (λ (f : PatternForm). OnOk c.are_shifts-answer.result (¬ HasTooMany f c.args.first.now c.args.second.now)) (sym c.in-Moved.is)
-    (few-moved c.files_are_unique.ensures c.patterns_fit.ensures c.args.first.now c.args.second.now c.read_both.new.store _ _
-    c.in_ok-a.ensures.one c.in_ok-a.ensures.other c.are_shifts-answer.result c.are_shifts-answer.ensures.few)
+    c.are_shifts.ensures.answer)
 
 pub returns-in-Placed-clause-fits : goal.returns-in-Placed-clause-fits
 returns-in-Placed-clause-fits c =
@@ -75,23 +65,13 @@ returns-in-Placed-clause-fits c =
 
 pub returns-in-Moved-clause-fits : goal.returns-in-Moved-clause-fits
 returns-in-Moved-clause-fits c =
-    where-ok c.are_shifts-answer.result (λ limit fresh. subst (λ (most : ℕ). ¬ NeedsMore (SomeToReadBoth c.args.first.now c.args.second.now) most)
+    where-ok c.are_shifts.result (λ limit fresh. subst (λ (most : ℕ). ¬ NeedsMore (SomeToReadBoth c.args.first.now c.args.second.now) most)
     (c.read_both.ensures.limit ∙ fresh.most) c.in_ok-a.ensures.fits)
 
 pub returns-clause-fits : goal.returns-clause-fits
 returns-clause-fits c =
     where-ok c.are_turns.result (λ limit fresh. subst (λ (most : ℕ). ¬ NeedsMore (SomeToReadBoth c.args.first.now c.args.second.now) most)
     (c.read_both.ensures.limit ∙ fresh.most) c.in_ok-a.ensures.fits)
-
-pub returns-in-Moved-clause-fault : goal.returns-in-Moved-clause-fault
-returns-in-Moved-clause-fault c =
-    IfErr-weaker c.are_shifts-answer.result _ _ (λ fault why limit fresh.
-    subst (λ (f : PatternForm). RefusesEitherInForm f limit c.args.first.now c.args.second.now fault) (sym c.in-Moved.is)
-    (either-unmoved c.patterns_fit.ensures limit c.args.first.now c.args.second.now c.read_both.new.store c.are_shifts-answer.new.store _ _ fault
-    (c.are_shifts-answer.ensures.keeps.limit ∙ c.read_both.ensures.limit ∙ fresh.most) c.in_ok-a.ensures.one c.in_ok-a.ensures.other
-    (from-empty (SomeToReadBoth c.args.first.now c.args.second.now) c.args.store.now c.read_both.new.store fresh.empty c.read_both.ensures.adds)
-    (record { distinct = c.len.ensures.distinct; live = λ t there. (c.len.ensures.only t there).0 }) c.are_shifts-answer.ensures.adds why.0 why.1))
-    (and-lacks _ c.are_shifts-answer.result c.are_shifts-answer.ensures.fault c.are_shifts-answer.ensures.needed)
 
 pub returns-clause-accepted : goal.returns-clause-accepted
 returns-clause-accepted c =
@@ -104,15 +84,18 @@ returns-clause-answer c =
     (reads-it c.patterns_fit.ensures _ _ _ c.in_ok-a.ensures.one) (reads-it c.patterns_fit.ensures _ _ _ c.in_ok-a.ensures.other) told)
     c.are_turns.ensures.answer)
 
-pub returns-clause-few : goal.returns-clause-few
-returns-clause-few c =
-    subst (λ (f : PatternForm). OnOk c.are_turns.result (¬ HasTooMany f c.args.first.now c.args.second.now)) (sym c.in-Turned.is)
-    (few-turned c.files_are_unique.ensures c.patterns_fit.ensures c.args.first.now c.args.second.now c.read_both.new.store _ _
-    c.in_ok-a.ensures.one c.in_ok-a.ensures.other c.are_turns.result c.are_turns.ensures.few)
+pub returns-in-Moved-clause-fault : goal.returns-in-Moved-clause-fault
+returns-in-Moved-clause-fault c =
+    IfErr-weaker c.are_shifts.result _ _ (λ fault why limit fresh.
+    subst (λ (f : PatternForm). RefusesEitherInForm f limit c.args.first.now c.args.second.now fault) (sym c.in-Moved.is)
+    (either-unmoved c.patterns_fit.ensures limit c.args.first.now c.args.second.now c.read_both.new.store _ _ fault
+    (c.read_both.ensures.limit ∙ fresh.most) c.in_ok-a.ensures.one c.in_ok-a.ensures.other why))
+    c.are_shifts.ensures.fault
 
 pub returns-clause-fault : goal.returns-clause-fault
 returns-clause-fault c =
     IfErr-weaker c.are_turns.result _ _ (λ fault why limit fresh.
     subst (λ (f : PatternForm). RefusesEitherInForm f limit c.args.first.now c.args.second.now fault) (sym c.in-Turned.is)
     (either-unturned c.patterns_fit.ensures limit c.args.first.now c.args.second.now c.read_both.new.store _ _ fault
-    (c.read_both.ensures.limit ∙ fresh.most) c.in_ok-a.ensures.one c.in_ok-a.ensures.other why)) c.are_turns.ensures.fault
+    (c.read_both.ensures.limit ∙ fresh.most) c.in_ok-a.ensures.one c.in_ok-a.ensures.other why))
+    c.are_turns.ensures.fault
