@@ -2,8 +2,6 @@
 
 import itertools
 
-from .generations import MOST_CELLS
-from .lines import Fault
 from .patterns import Pattern, canonical_text
 from .squares import END, cells_of
 
@@ -32,9 +30,7 @@ def images(cells):
 
 
 def listed(pattern):
-    """The cells of a pattern that is to be moved."""
-    if pattern.plane.population > MOST_CELLS:
-        raise Fault("TooManyCells")
+    """The cells of a pattern that is to be moved. This reader is asked only for patterns with few squares, so it doesn't count those of a form."""
     return cells_of(pattern.plane)
 
 

@@ -224,10 +224,10 @@ static void texts_in_forms(void)
     }
     check(golly_canon_canon_form(BYTES(MANY), GOLLY_CANON_PLACED, LIMIT, SEED, fresh(), 0, &needed, &line) == GOLLY_CANON_NO_ROOM && needed > 0,
           "a placed pattern may have many cells");
-    check(is_fault(golly_canon_canon_form(BYTES(MANY), GOLLY_CANON_MOVED, LIMIT, SEED, fresh(), WIDE, &needed, &line), GOLLY_CANON_TOO_MANY_CELLS, 0),
-          "a moved one may not");
-    check(is_fault(golly_canon_canon_form(BYTES(MANY), GOLLY_CANON_TURNED, LIMIT, SEED, fresh(), WIDE, &needed, &line), GOLLY_CANON_TOO_MANY_CELLS, 0),
-          "nor a turned one");
+    check(golly_canon_canon_form(BYTES(MANY), GOLLY_CANON_MOVED, LIMIT, SEED, fresh(), 0, &needed, &line) == GOLLY_CANON_NO_ROOM && needed > 0,
+          "so may a moved one");
+    check(golly_canon_canon_form(BYTES(MANY), GOLLY_CANON_TURNED, LIMIT, SEED, fresh(), 0, &needed, &line) == GOLLY_CANON_NO_ROOM && needed > 0,
+          "and a turned one");
     check(is_fault(golly_canon_canon_form(BYTES(GLIDER), 3, LIMIT, SEED, fresh(), WIDE, &needed, &line), GOLLY_CANON_NO_FORM, 0), "3 is no form");
     check(is_fault(golly_canon_canon_form(BYTES("x\n"), UINT32_MAX, LIMIT, SEED, fresh(), WIDE, &needed, &line), GOLLY_CANON_NO_FORM, 0),
           "no form is told before the file is read");
@@ -243,8 +243,8 @@ static void keys(void)
               && untouched_from(0), "a key may lack room");
     check(is_fault(golly_canon_key(BYTES("x = 3\n"), GOLLY_CANON_MOVED, LIMIT, SEED, fresh(), WIDE, &needed, &line), GOLLY_CANON_BAD_HEADER, 1),
           "a key is refused as the text");
-    check(is_fault(golly_canon_key(BYTES(MANY), GOLLY_CANON_TURNED, LIMIT, SEED, fresh(), WIDE, &needed, &line), GOLLY_CANON_TOO_MANY_CELLS, 0),
-          "so is that of too many cells");
+    check(golly_canon_key(BYTES(MANY), GOLLY_CANON_TURNED, LIMIT, SEED, fresh(), WIDE, &needed, &line) == GOLLY_CANON_OK && needed == 32,
+          "many cells have a key in each form");
     check(is_fault(golly_canon_key(BYTES(GLIDER), 3, LIMIT, SEED, fresh(), WIDE, &needed, &line), GOLLY_CANON_NO_FORM, 0), "no form has no key");
 }
 
@@ -265,13 +265,13 @@ static void comparisons_in_forms(void)
         check(is_compared(GLIDER, more, form, GOLLY_CANON_OK, 0, 0), "and two patterns");
         check(is_compared("\nx\n", "x = 1, y = 1\n0o!\n", form, GOLLY_CANON_BAD_HEADER, 2, 0), "the first file is refused first");
         check(is_compared(GLIDER, "x = 1, y = 1\n0o!\n", form, GOLLY_CANON_ZERO_COUNT, 2, 0), "the second file is refused");
-        check(is_compared(MANY, "x = 1, y = 1\n0o!\n", form, GOLLY_CANON_ZERO_COUNT, 2, 0), "it is refused before cells are counted");
+        check(is_compared(MANY, "x = 1, y = 1\n0o!\n", form, GOLLY_CANON_ZERO_COUNT, 2, 0), "it is refused after a file of many cells");
     }
     check(is_compared(GLIDER, shifted, GOLLY_CANON_PLACED, GOLLY_CANON_OK, 0, 0), "a placed glider isn't one elsewhere");
     check(is_compared(MANY, MANY, GOLLY_CANON_PLACED, GOLLY_CANON_OK, 0, 1), "placed patterns of many cells are compared");
-    check(is_compared(GLIDER, MANY, GOLLY_CANON_MOVED, GOLLY_CANON_TOO_MANY_CELLS, 0, 0), "moved ones aren't");
-    check(is_compared(MANY, GLIDER, GOLLY_CANON_TURNED, GOLLY_CANON_TOO_MANY_CELLS, 0, 0), "nor turned ones");
-    check(is_compared(later, MANY, GOLLY_CANON_TURNED, GOLLY_CANON_OK, 0, 0), "but two generations are told apart before");
+    check(is_compared(GLIDER, MANY, GOLLY_CANON_MOVED, GOLLY_CANON_OK, 0, 0), "so are moved ones");
+    check(is_compared(MANY, GLIDER, GOLLY_CANON_TURNED, GOLLY_CANON_OK, 0, 0), "and turned ones");
+    check(is_compared(later, MANY, GOLLY_CANON_TURNED, GOLLY_CANON_OK, 0, 0), "two generations are told apart");
     check(is_compared(GLIDER, "", 3, GOLLY_CANON_NO_FORM, 0, 0), "no form is told before a file is read");
 }
 
@@ -334,7 +334,6 @@ static const struct {
     {"an empty file", golly_canon_open_canon, BYTES(""), "", GOLLY_CANON_NO_HEADER, 1},
     {"too many cells", golly_canon_open_to_rle, BYTES("x = 2000000, y = 1\n2000000o!\n"), "", GOLLY_CANON_TOO_MANY_CELLS, 0},
     {"a name without a table", golly_canon_open_step, BYTES(WIRE), "", GOLLY_CANON_NEEDS_TABLE, 0},
-    {"too many cells to be moved", open_moved, BYTES(MANY), "", GOLLY_CANON_TOO_MANY_CELLS, 0},
     {"a child of a turned pattern", open_turned, BYTES("[M2]\n4 0 0 0 9"), "\n", GOLLY_CANON_BAD_CHILD, 2},
 };
 

@@ -25,7 +25,7 @@ from golly_canon import Box, PatternWarning, Refused, Shown, Stream  # noqa: E40
 from independent.fuzz import random_files  # noqa: E402
 from shared import processes  # noqa: E402
 from shared.counting import check, ended  # noqa: E402
-from shared.fixtures import FILES, LIFE, LINE_STEPPED, PAIR_RLE, PAIR_SHOWN, PAIR_TEXT, SPREAD_STEPPED  # noqa: E402
+from shared.fixtures import FILES, LIFE, LINE_STEPPED, MANY_TEXT, PAIR_RLE, PAIR_SHOWN, PAIR_TEXT, SPREAD_STEPPED  # noqa: E402
 
 PAGE = os.path.join(os.path.dirname(os.path.abspath(__file__)), "../../docs/LIBRARY.md")
 RANDOM_FILES = 200
@@ -131,7 +131,7 @@ ROWS = [
     ("the key of an open file", outcome_of(golly_canon.stream_key, io.BytesIO(ELSEWHERE), "moved"), bytes.fromhex(GLIDER_KEY)),
     ("the key of chunks, turned", outcome_of(golly_canon.stream_key, [MIRRORED, b""], form="turned"), hashlib.sha256(TURNED_TEXT).digest()),
     ("the key of chunks that are refused", outcome_of(golly_canon.stream_key, [CHILD]), NO_CHILD),
-    ("the key of chunks, too many cells", outcome_of(golly_canon.stream_key, [FILES["many.rle"]], "moved"), ("TooManyCells", None, False, "TooManyCells")),
+    ("the key of chunks, many cells", outcome_of(golly_canon.stream_key, [FILES["many.rle"]], "moved"), hashlib.sha256(MANY_TEXT).digest()),
     ("the key of chunks, a limit of 0", outcome_of(golly_canon.stream_key, [GLIDER], limit=0), ("Full", None, False, "Full")),
     ("the key of chunks in another form", outcome_of(golly_canon.stream_key, [GLIDER], "shifted"), "ValueError"),
     ("the key of a closed stream", outcome_of(key_after_closing), SPENT),
@@ -169,8 +169,8 @@ ROWS = [
     ("the first of two", outcome_of(golly_canon.same, CHILD, b""), NO_CHILD),
     ("the second of two", outcome_of(golly_canon.same, GLIDER, CHILD), NO_CHILD),
     ("too many cells", outcome_of(golly_canon.to_rle, FILES["many.rle"]), ("TooManyCells", None, False, "TooManyCells")),
-    ("too many cells for a form", outcome_of(golly_canon.canon, FILES["many.rle"], "turned"), ("TooManyCells", None, False, "TooManyCells")),
-    ("too many cells for a key", outcome_of(golly_canon.key, FILES["many.rle"], "moved"), ("TooManyCells", None, False, "TooManyCells")),
+    ("many cells in a form", outcome_of(golly_canon.canon, FILES["many.rle"], "moved"), MANY_TEXT),
+    ("the key of many cells", outcome_of(golly_canon.key, FILES["many.rle"], "moved"), hashlib.sha256(MANY_TEXT).digest()),
     ("a file that is refused in a form", outcome_of(golly_canon.canon, CHILD, "moved"), NO_CHILD),
     ("a file that is refused for its key", outcome_of(golly_canon.key, CHILD), NO_CHILD),
     ("the second of two in a form", outcome_of(golly_canon.same, GLIDER, CHILD, "turned"), NO_CHILD),

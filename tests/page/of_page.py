@@ -300,7 +300,7 @@ def speaking(page, folder):
 
 
 def large():
-    """A square of 2^11 cells a side, all of them live: more cells than a moved pattern may have."""
+    """A square of 2^11 cells a side, all of them live: more cells than may be stepped."""
     return ("[M2]\n" + "********$" * 8 + "\n" + "".join(f"{level} {level - 3} {level - 3} {level - 3} {level - 3}\n" for level in range(4, 12))).encode()
 
 
@@ -310,7 +310,7 @@ def table(page):
 
 
 def saving(page, folder, answers):
-    """The saved table has the keys of the form that is shown, as the program writes them, and says why one is missing."""
+    """The saved table has the keys of the form that is shown, as the program writes them."""
     paths = put(folder, one_rle=GLIDER, two_rle=MOVED, three_rle=TURNED, large_mc=large())
     page.dropped(paths[:2])
     holds("the form of two files at different places", {it["form"] for it in table(page).values()} == {"moved"}, table(page))
@@ -326,13 +326,6 @@ def saving(page, folder, answers):
         in_groups = {name: [other for other in groups if groups[name] and groups[other] == groups[name]] or shared[name][:1] for name in groups}
         problems = differing({"keys": found, "form": named, "groups": in_groups}, {"keys": keys, "form": {form}, "groups": shared})
         counting.row(f"the table of files that are compared as {form}", problems)
-        lacks = form != "placed"
-        holds(f"why a key is missing, {form}", ("more than 2\u00b2\u2070 cells" in rows["large.mc"]["note"]) == lacks, rows["large.mc"])
-        said = page.text("why")
-        holds(f"files that can't be compared, {form}", ("1 file has no key of this form" in said) == lacks, said)
-    page.dropped(paths[-1:])
-    counting.row("why a file has no key", differing(page.summary(), {f"No key, {form}": "There is none for a pattern of more than 2\u00b2\u2070 cells."
-                                                                    for form in ("moved", "turned")}))
 
 
 def warning(page, folder):

@@ -25,7 +25,7 @@ sys.path.insert(0, os.path.dirname(os.path.dirname(os.path.abspath(__file__))))
 
 from running import ANY, CLOCK, MEGABYTE, Case, Front, Piped, measured, results  # noqa: E402
 from shared import counting, processes  # noqa: E402
-from shared.fixtures import FILES, HEADER, LIFE, LINE_STEPPED, LONGEST, PAIR_RLE, PAIR_SHOWN, PAIR_TEXT, ROWS, SPREAD_STEPPED, canonical  # noqa: E402
+from shared.fixtures import FILES, HEADER, LIFE, LINE_STEPPED, LONGEST, MANY_TEXT, PAIR_RLE, PAIR_SHOWN, PAIR_TEXT, ROWS, SPREAD_STEPPED, canonical  # noqa: E402
 
 # ---- the formats
 
@@ -620,11 +620,10 @@ JOBS = [
     faulty("to RLE from a refused file", "convert empty --to rle", "line 1: NoHeader"),
     faulty("to macrocell from a refused file", "convert empty --to mc", "line 1: NoHeader"),
     faulty("to RLE with too many cells", "convert many.rle --to rle", "TooManyCells", little=60 * MEGABYTE),
-    faulty("a moved text of too many cells", "canon many.rle --form moved", "TooManyCells", little=60 * MEGABYTE),
-    faulty("a turned text of too many cells", "canon many.rle --form turned", "TooManyCells", little=60 * MEGABYTE),
-    faulty("too many cells beside themselves, moved", "same many.rle many.rle --form moved", "TooManyCells", little=60 * MEGABYTE),
-    faulty("too many cells beside few, turned", "same line.rle many.rle --form turned", "TooManyCells", little=60 * MEGABYTE),
-    faulty("a refused file behind too many cells", "same many.rle bad.rle --form moved", "line 2: StateRange"),
+    told("a moved text of many cells", "canon many.rle --form moved", MANY_TEXT),
+    told("many cells beside themselves, moved", "same many.rle many.rle --form moved", b"same\n"),
+    told("many cells beside few, turned", "same line.rle many.rle --form turned", b"different\n", status=1),
+    faulty("a refused file behind many cells", "same many.rle bad.rle --form moved", "line 2: StateRange"),
     told("turned patterns of two generations", "same many.rle last.rle --form turned", b"different\n", status=1),
     told("turned patterns of two generations, the other way about", "same last.rle many.rle --form turned", b"different\n", status=1),
     failing("to RLE from an absent file", "convert absent --to rle", "ReadFault"),
@@ -761,6 +760,28 @@ def mixed_blocks():
     yield from gathered(nodes.lines(nodes.join(60, *squares[:3], 0)))
 
 
+@once
+def seam():
+    """The node lines of two rows of squares of 2^14 columns, one above the other, in which cells are near the line between the rows alone. The squares
+    above repeat after 512 and those below after 513, so they are few. Moved, the line lies inside squares, and nearly all pairs come up: a form of
+    3.1 million squares."""
+    order, nodes = random.Random(3), Nodes()
+
+    def chain_to(corner):
+        square = nodes.join(3, leaf(1 << order.randrange(64)))
+        for level in range(4, 14):
+            square = nodes.join(level, *(square if it == corner else 0 for it in range(4)))
+        return square
+
+    above = [nodes.join(14, 0, 0, chain_to(2), chain_to(3)) for _ in range(64)]
+    below = [nodes.join(14, chain_to(0), chain_to(1), 0, 0) for _ in range(64)]
+    above, below = [order.choice(above) for _ in range(512)], [order.choice(below) for _ in range(513)]
+    for level in range(15, 33):
+        above = [nodes.join(level, 0, 0, above[2 * it % 512], above[(2 * it + 1) % 512]) for it in range(512)]
+        below = [nodes.join(level, below[2 * it % 513], below[(2 * it + 1) % 513], 0, 0) for it in range(513)]
+    yield from gathered(nodes.lines(nodes.join(33, 0, above[0], 0, below[0])))
+
+
 def block_cells():
     """The cells of 2^18 blocks, row by row."""
     corners = [-(1 << 60) + (i << 52) for i in range(1 << 9)]
@@ -784,6 +805,9 @@ FEW_LINES = [
     few_lines("2^20 cells in 60 lines, to RLE", BLOCKS, rle_of(block_cells), "convert input --to rle", each=4000, little=60 * MEGABYTE),
     few_lines("2^20 cells in 60 lines, moved", BLOCKS, LIFE + MOVED_BLOCKS, "canon input --form moved"),
     few_lines("2^20 cells in 60 lines, turned", BLOCKS, LIFE + MOVED_BLOCKS, "canon input --form turned"),
+    few_lines("2^20 cells in 60 lines beside themselves, turned", BLOCKS, b"same\n", "same input input --form turned"),
+    refused("a form of 3.1 million squares", [b"[M2]\n", seam], "Full", "canon input --form moved", status=4, seconds=20, each=100,
+            little=400 * MEGABYTE),
     few_lines("2^20 cells in 60 lines that stay", BLOCKS, LIFE + b"#G 1\n" + BLOCKS, "step input"),
     few_lines("786,432 cells in 60 lines that turn", BLINKERS, LIFE + b"#G 1\n" + TURNED_BLINKERS, "step input"),
     few_lines("2^20 single cells in 60 lines that die", SPECKS, LIFE + b"#G 1\n", "step input"),

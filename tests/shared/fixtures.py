@@ -35,6 +35,9 @@ FILES = {
 # What the commands write of some of them.
 PAIR_RLE = b"#CXRLE Pos=-4,0\nx = 9, y = 1, rule = B3/S23\no7bo!\n"
 PAIR_TEXT = LIFE + b"....*$$$$$$$$\n4 0 0 1 1\n"
+# A row of 2^20 + 1 cells: leaves that are full in their first row, in squares up to level 20, and behind them a cell alone.
+MANY_TEXT = LIFE + b"********$$$$$$$$\n" + b"".join(b"%d %d %d 0 0\n" % (level, level - 3, level - 3) for level in range(4, 21))
+MANY_TEXT += b"*$$$$$$$$\n" + b"".join(b"%d %d 0 0 0\n" % (level, level + 15) for level in range(4, 21)) + b"21 18 36 0 0\n22 0 0 0 37\n"
 PAIR_SHOWN = b"rule B3/S23\ngeneration 0\npopulation 2\nbox -4 0 9 1\nnodes 2\n"
 LINE_STEPPED = LIFE + b"#G 1\n$$$.....*$.....*$.....*$$$\n"
 SPREAD_STEPPED = canonical(b"Spread", 1) + b"1 0 0 2 0\n1 0 2 0 0\n1 2 2 2 0\n2 0 1 2 3\n"
