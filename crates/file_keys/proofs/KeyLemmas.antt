@@ -19,7 +19,7 @@ use Rattle.pattern_sources.specs.Forms.{IsTextIn}
 use Rattle.pattern_sources.specs.Sources.{by_file, by_input, by_length, by_source, by_want, ComesOf, HasNoText, HasText, InputRefuses, IsTooSmallFor, RefusesInForm}
 use Rattle.file_keys.specs.Keys.{IsKeyIn, IsStatus}
 use Rattle.command_line.specs.declared.plans.Form.{Form}
-use Rattle.command_line.specs.declared.plans.Form.TheVariants.{Placed, Moved, Turned}
+use Rattle.command_line.specs.declared.plans.Form.TheVariants.{Placed}
 use Rattle.pattern_sources.proofs.SourceLemmas.{fault_status, no_pattern}
 
 -- the key of a text that a source has in a form

@@ -9,7 +9,7 @@ use Rattle.life_base.specs.Tree.{Tree}
 use Rattle.life_base.specs.Writing.{WritesPrefix}
 use Rattle.life_base.specs.declared.fault.Fault.{Fault}
 use Rattle.life_base.specs.declared.cell.TheConstants.{MAX_LEVEL}
-use Rattle.life_base.specs.declared.kind.Kind.TheVariants.{Full, Memory, ReadFault, WriteFault, TooManyCells}
+use Rattle.life_base.specs.declared.kind.Kind.TheVariants.{Full, Memory, ReadFault, WriteFault}
 use Rattle.life_quad.specs.Store.{Nodes}
 use Rattle.life_canon.specs.Files.{Accepted, Reads, Refuses}
 use Rattle.life_canon.specs.Room.{AddsFile, IsOfFile}
@@ -28,7 +28,7 @@ use Rattle.pattern_sources.specs.Sources.{AreOfInput, HasNoText, HasText, HoldsN
 use Rattle.pattern_sources.specs.Forms.{IsTextIn}
 use Rattle.command_line.specs.Plans.{HasSecond}
 use Rattle.command_line.specs.declared.plans.Form.{Form}
-use Rattle.command_line.specs.declared.plans.Form.TheVariants.{Placed, Moved, Turned}
+use Rattle.command_line.specs.declared.plans.Form.TheVariants.{Placed}
 use Rattle.command_line.specs.declared.plans.Task.{Task}
 use Rattle.command_line.specs.declared.plans.Task.TheVariants.{Canon, Convert, Same, Show, Step, StepTable}
 use Rattle.command_line.specs.declared.plans.Target.TheVariants.{Rle, Mc}
