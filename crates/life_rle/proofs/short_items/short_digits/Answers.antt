@@ -1,4 +1,4 @@
-use Rattle.std.proofs.Common.{◌∙◌, arith}
+use Rattle.std.proofs.Common.{arith}
 use Rattle.life_rle.proofs.ShortItems.{digits_of}
 use Rattle.life_rle.proofs.short_items.short_digits.Goals as goal
 
