@@ -183,45 +183,33 @@ fn limit_behind(limit: i64, item: Item, cursor: Cursor) -> i64
     }
 }
 
-/// Takes the item at a place if it has cells and breaks no rule; any other stays for the caller.
-#[inline(never)]
+/// Takes the item at a place if there is one and it breaks no rule; anything else stays for the caller.
+#[inline(always)]
 fn take_one_item(rule: &Rule, here: Place, limit: i64, line: &[u8], runs: &mut Vec<Run>) -> Place
     requires inside { here.at < length line.now }
     requires near { IsNear MAX_LEVEL here.cursor }
     requires limit { limit ≡ row_limit MAX_LEVEL here.cursor.y }
     ensures inside { (here.at ≤ result.at) × (result.at ≤ length line.now) }
     ensures near { IsNear MAX_LEVEL result.cursor }
-    ensures row { result.cursor.y ≡ here.cursor.y }
     ensures read { ReadsOn MAX_LEVEL rule.now line.now here.at here.cursor runs.old.items result.at
         result.cursor runs.new.items }
 {
     let Token::Spelled(item, behind) = token_at(line, here.at) else {
         return here;
     };
-    let Item::Cells { count, state } = item else {
-        return here;
-    };
-    match take_cells(rule, here.cursor, limit, count, state, runs) {
+    match take_item(rule, here.cursor, limit, item, runs) {
         Ok(cursor) => Place { at: behind, cursor },
         Err(_) => here,
     }
 }
 
-/// Takes items with cells from the start of a line on, as long as there are short ones among them.
-#[inline(never)]
-fn take_cells_items(
-    rule: &Rule,
-    from: Cursor,
-    limit: i64,
-    line: &[u8],
-    runs: &mut Vec<Run>,
-) -> Place
+/// Takes items from the start of a line on, as long as there are short ones among them.
+#[inline(always)]
+fn take_mixed_items(rule: &Rule, from: Cursor, line: &[u8], runs: &mut Vec<Run>) -> Place
     requires line { length line.now ≤ LONGEST_LINE }
     requires near { IsNear MAX_LEVEL from }
-    requires limit { limit ≡ row_limit MAX_LEVEL from.y }
     ensures inside { result.at ≤ length line.now }
     ensures near { IsNear MAX_LEVEL result.cursor }
-    ensures row { result.cursor.y ≡ from.y }
     ensures read { ReadsOn MAX_LEVEL rule.now line.now 0 from runs.old.items result.at
         result.cursor runs.new.items }
 {
@@ -230,6 +218,7 @@ fn take_cells_items(
         cursor: from,
     };
     while here.at < line.len() {
+        let limit = row_limit(here.cursor.y);
         let short = take_short_items(line, here, limit, runs);
         if short.at == here.at {
             return short;
@@ -241,24 +230,16 @@ fn take_cells_items(
 
 /// The same, if the line begins with a short item: few lines that don't have any later.
 #[inline(always)]
-fn take_first_items(
-    rule: &Rule,
-    from: Cursor,
-    limit: i64,
-    line: &[u8],
-    runs: &mut Vec<Run>,
-) -> Place
+fn take_first_items(rule: &Rule, from: Cursor, line: &[u8], runs: &mut Vec<Run>) -> Place
     requires line { length line.now ≤ LONGEST_LINE }
     requires near { IsNear MAX_LEVEL from }
-    requires limit { limit ≡ row_limit MAX_LEVEL from.y }
     ensures inside { result.at ≤ length line.now }
     ensures near { IsNear MAX_LEVEL result.cursor }
-    ensures row { result.cursor.y ≡ from.y }
     ensures read { ReadsOn MAX_LEVEL rule.now line.now 0 from runs.old.items result.at
         result.cursor runs.new.items }
 {
     if begins_short(line) {
-        return take_cells_items(rule, from, limit, line, runs);
+        return take_mixed_items(rule, from, line, runs);
     }
     Place {
         at: 0,
@@ -283,8 +264,8 @@ pub(crate) fn read_items(
     ensures kept { OnErr result (IsFrontOf runs.old.items runs.new.items) }
 {
     reserve_runs(line, runs)?;
-    let mut limit = row_limit(from.y);
-    let Place { mut at, mut cursor } = take_first_items(rule, from, limit, line, runs);
+    let Place { mut at, mut cursor } = take_first_items(rule, from, line, runs);
+    let mut limit = row_limit(cursor.y);
     while at < line.len() {
         match token_at(line, at) {
             Token::Space => at += 1,

@@ -32,6 +32,9 @@ static DIGITS: [u8; 256] = [
     0, 0, 0, 0, 0, 0, 0, 0, 0, 0, 0, 0, 0, 0, 0, 0, 0, 0, 0, 0, 0, 0, 0, 0, 0, 0, 0, 0, 0, 0, 0, 0,
 ];
 
+/// A line of fewer bytes has few items, so that it doesn't pay to look for short ones.
+const FEW_BYTES: usize = 32;
+
 /// Short items of a line move the cursor by fewer columns than this: 9 for each byte of the longest line.
 const FAR: i64 = 9 * LONGEST_LINE as i64;
 
@@ -68,12 +71,12 @@ fn short_item(line: &[u8], at: usize) -> (u64, usize)
     (short_count(first), at + short_digits(first))
 }
 
-/// Whether a line begins with a short item.
+/// Whether a line begins with a short item, and has enough bytes for more of them.
 #[inline(always)]
 pub(crate) fn begins_short(line: &[u8]) -> bool
     ensures { IsTrue result → 1 < length line.now }
 {
-    if line.len() < 2 {
+    if line.len() < FEW_BYTES {
         return false;
     }
     let (_, last) = short_item(line, 0);

@@ -1,4 +1,4 @@
-use Rattle.std.proofs.Common.{◌≡◌, ◌∙◌, ◌⊎◌, Some, ap, sym, subst, inl, inr, drop, ℤ, w64, to_z, of_z, to_z-of_z, FitsSigned, rules}
+use Rattle.std.proofs.Common.{◌≡◌, ◌⊎◌, Some, sym, subst, inl, inr, drop, ℤ, w64, to_z, of_z, to_z-of_z, FitsSigned, rules}
 use Rattle.std.proofs.lemmas.Result.{err_from_is_err_and}
 use Rattle.life_base.specs.declared.kind.Kind.{Kind}
 use Rattle.life_base.specs.declared.kind.Kind.TheVariants.{Memory}
@@ -64,14 +64,11 @@ loop-at-preserved c =
 
 pub loop-at-init : goal.loop-at-init
 loop-at-init c =
-    let line = c.args.line.now in
-    let rule = c.args.rule.now in
     let first = c.take_first_items-at in
-    let limit : c.row_limit-limit.result ≡ row_limit MAX_LEVEL first.result.cursor.y =
-    limit-is c.row_limit-limit.result c.args.from.y (search rules) c.row_limit-limit.ensures ∙ ap (row_limit MAX_LEVEL) (sym first.ensures.row) in
     record {
       inside = first.ensures.inside;
-      limit = held c.row_limit-limit.result (row_limit MAX_LEVEL first.result.cursor.y) (search rules) limit;
+      limit = held c.row_limit-limit.result (row_limit MAX_LEVEL first.result.cursor.y) (search rules)
+          (limit-is c.row_limit-limit.result first.result.cursor.y (search rules) c.row_limit-limit.ensures);
       read = first.ensures.read c.args.from c.args.runs.now.items
-          (rw c.reserve_runs.ensures.runs (reads-none rule c.args.from line c.args.runs.now.items c.requires.near));
+          (rw c.reserve_runs.ensures.runs (reads-none c.args.rule.now c.args.from c.args.line.now c.args.runs.now.items c.requires.near));
     }
