@@ -144,7 +144,7 @@ const FIRST: Run = Run {
     state: 0,
 };
 
-/// Most runs of a step.
+/// The runs of a step are fewer than this.
 const RUNS: u8 = 100;
 
 /// A builder with the runs of a text, each of which comes after the one before it.
