@@ -45,7 +45,8 @@ pub fn sentence(kind: Kind) -> &'static str
         Kind::BadLeaf => "A leaf has another byte than . * $, or more than 8 rows or columns.",
         Kind::Timeline => "The file holds several patterns, with lines #FRAME.",
         Kind::LineTooLong => "A line of the file, or of the rule table, has more than 2^20 bytes.",
-        Kind::Full => "The command needs more than 2^31 different squares.",
+        Kind::Full =>
+            "The command needs more than 2^31 different squares, or a form has more than 2^21.",
         Kind::Memory => "Memory was refused.",
         Kind::Spent => "A reader that has refused was used again.",
         Kind::NoRuleLine => "The table begins with no line @RULE NAME.",
@@ -67,10 +68,9 @@ pub fn sentence(kind: Kind) -> &'static str
         Kind::Ambiguous => {
             "The line of the table that fits a cell of the pattern gives it two states."
         }
-        Kind::TooManyCells => concat!(
-            "More than 2^20 cells aren't 0: too many for convert --to rle, for step, and for the forms moved and ",
-            "turned.",
-        ),
+        Kind::TooManyCells => {
+            "More than 2^20 cells aren't 0: too many for convert --to rle and for step."
+        }
         Kind::GenerationTooLarge => {
             "The pattern is of generation 2^64 - 1, and so has no next one."
         }

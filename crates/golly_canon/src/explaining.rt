@@ -148,8 +148,7 @@ fn advice(kind: Kind) -> &'static str {
             "A line was probably lost, added or changed: get the file again.",
         Kind::Timeline =>
             "Open the file in Golly, and save one of its patterns as a file of its own.",
-        Kind::TooManyCells =>
-            "The commands canon and keys have no such limit.",
+        Kind::TooManyCells => "The commands canon and keys have no such limit.",
         Kind::NeedsTable => "Name the rule table: golly_canon step --table NAME.rule FILE.",
         Kind::RuleMismatch => "Take the table of that name; for a B/S rule leave --table out.",
         Kind::NoRuleLine =>

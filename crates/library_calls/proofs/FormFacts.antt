@@ -208,10 +208,17 @@ pub either-unmoved : PatternsFit MAX_LEVEL → (limit : ℕ) (first second : Lis
 either-unmoved fit limit first second store a b fault room read other (inl memory) =
     either-unread Moved limit first second store fault room (inr (inr (inl memory))) (not-full fault memory)
 either-unmoved fit limit first second store a b fault room read other (inr large) =
-    inr (large.0, (accepted-it first store a read, accepted-it second store b other, elim large.1 [
-      | inl it ↦ inl (large-file fit limit first store a room read it)
-      | inr it ↦ inr (large-file fit limit second store b room other it)
-    ]))
+    inr (
+      large.0,
+      (
+        accepted-it first store a read,
+        accepted-it second store b other,
+        elim large.1 [
+          | inl it ↦ inl (large-file fit limit first store a room read it)
+          | inr it ↦ inr (large-file fit limit second store b room other it)
+        ],
+      ),
+    )
 
 -- two that aren't turned
 pub either-unturned : PatternsFit MAX_LEVEL → (limit : ℕ) (first second : List ℕ) (store : Nodes) (a b : Pattern) (fault : Fault)
@@ -221,7 +228,13 @@ pub either-unturned : PatternsFit MAX_LEVEL → (limit : ℕ) (first second : Li
 either-unturned fit limit first second store a b fault room read other (inl memory) =
     either-unread Turned limit first second store fault room (inr (inr (inl memory))) (not-full fault memory)
 either-unturned fit limit first second store a b fault room read other (inr large) =
-    inr (large.0, (of-one-generation fit first second store a b read other large.1, elim large.2 [
-      | inl it ↦ inl (large-image fit limit first store a room read it)
-      | inr it ↦ inr (large-image fit limit second store b room other it)
-    ]))
+    inr (
+      large.0,
+      (
+        of-one-generation fit first second store a b read other large.1,
+        elim large.2 [
+          | inl it ↦ inl (large-image fit limit first store a room read it)
+          | inr it ↦ inr (large-image fit limit second store b room other it)
+        ],
+      ),
+    )

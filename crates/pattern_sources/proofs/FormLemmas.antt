@@ -57,9 +57,15 @@ module _ (fit : PatternsFit MAX_LEVEL) (store : Nodes) (pattern : Pattern) where
 
   pub large_image : store.limit ≡ 2 ^ 31 → (bytes : List ℕ) → IsRead MAX_LEVEL bytes store pattern → HasLargeImage store pattern
       → files.HasLargeForm Turned MAX_LEVEL bytes
-  large_image limit bytes read large =
-      (read.universe, read.reads, (large.0, subst₂ (λ (n : ℕ) (u : Universe). HasLargerForm n (image large.0 u)) (form_limit store.limit limit)
-      (sym (said bytes read)) large.1))
+  large_image limit bytes read large = (
+    read.universe,
+    read.reads,
+    (
+      large.0,
+      subst₂ (λ (n : ℕ) (u : Universe). HasLargerForm n (image large.0 u)) (form_limit store.limit limit)
+          (sym (said bytes read)) large.1,
+    ),
+  )
 
   -- why there is no text
   pub unmoved : {X : Type 0} (r : Result X Fault) → store.limit ≡ 2 ^ 31

@@ -101,13 +101,13 @@ both files are -.
   GenerationTooLarge
                    `step` from the generation 2^64 - 1
   OutOfPlane       in a `step`, a cell outside the plane wouldn't stay 0
-  TooManyCells     more than 2^20 cells aren't 0: too many for `convert --to rle`,
-                   for `step`, and for `--form moved` and `--form turned`
+  TooManyCells     more than 2^20 cells aren't 0: too many for `convert --to rle`
+                   and for `step`
   InputTooLong     a file has more than 2^30 bytes
   ReadFault        a file can't be opened or read
   WriteFault       the output can't be written
   Full             a command needs more than 2^31 different squares: reading does so
-                   only for files of more than 153 MB
+                   only for files of more than 153 MB; or a form has more than 2^21
   Memory           there isn't enough memory",
 };
 
@@ -135,7 +135,8 @@ turned  of its eight turns and reflections, each moved, the one with the least t
 Two patterns have the same moved text exactly if a shift takes one to the other, and
 the same turned text exactly if a turn or a reflection and then a shift does. The rule
 and the generation stay as they are, even if the rule distinguishes directions. A
-pattern with more than 2^20 cells that aren't 0 has neither text (TooManyCells).",
+moved pattern has at most 2^21 different squares, and so has each of the eight of a
+turned one; otherwise the form is refused (Full).",
     notes: notes_over_one_file!(
         "Examples:
   golly_canon canon glider.rle
@@ -200,14 +201,15 @@ Exit status:
   1  they are different patterns
   2  a file was refused
   3  a file can't be opened or read, or the output can't be written
-  4  there isn't enough memory, or more than 2^31 squares are needed
+  4  there isn't enough memory, or more than 2^31 squares are needed, or more than
+     2^21 in a form
   5  the command line isn't understood, or both files are -
 
 The line on standard error doesn't say which file it is about. With --explain, the
 sentence after it does, where that can be found out. The first of these is
 reported: A can't be read or is too long; B can't be read or is too long; A's first
 fault; B's first fault; and then, with --form moved, or with --form turned if both have
-the same generation, one of them has more than 2^20 cells that aren't 0 (TooManyCells).
+the same generation, the form of one of them has more than 2^21 squares (Full).
 See `golly_canon --help` for the lines on standard error.",
 };
 
