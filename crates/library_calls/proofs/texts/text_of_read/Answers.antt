@@ -56,15 +56,15 @@ returns-in-Next-clause-fault c =
     (record { distinct = c.len.ensures.distinct; live = λ t there. (c.len.ensures.only t there).0 }) c.next_by_rule-text.ensures.adds why.0 why.1)
     (and-lacks _ c.next_by_rule-text.result c.next_by_rule-text.ensures.refused c.next_by_rule-text.ensures.needed))
 
-pub returns-in-Moved-clause-text : goal.returns-in-Moved-clause-text
-returns-in-Moved-clause-text c =
+pub returns-in_ok-form-in-Moved-clause-text : goal.returns-in_ok-form-in-Moved-clause-text
+returns-in_ok-form-in-Moved-clause-text c =
     of-form c.args.store.now c.args.pattern (λ text. text.items) c.text_of-in-Moved.result c.in-Moved.is
-    (IfOk-weaker c.text_of-in-Moved.result _ _ (λ text is bytes read. moved-text c.patterns_fit.ensures bytes c.args.store.now c.in_ok-form.form
-    c.args.pattern c.in_ok-form.moved text.items read c.in_ok-form.ensures.moved is)
+    (IfOk-weaker c.text_of-in-Moved.result _ _ (λ text is bytes read. moved-text c.patterns_fit.ensures bytes c.args.store.now c.in_ok-form-in-Moved.form
+    c.args.pattern c.in_ok-form-in-Moved.moved text.items read c.in_ok-form-in-Moved.ensures.moved is)
     c.text_of-in-Moved.ensures.text)
 
-pub returns-in-Moved-clause-fault : goal.returns-in-Moved-clause-fault
-returns-in-Moved-clause-fault c =
+pub returns-in_ok-form-in-Moved-clause-fault : goal.returns-in_ok-form-in-Moved-clause-fault
+returns-in_ok-form-in-Moved-clause-fault c =
     IfErr-weaker c.text_of-in-Moved.result _ _ (wants c.args.output c.args.store.now c.args.pattern) c.text_of-in-Moved.ensures.memory
 
 pub returns-in-Turned-clause-text : goal.returns-in-Turned-clause-text
@@ -79,9 +79,9 @@ returns-in-Turned-clause-fault c =
     (IfErr-weaker c.turned_text.result _ _ (λ fault why limit bytes is read only. unturned c.patterns_fit.ensures limit bytes c.args.store.now
     c.args.pattern fault is read why) c.turned_text.ensures.fault)
 
-pub returns-in_err-form-clause-fault : goal.returns-in_err-form-clause-fault
-returns-in_err-form-clause-fault c =
+pub returns-in_err-form-in-Moved-clause-fault : goal.returns-in_err-form-in-Moved-clause-fault
+returns-in_err-form-in-Moved-clause-fault c =
     let p = err_from_is_err_and c.from_residual.result c.from_residual.ensures.1 in
-    let fault = c.in_err-form.field-0.0 in
+    let fault = c.in_err-form-in-Moved.field-0.0 in
     rw (p.1, p.2) (λ limit bytes is read only. subst (λ (f : Output). RefusesTextOf f limit bytes fault) (sym c.in-Moved.is)
-    (unmoved c.patterns_fit.ensures limit bytes c.args.store.now c.args.pattern fault is read c.in_err-form.ensures.fault))
+    (unmoved c.patterns_fit.ensures limit bytes c.args.store.now c.args.pattern fault is read c.in_err-form-in-Moved.ensures.fault))
