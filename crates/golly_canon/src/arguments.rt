@@ -33,18 +33,18 @@ impl From<io::Error> for Unreadable {
     }
 }
 
-/// The arguments, the program's own name first.
-pub(crate) fn arguments(rt: &HostRuntime) -> io::Result<Vec<String>> {
-    Ok(env::args(rt)?.collect(rt.alloc())?)
-}
-
-/// The arguments where one of them isn't UTF-8 text.
+/// The arguments, each as text.
 #[derive(Drop)]
-pub(crate) struct LossyArguments {
+pub(crate) struct Arguments {
     /// All arguments, the program's own name first, with U+FFFD in place of what isn't UTF-8 text.
     pub words: Vec<String>,
     /// Those that aren't UTF-8 text, also so.
     pub damaged: Vec<String>,
+}
+
+/// The arguments, if all are UTF-8 text.
+fn words(rt: &HostRuntime) -> io::Result<Vec<String>> {
+    Ok(env::args(rt)?.collect(rt.alloc())?)
 }
 
 /// The bytes of an argument, if there is one in this place.
@@ -65,29 +65,44 @@ fn argument(rt: &HostRuntime, place: usize) -> Result<Option<Vec<u8>>, AllocErro
     Err(AllocError)
 }
 
-/// Adds a word at the end.
-fn push(words: &mut Vec<String>, word: String) -> Result<(), AllocError> {
-    match words.push(word) {
+/// Adds an argument as text.
+fn push_word(rt: &HostRuntime, words: &mut Vec<String>, bytes: &[u8]) -> Result<(), AllocError> {
+    match words.push(String::from_utf8_lossy(rt.alloc(), bytes)?) {
         Ok(()) => Ok(()),
         Err(_) => Err(AllocError),
     }
 }
 
-/// The arguments, whether or not they are UTF-8 text.
-pub(crate) fn lossy_arguments(rt: &HostRuntime) -> Result<LossyArguments, AllocError> {
-    let mut words = Vec::new(rt.alloc());
-    let mut damaged = Vec::new(rt.alloc());
+/// The arguments, of which one isn't UTF-8 text.
+fn damaged_arguments(rt: &HostRuntime) -> Result<Arguments, AllocError> {
+    let mut arguments = Arguments {
+        words: Vec::new(rt.alloc()),
+        damaged: Vec::new(rt.alloc()),
+    };
     for place in 0..usize::MAX {
         let Some(bytes) = argument(rt, place)? else {
             break;
         };
-        let word = bytes.as_slice();
-        push(&mut words, String::from_utf8_lossy(rt.alloc(), word)?)?;
-        if str::from_utf8(word).is_err() {
-            push(&mut damaged, String::from_utf8_lossy(rt.alloc(), word)?)?;
+        push_word(rt, &mut arguments.words, bytes.as_slice())?;
+        if str::from_utf8(bytes.as_slice()).is_err() {
+            push_word(rt, &mut arguments.damaged, bytes.as_slice())?;
         }
     }
-    Ok(LossyArguments { words, damaged })
+    Ok(arguments)
+}
+
+/// The arguments, whether or not they are UTF-8 text.
+pub(crate) fn read_arguments(rt: &HostRuntime) -> Result<Arguments, AllocError> {
+    match words(rt) {
+        Ok(words) => Ok(Arguments {
+            words,
+            damaged: Vec::new(rt.alloc()),
+        }),
+        Err(error) => match Unreadable::from(error) {
+            Unreadable::NoText => damaged_arguments(rt),
+            Unreadable::Memory => Err(AllocError),
+        },
+    }
 }
 
 /// Writes the line that says that this argument isn't UTF-8 text, and returns the status.

@@ -42,27 +42,26 @@ impl Hints {
         }
     }
 
-    /// What to do about an argument that is a folder.
-    pub(crate) fn of_folder(&self) -> Option<&'static str> {
-        self.has_folder
-            .get()
-            .then_some("To read the files in a folder and below it, add -r.\n")
+    /// What to do about an argument that is a folder, or nothing.
+    pub(crate) fn of_folder(&self) -> &'static str {
+        if self.has_folder.get() {
+            "To read the files in a folder and below it, add -r.\n"
+        } else {
+            ""
+        }
     }
 
-    /// What to do about a list whose names seem to have the other end. `zero` says whether each ends in NUL.
-    pub(crate) fn of_list(&self, zero: bool, names: &NameCount) -> Option<&'static str> {
-        if !names.has_other_end() {
-            return None;
+    /// What to do about a list whose names seem to have the other end, or nothing. `zero` says whether each ends in NUL.
+    pub(crate) fn of_list(&self, zero: bool, names: &NameCount) -> &'static str {
+        if !names.has_other_end.get() {
+            ""
+        } else if !zero {
+            "The list has NUL bytes. If its names end in NUL, as those of find -print0, add --zero.\n"
+        } else if names.count.get() == 1 && !self.opens_list_files.get() {
+            "The list is one name with line feeds in it. If its names end in a line feed, leave out --zero.\n"
+        } else {
+            ""
         }
-        if !zero {
-            return Some(
-                "The list has NUL bytes. If its names end in NUL, as those of find -print0, add --zero.\n",
-            );
-        }
-        let is_one = names.count() == 1 && !self.opens_list_files.get();
-        is_one.then_some(
-            "The list is one name with line feeds in it. If its names end in a line feed, leave out --zero.\n",
-        )
     }
 }
 
@@ -79,39 +78,30 @@ pub(crate) struct Tally {
 }
 
 impl Tally {
-    /// The first part of the line.
-    fn beginning(self, rt: &HostRuntime) -> Result<String, AllocError> {
+    /// The line that says so.
+    pub(crate) fn line(self, rt: &HostRuntime) -> Result<String, AllocError> {
         let Tally {
             files,
-            refusals: _,
+            refusals,
             duplicates,
             groups,
         } = self;
+        let more = match refusals {
+            0 => String::new(rt.alloc()),
+            _ => format!(in rt.alloc(); " (passed over: {refusals})")?,
+        };
+        let more = more.as_str();
         if files < 2 {
-            return String::from_str(rt.alloc(), "There are no two files to compare");
+            return format!(in rt.alloc(); "There are no two files to compare{more}.\n");
         }
         match groups {
-            0 => format!(in rt.alloc(); "No two of {files} files are the same pattern"),
+            0 => format!(in rt.alloc(); "No two of {files} files are the same pattern{more}.\n"),
             1 => format!(in rt.alloc();
-                "{duplicates} of {files} files are in 1 group of duplicates"
+                "{duplicates} of {files} files are in 1 group of duplicates{more}.\n"
             ),
-            _ => {
-                format!(in rt.alloc();
-                    "{duplicates} of {files} files are in {groups} groups of duplicates"
-                )
-            }
+            _ => format!(in rt.alloc();
+                "{duplicates} of {files} files are in {groups} groups of duplicates{more}.\n"
+            ),
         }
-    }
-
-    /// The line that says so.
-    pub(crate) fn line(self, rt: &HostRuntime) -> Result<String, AllocError> {
-        let mut line = self.beginning(rt)?;
-        if self.refusals > 0 {
-            let refusals = self.refusals;
-            let more = format!(in rt.alloc(); " (passed over: {refusals})")?;
-            line.push_str(more.as_str())?;
-        }
-        line.push_str(".\n")?;
-        Ok(line)
     }
 }

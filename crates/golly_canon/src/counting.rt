@@ -11,9 +11,11 @@ pub(crate) struct NameCount {
     other_end: u8,
     // Whether the bytes so far end within a name.
     is_within: Cell<bool>,
-    count: Cell<usize>,
+    /// How many names that is, without the empty ones.
+    pub count: Cell<usize>,
     empty_count: Cell<usize>,
-    has_other_end: Cell<bool>,
+    /// Whether there is a NUL where each name ends in LF, or an LF where each ends in NUL.
+    pub has_other_end: Cell<bool>,
 }
 
 impl NameCount {
@@ -50,21 +52,11 @@ impl NameCount {
         self.has_other_end.set(self.has_other_end.get() || bytes.contains(&self.other_end));
     }
 
-    /// How many names that is, without the empty ones.
-    pub(crate) fn count(&self) -> usize {
-        self.count.get()
-    }
-
     /// How many groups these names are in, where an empty name separates two groups.
     pub(crate) fn groups(&self) -> usize {
         match self.count.get() {
             0 => 0,
             _ => self.empty_count.get().saturating_add(1),
         }
-    }
-
-    /// Whether there is a NUL where each name ends in LF, or an LF where each ends in NUL.
-    pub(crate) fn has_other_end(&self) -> bool {
-        self.has_other_end.get()
     }
 }

@@ -2,67 +2,73 @@
 
 use std::alloc::AllocError;
 
-/// How the command `keys` writes a character of a name that it doesn't write as it is.
-fn escape(character: char) -> Option<&'static str> {
-    match character {
-        '\\' => Some("\\\\"),
-        '\n' => Some("\\n"),
-        '\r' => Some("\\r"),
-        _ => None,
+/// The hexadecimal digits.
+const DIGITS: &[u8; 16] = b"0123456789abcdef";
+
+/// A byte as `\x` and its two digits.
+pub(crate) fn hexadecimal(byte: u8) -> [u8; 4] {
+    [
+        b'\\',
+        b'x',
+        DIGITS[usize::from(byte / 16)],
+        DIGITS[usize::from(byte % 16)],
+    ]
+}
+
+/// Adds pieces of text, one after the other.
+pub(crate) fn push_all(text: &mut Vec<u8>, pieces: &[&[u8]]) -> Result<(), AllocError> {
+    for piece in pieces {
+        text.extend_from_slice(piece)?;
     }
+    Ok(())
+}
+
+/// Adds bytes that are not written as they are: backslash, LF and CR after a backslash, and each other one as `\xHH`.
+fn push_escaped(text: &mut Vec<u8>, bytes: &[u8]) -> Result<(), AllocError> {
+    for byte in bytes {
+        let digits = hexadecimal(*byte);
+        let escaped: &[u8] = match byte {
+            b'\\' => b"\\\\",
+            b'\n' => b"\\n",
+            b'\r' => b"\\r",
+            _ => &digits,
+        };
+        text.extend_from_slice(escaped)?;
+    }
+    Ok(())
 }
 
 /// Adds a name as the command `keys` writes it, with backslash, LF and CR escaped.
-pub(crate) fn push_name(text: &mut String, name: &str) -> Result<(), AllocError> {
-    for character in name.chars() {
-        match escape(character) {
-            Some(escaped) => text.push_str(escaped)?,
-            None => text.push(character)?,
+pub(crate) fn push_name(text: &mut Vec<u8>, name: &str) -> Result<(), AllocError> {
+    for byte in name.as_bytes() {
+        match byte {
+            b'\\' | b'\n' | b'\r' => push_escaped(text, &[*byte])?,
+            _ => text.extend_from_slice(&[*byte])?,
         }
     }
     Ok(())
 }
 
-/// A hexadecimal digit.
-fn digit(value: u8) -> char {
-    char::from_digit(u32::from(value), 16).unwrap_or('?')
-}
-
-/// Adds a byte as `\x` and its two digits.
-fn push_byte(text: &mut String, byte: u8) -> Result<(), AllocError> {
-    text.push_str("\\x")?;
-    text.push(digit(byte / 16))?;
-    text.push(digit(byte % 16))
-}
-
-/// Adds each of these bytes so.
-fn push_bytes(text: &mut String, bytes: &[u8]) -> Result<(), AllocError> {
-    for byte in bytes {
-        push_byte(text, *byte)?;
+/// Adds characters, of which backslash and control characters are escaped.
+fn push_characters(text: &mut Vec<u8>, characters: &str) -> Result<(), AllocError> {
+    for character in characters.chars() {
+        let mut buffer = [0; 4];
+        let bytes = character.encode_utf8(&mut buffer).as_bytes();
+        if character == '\\' || character.is_control() {
+            push_escaped(text, bytes)?;
+        } else {
+            text.extend_from_slice(bytes)?;
+        }
     }
     Ok(())
-}
-
-/// Adds a character, or what is written in its place: of a control character its bytes.
-fn push_character(text: &mut String, character: char) -> Result<(), AllocError> {
-    if let Some(escaped) = escape(character) {
-        return text.push_str(escaped);
-    }
-    if !character.is_control() {
-        return text.push(character);
-    }
-    let mut bytes = [0; 4];
-    push_bytes(text, character.encode_utf8(&mut bytes).as_bytes())
 }
 
 /// Adds text without control characters: backslash, LF and CR are escaped as in a name, and each other control character and what is no UTF-8 text is
 /// written as `\xHH`, byte by byte.
-pub(crate) fn push_visible(text: &mut String, bytes: &[u8]) -> Result<(), AllocError> {
+pub(crate) fn push_visible(text: &mut Vec<u8>, bytes: &[u8]) -> Result<(), AllocError> {
     for chunk in bytes.utf8_chunks() {
-        for character in chunk.valid().chars() {
-            push_character(text, character)?;
-        }
-        push_bytes(text, chunk.invalid())?;
+        push_characters(text, chunk.valid())?;
+        push_escaped(text, chunk.invalid())?;
     }
     Ok(())
 }

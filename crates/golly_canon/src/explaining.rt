@@ -1,11 +1,10 @@
 //! What is said of a fault after its own line: the file, the line's text, a sentence, and what to do; and the warning of a file after the answer.
 
-use crate::escaping::push_visible;
-use crate::foreign::{Foreign, recognized};
+use crate::escaping::{push_all, push_visible};
+use crate::foreign::Foreign;
 use crate::item_marks::push_item_mark;
 use crate::opening::HeldStreams;
-use crate::outputs::Nowhere;
-use crate::rereading::{SHOWN, again, head, line, unreadable};
+use crate::rereading::{SHOWN, again, foreign, line, unreadable};
 use crate::watching::Warning;
 use fault_sentences::sentence;
 use life_base::{Device, Fault, Kind};
@@ -13,7 +12,7 @@ use life_cli::plans::{Form, Task, TaskPlan};
 use life_cli::{Refusal, Seeds, carry_out};
 use std::alloc::AllocError;
 use std::fs::File;
-use std::io::Write;
+use std::io::{Write, sink};
 
 /// The file that a fault is in.
 #[derive(Clone, Copy)]
@@ -41,7 +40,7 @@ fn is_refused_alone(
 ) -> Option<bool> {
     let mut first = Device::new(again(rt, name)?);
     let mut second: Option<Device<File>> = None;
-    let mut out = Device::new(Nowhere);
+    let mut out = Device::new(sink());
     let task = Task::Canon(form);
     match carry_out(rt.alloc(), seeds, &task, &mut first, &mut second, &mut out) {
         Ok(_) => Some(false),
@@ -106,7 +105,7 @@ impl<'a> Place<'a> {
     /// What the file is, if it is something that the program doesn't read.
     fn foreign(self, rt: &HostRuntime) -> Option<Foreign> {
         match self {
-            Place::File { name, is_table } => recognized(head(rt, name)?.as_slice(), is_table),
+            Place::File { name, is_table } => foreign(rt, name, is_table),
             _ => None,
         }
     }
@@ -161,31 +160,30 @@ fn advice(kind: Kind) -> &'static str {
 }
 
 /// Adds a file's name, or `standard input`.
-fn push_file(text: &mut String, name: &str) -> Result<(), AllocError> {
-    if name == "-" {
-        text.push_str("standard input")
-    } else {
-        push_visible(text, name.as_bytes())
+fn push_file(text: &mut Vec<u8>, name: &str) -> Result<(), AllocError> {
+    match name {
+        "-" => text.extend_from_slice(b"standard input"),
+        _ => push_visible(text, name.as_bytes()),
     }
 }
 
 /// Adds where a fault is: `FILE, line N: `, as far as that is known.
 fn push_place(
     rt: &HostRuntime,
-    text: &mut String,
+    text: &mut Vec<u8>,
     place: Place<'_>,
     number: u64,
 ) -> Result<(), AllocError> {
     match place {
         Place::Nowhere => return Ok(()),
         Place::File { name, .. } => push_file(text, name)?,
-        Place::OneOfTwo => text.push_str("one of the two files")?,
+        Place::OneOfTwo => text.extend_from_slice(b"one of the two files")?,
     }
-    if number > 0 {
-        let line = format!(in rt.alloc(); ", line {number}")?;
-        text.push_str(line.as_str())?;
+    if number == 0 {
+        return text.extend_from_slice(b": ");
     }
-    text.push_str(": ")
+    let line = format!(in rt.alloc(); ", line {number}: ")?;
+    text.extend_from_slice(line.as_bytes())
 }
 
 /// The part of a line that is shown: not the carriage return at its end.
@@ -197,26 +195,34 @@ fn shown(line: &[u8]) -> &[u8] {
 }
 
 /// Adds the text of a line, on a line of its own, and three dots where it goes on.
-fn push_line(text: &mut String, line: &[u8]) -> Result<(), AllocError> {
-    let (front, goes_on) = match line.get(..SHOWN) {
-        Some(front) if line.len() > SHOWN => (front, true),
-        _ => (shown(line), false),
+fn push_line(text: &mut Vec<u8>, line: &[u8]) -> Result<(), AllocError> {
+    let (front, end): (&[u8], &[u8]) = match line.get(..SHOWN) {
+        Some(front) if line.len() > SHOWN => (front, b" ...\n"),
+        _ => (shown(line), b"\n"),
     };
     if front.is_empty() {
         return Ok(());
     }
-    text.push_str("    ")?;
+    text.extend_from_slice(b"    ")?;
     push_visible(text, front)?;
-    text.push_str(if goes_on { " ...\n" } else { "\n" })
+    text.extend_from_slice(end)
+}
+
+/// Adds the line that is refused, and where an item of it is, a mark under that.
+fn push_refused_line(text: &mut Vec<u8>, line: &[u8], kind: Kind) -> Result<(), AllocError> {
+    push_line(text, line)?;
+    match kind {
+        Kind::BadItem => push_item_mark(text, line),
+        _ => Ok(()),
+    }
 }
 
 /// Adds a sentence, if there is one, on a line of its own.
-fn push_sentence(text: &mut String, sentence: &str) -> Result<(), AllocError> {
+fn push_sentence(text: &mut Vec<u8>, sentence: &str) -> Result<(), AllocError> {
     if sentence.is_empty() {
         return Ok(());
     }
-    text.push_str(sentence)?;
-    text.push('\n')
+    push_all(text, &[sentence.as_bytes(), b"\n"])
 }
 
 /// What is said of a fault of a file, or of none.
@@ -225,22 +231,21 @@ fn explanation(
     seeds: &Seeds,
     plan: &TaskPlan,
     refusal: &Refusal,
-) -> Result<String, AllocError> {
-    let mut text = String::new(rt.alloc());
+) -> Result<Vec<u8>, AllocError> {
+    let mut text = Vec::new(rt.alloc());
     let place = Place::of(rt, seeds, plan, refusal);
-    let number = refusal.fault.place.line;
-    push_place(rt, &mut text, place, number)?;
-    push_sentence(&mut text, sentence(refusal.fault.kind))?;
-    let foreign = place.foreign(rt);
-    if !foreign.is_some_and(|it| it.is_binary()) {
-        if let Some(line) = place.line(rt, number) {
-            push_line(&mut text, line.as_slice())?;
-            if refusal.fault.kind == Kind::BadItem {
-                push_item_mark(&mut text, line.as_slice())?;
-            }
+    let Fault { kind, place: at } = refusal.fault;
+    push_place(rt, &mut text, place, at.line)?;
+    push_sentence(&mut text, sentence(kind))?;
+    let (advice, is_text) = match place.foreign(rt) {
+        Some(foreign) => (foreign.advice, foreign.is_text),
+        None => (advice(kind), true),
+    };
+    if is_text {
+        if let Some(line) = place.line(rt, at.line) {
+            push_refused_line(&mut text, line.as_slice(), kind)?;
         }
     }
-    let advice = foreign.map_or(advice(refusal.fault.kind), |it| it.advice());
     push_sentence(&mut text, advice)?;
     Ok(text)
 }
@@ -256,36 +261,50 @@ fn why_unread(rt: &HostRuntime, held: &HeldStreams, name: &str) -> Option<&'stat
     unreadable(rt, "/dev/stdin")
 }
 
-/// What is said where a file can't be read, or no random bytes come.
-fn unread_explanation(
-    rt: &HostRuntime,
-    held: &HeldStreams,
-    plan: &TaskPlan,
-) -> Result<String, AllocError> {
-    let mut text = String::new(rt.alloc());
-    let names = [Some(plan.first.as_str()), plan.second.as_deref()];
-    for name in names.iter().flatten() {
-        if let Some(why) = why_unread(rt, held, name) {
-            push_file(&mut text, name)?;
-            text.push_str(": ")?;
-            push_sentence(&mut text, why)?;
-            return Ok(text);
-        }
+/// Writes a text to standard error, as far as that takes it; nothing where there was no memory for the text.
+fn say(rt: &HostRuntime, text: Result<Vec<u8>, AllocError>) {
+    if let Ok(text) = text {
+        let _ = rt.stderr().write_all(text.as_slice());
     }
-    push_sentence(&mut text, sentence(Kind::ReadFault))?;
-    Ok(text)
 }
 
-/// Writes a text to standard error, as far as that takes it; nothing where there was no memory for the text.
-fn say(rt: &HostRuntime, text: Result<String, AllocError>) {
-    if let Ok(text) = text {
-        let _ = rt.stderr().write_all(text.as_bytes());
+/// The line that says why a file can't be read.
+fn unread_line(rt: &HostRuntime, name: &str, why: &str) -> Result<Vec<u8>, AllocError> {
+    let mut line = Vec::new(rt.alloc());
+    push_file(&mut line, name)?;
+    push_all(&mut line, &[b": ", why.as_bytes(), b"\n"])?;
+    Ok(line)
+}
+
+/// A sentence on a line of its own.
+fn sentence_line(rt: &HostRuntime, sentence: &str) -> Result<Vec<u8>, AllocError> {
+    let mut line = Vec::new(rt.alloc());
+    push_sentence(&mut line, sentence)?;
+    Ok(line)
+}
+
+/// Says that a file can't be read, if that is seen, and returns whether it is.
+fn explain_unread_file(rt: &HostRuntime, held: &HeldStreams, name: &str) -> bool {
+    match why_unread(rt, held, name) {
+        Some(why) => {
+            say(rt, unread_line(rt, name, why));
+            true
+        }
+        None => false,
     }
 }
 
 /// Writes what is said where a file can't be read, or no random bytes come.
 pub(crate) fn explain_unread(rt: &HostRuntime, held: &HeldStreams, plan: &TaskPlan) {
-    say(rt, unread_explanation(rt, held, plan));
+    if explain_unread_file(rt, held, plan.first.as_str()) {
+        return;
+    }
+    if let Some(second) = plan.second.as_deref() {
+        if explain_unread_file(rt, held, second) {
+            return;
+        }
+    }
+    say(rt, sentence_line(rt, sentence(Kind::ReadFault)));
 }
 
 /// Writes what is said of a refused task after the line of its fault.
@@ -303,8 +322,8 @@ pub(crate) fn explain(
 }
 
 /// The line of a file's warning.
-fn warning_line(rt: &HostRuntime, name: &str, warning: Warning) -> Result<String, AllocError> {
-    let mut line = String::new(rt.alloc());
+fn warning_line(rt: &HostRuntime, name: &str, warning: Warning) -> Result<Vec<u8>, AllocError> {
+    let mut line = Vec::new(rt.alloc());
     push_file(&mut line, name)?;
     warning.push(&mut line)?;
     Ok(line)

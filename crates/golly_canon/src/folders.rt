@@ -3,7 +3,7 @@
 use std::alloc::AllocError;
 use std::collections::BTreeMap;
 use std::fs;
-use std::fs::{Files, Metadata};
+use std::fs::Files;
 use std::io::{ErrorKind, Read, Result as IoResult};
 
 /// The files that names represent.
@@ -40,14 +40,6 @@ fn copied(rt: &HostRuntime, name: &str) -> Result<String, AllocError> {
     String::from_str(rt.alloc(), name)
 }
 
-/// Adds a name at the end.
-fn push_name(files: &mut Vec<String>, name: String) -> Result<(), AllocError> {
-    match files.push(name) {
-        Ok(()) => Ok(()),
-        Err(_) => Err(AllocError),
-    }
-}
-
 impl Found {
     /// No files.
     pub(crate) fn new(rt: &HostRuntime) -> Found {
@@ -60,12 +52,20 @@ impl Found {
 
     /// Adds a file.
     fn push(&mut self, name: String) -> Result<(), AllocError> {
-        push_name(&mut self.files, name)
+        match self.files.push(name) {
+            Ok(()) => Ok(()),
+            Err(_) => Err(AllocError),
+        }
     }
 
     /// Notes why a file can't be opened, whichever file has its name.
-    pub(crate) fn note(&mut self, name: String, why: ErrorKind) -> Result<(), AllocError> {
-        match self.unopened.insert(name, why) {
+    pub(crate) fn note(
+        &mut self,
+        rt: &HostRuntime,
+        name: &str,
+        why: ErrorKind,
+    ) -> Result<(), AllocError> {
+        match self.unopened.insert(copied(rt, name)?, why) {
             Ok(_) => Ok(()),
             Err(_) => Err(AllocError),
         }
@@ -77,22 +77,12 @@ impl Found {
     }
 }
 
-/// What the system says that an entry of a folder is.
-fn sort_of(metadata: &Metadata) -> Sort {
-    if metadata.is_dir() {
-        Sort::Folder
-    } else if metadata.is_file() {
-        Sort::File
-    } else {
-        Sort::Other
-    }
-}
-
 /// What an entry of a folder is.
-fn sort_of_path(rt: &HostRuntime, path: &str) -> Sort {
+fn sort_of(rt: &HostRuntime, path: &str) -> Sort {
     match fs::symlink_metadata(rt, path) {
-        Ok(metadata) => sort_of(&metadata),
-        Err(_) => Sort::File,
+        Ok(metadata) if metadata.is_dir() => Sort::Folder,
+        Ok(metadata) if !metadata.is_file() => Sort::Other,
+        _ => Sort::File,
     }
 }
 
@@ -104,19 +94,16 @@ fn is_folder(rt: &HostRuntime, word: &str) -> bool {
     }
 }
 
-/// A name, and a slash after it.
-fn with_slash(rt: &HostRuntime, folder: &str) -> Result<String, AllocError> {
-    let mut path = copied(rt, folder)?;
-    if !folder.ends_with('/') {
-        path.push('/')?;
-    }
-    Ok(path)
+/// What comes between a folder and a name in it.
+fn slash_after(folder: &str) -> &'static str {
+    if folder.ends_with('/') { "" } else { "/" }
 }
 
 /// The names in a folder, each ended by a NUL.
 fn names_in(rt: &HostRuntime, path: &str) -> IoResult<Vec<u8>> {
     // The system follows a link where a slash comes after it.
-    let mut folder = rt.open_dir(with_slash(rt, path)?.as_str())?;
+    let slash = slash_after(path);
+    let mut folder = rt.open_dir(format!(in rt.alloc(); "{path}{slash}")?.as_str())?;
     let mut names = Vec::new(rt.alloc());
     let mut piece = [0; 4096];
     for _ in 0..usize::MAX {
@@ -148,11 +135,10 @@ fn sorted<'a>(rt: &HostRuntime, listed: &'a [u8]) -> Result<Vec<&'a [u8]>, Alloc
 
 /// A name in a folder.
 fn entry_in(rt: &HostRuntime, folder: &str, name: &[u8]) -> Result<Entry, AllocError> {
-    let mut path = with_slash(rt, folder)?;
     let text = String::from_utf8_lossy(rt.alloc(), name)?;
-    path.push_str(text.as_str())?;
+    let (slash, text) = (slash_after(folder), text.as_str());
     Ok(Entry {
-        path,
+        path: format!(in rt.alloc(); "{folder}{slash}{text}")?,
         is_text: str::from_utf8(name).is_ok(),
     })
 }
@@ -184,7 +170,7 @@ fn open_folder(
         Ok(listed) => push_entries(rt, path.as_str(), listed.as_slice(), left),
         Err(error) if matches!(error.kind(), ErrorKind::OutOfMemory) => Err(AllocError),
         Err(error) => {
-            found.note(copied(rt, path.as_str())?, error.kind())?;
+            found.note(rt, path.as_str(), error.kind())?;
             found.push(path)
         }
     }
@@ -199,10 +185,10 @@ fn take_entry(
 ) -> Result<(), AllocError> {
     let Entry { path, is_text } = entry;
     if !is_text {
-        found.note(copied(rt, path.as_str())?, ErrorKind::InvalidFilename)?;
+        found.note(rt, path.as_str(), ErrorKind::InvalidFilename)?;
         return found.push(path);
     }
-    match sort_of_path(rt, path.as_str()) {
+    match sort_of(rt, path.as_str()) {
         Sort::Folder => open_folder(rt, path, left, found),
         Sort::File => found.push(path),
         Sort::Other => Ok(()),

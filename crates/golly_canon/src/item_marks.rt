@@ -1,67 +1,73 @@
 //! A mark under the first thing in a line of RLE that isn't an item.
 
 use crate::rereading::SHOWN;
+use life_base::{leading_number, trimmed_start};
 use std::alloc::AllocError;
 
 /// How many digits a text begins with.
 fn digits(text: &[u8]) -> usize {
-    text.iter().take_while(|byte| byte.is_ascii_digit()).count()
+    let (_, count) = leading_number(text);
+    count
 }
 
-/// How many bytes of whitespace a text begins with.
-fn whitespace(text: &[u8]) -> usize {
-    let is_whitespace = |byte: &&u8| matches!(**byte, b' ' | b'\t' | b'\r');
-    text.iter().take_while(is_whitespace).count()
-}
-
-/// How many bytes the item takes that a text begins with: its count, and its state or `$`. Nothing where no item is.
-fn item_length(text: &[u8]) -> Option<usize> {
-    let count = digits(text);
-    match text.get(count..)? {
-        [b'$' | b'b' | b'.' | b'o' | b'A'..=b'X', ..] => count.checked_add(1),
-        [b'p'..=b'x', b'A'..=b'X', ..] | [b'y', b'A'..=b'O', ..] => count.checked_add(2),
+/// What follows the item that a text begins with: its count, and its state or `$`. Nothing where no item is.
+fn after_item(text: &[u8]) -> Option<&[u8]> {
+    let [first, rest @ ..] = text.get(digits(text)..)? else {
+        return None;
+    };
+    let last = match *first {
+        b'$' | b'b' | b'.' | b'o' | b'A'..=b'X' => return Some(rest),
+        b'p'..=b'x' => b'X',
+        b'y' => b'O',
+        _ => return None,
+    };
+    match rest {
+        [second, others @ ..] if *second >= b'A' && *second <= last => Some(others),
         _ => None,
     }
 }
 
-/// Where the first thing is that isn't an item. Nothing where all are items up to the end of the line or to a `!`, or where too little is known of a line that
-/// goes on.
-fn bad_item(line: &[u8]) -> Option<usize> {
-    let mut rest = line;
+/// What follows the items that a line begins with, and the whitespace after them.
+fn after_items(line: &[u8]) -> &[u8] {
+    let mut rest = trimmed_start(line);
     for _ in 0..line.len() {
-        rest = rest.get(whitespace(rest)..)?;
-        if rest.is_empty() || rest.starts_with(b"!") {
-            return None;
+        match after_item(rest) {
+            Some(others) => rest = trimmed_start(others),
+            None => break,
         }
-        let Some(length) = item_length(rest) else {
-            break;
-        };
-        rest = rest.get(length..)?;
     }
-    if line.len() > SHOWN && rest.len() <= digits(rest).saturating_add(1) {
+    rest
+}
+
+/// What comes before the first thing that isn't an item. Nothing where all are items up to the end of the line or to a `!`, where too little is known of a
+/// line that goes on, or where that thing isn't shown.
+fn before_bad_item(line: &[u8]) -> Option<&[u8]> {
+    let rest = after_items(line);
+    let is_cut = line.len() > SHOWN && rest.len() <= digits(rest).saturating_add(1);
+    if is_cut || rest.is_empty() || rest.starts_with(b"!") {
         return None;
     }
-    line.len().checked_sub(rest.len())
+    let place = line.len().saturating_sub(rest.len());
+    if place < SHOWN {
+        line.get(..place)
+    } else {
+        None
+    }
 }
 
 /// Adds a line with a `^` under the first thing that isn't an item, where that is shown.
-pub(crate) fn push_item_mark(text: &mut String, line: &[u8]) -> Result<(), AllocError> {
-    let Some(place) = bad_item(line) else {
+pub(crate) fn push_item_mark(text: &mut Vec<u8>, line: &[u8]) -> Result<(), AllocError> {
+    let Some(front) = before_bad_item(line) else {
         return Ok(());
     };
-    let Some(front) = line.get(..place) else {
-        return Ok(());
-    };
-    if front.len() >= SHOWN {
-        return Ok(());
-    }
-    text.push_str("    ")?;
+    text.extend_from_slice(b"    ")?;
     for byte in front {
-        text.push_str(match byte {
-            b'\t' => "    ",
-            b'\r' => "  ",
-            _ => " ",
-        })?;
+        let space: &[u8] = match byte {
+            b'\t' => b"    ",
+            b'\r' => b"  ",
+            _ => b" ",
+        };
+        text.extend_from_slice(space)?;
     }
-    text.push_str("^\n")
+    text.extend_from_slice(b"^\n")
 }

@@ -4,9 +4,9 @@ use crate::closing::{Hints, Tally};
 use crate::counting::NameCount;
 use crate::folders::{Found, take_list, take_words};
 use crate::opening::{HeldStreams, Input, open_no_folder};
-use crate::outputs::{Errors, NameCounter, Output, Visible};
-use crate::progress::{ClearingWriter, ProgressLine};
-use crate::watching::{Watched, Watcher, watch_opened};
+use crate::outputs::{Errors, Listed, Output, Visible};
+use crate::progress::ProgressLine;
+use crate::watching::{Watch, Watched, Watcher, watch_opened};
 use file_keys::{write_duplicates, write_keys};
 use life_base::{Device, Kind};
 use life_cli::plans::KeysPlan;
@@ -17,7 +17,7 @@ use std::io::{IsTerminal, Result as IoResult, Write};
 use std::rt::{Stderr, Stdout};
 
 /// What is written of the files.
-#[derive(Clone, Copy, PartialEq, Eq, Debug)]
+#[derive(Clone, Copy)]
 pub(crate) enum Listing {
     /// The key of each.
     Keys,
@@ -38,18 +38,13 @@ struct Run<'a> {
     names: NameCount,
     /// What the files show of the arguments.
     hints: Hints,
-    /// The names in the output.
-    output_names: NameCount,
-    /// Whether the output is written to its end.
-    is_whole: Cell<bool>,
+    listed: Listed,
     /// Whether the reader of standard output has left.
     is_left: Cell<bool>,
     /// The lines that reported why files are passed over.
     report_lines: NameCount,
     /// How many of them came before the file that was opened last.
     earlier_reports: Cell<usize>,
-    /// Whether an object of JSON says that the file that was opened last has no key.
-    is_refused: Cell<bool>,
 }
 
 /// Opens what a name represents, unless it is known that it can't be opened.
@@ -76,46 +71,32 @@ fn name_of(origin: Origin<'_>) -> &str {
 }
 
 impl<'a> Run<'a> {
-    /// Standard output, whose lines come in place of the line of progress. If they are objects of JSON, each says whether its file has a key.
-    fn out(
-        &self,
-        rt: &HostRuntime,
-        json: bool,
-    ) -> Output<'_, NameCounter<'_, ClearingWriter<'_, Visible<Stdout>>>> {
+    /// Standard output, whose lines come in place of the line of progress.
+    fn out(&self, rt: &HostRuntime) -> Output<'_, Visible<'_, Stdout>> {
         let stream = rt.stdout();
         Output {
-            stream: NameCounter {
-                stream: ClearingWriter {
-                    stream: Visible {
-                        stream,
-                        is_terminal: stream.is_terminal(),
-                    },
-                    progress: &self.progress,
-                    clears: self.progress.is_shared,
-                },
-                names: &self.output_names,
-                is_whole: &self.is_whole,
+            stream: Visible {
+                stream,
+                is_terminal: stream.is_terminal(),
+                progress: self.progress.is_shared.then_some(&self.progress),
             },
             is_left: &self.is_left,
-            is_refused: json.then_some(&self.is_refused),
+            listed: Some(&self.listed),
         }
     }
 
     /// Standard error, whose lines do too.
-    fn stderr(&self, rt: &HostRuntime) -> ClearingWriter<'_, Visible<Stderr>> {
+    fn stderr(&self, rt: &HostRuntime) -> Visible<'_, Stderr> {
         let stream = rt.stderr();
-        ClearingWriter {
-            stream: Visible {
-                stream,
-                is_terminal: stream.is_terminal(),
-            },
-            progress: &self.progress,
-            clears: true,
+        Visible {
+            stream,
+            is_terminal: stream.is_terminal(),
+            progress: Some(&self.progress),
         }
     }
 
     /// The same for reports, each of which says that a file is passed over.
-    fn errors(&self, rt: &HostRuntime) -> Errors<'_, ClearingWriter<'_, Visible<Stderr>>> {
+    fn errors(&self, rt: &HostRuntime) -> Errors<'_, Visible<'_, Stderr>> {
         Errors {
             stream: self.stderr(rt),
             is_left: &self.is_left,
@@ -124,25 +105,27 @@ impl<'a> Run<'a> {
     }
 
     /// Writes a text that is no report to standard error, unless the reader of standard output has left.
-    fn say(&self, rt: &HostRuntime, text: &str) {
+    fn say(&self, rt: &HostRuntime, text: &[u8]) {
         if !self.is_left.get() {
-            let _ = self.stderr(rt).write_all(text.as_bytes());
+            let _ = self.stderr(rt).write_all(text);
         }
     }
 
     /// Writes the warning of the file that was read last, if there is one and the file wasn't refused.
     fn warn(&self, rt: &HostRuntime) {
-        let reported = self.report_lines.count();
+        let reported = self.report_lines.count.get();
         let is_reported = self.earlier_reports.replace(reported) != reported;
-        let is_refused = self.is_refused.replace(false);
-        let Some(warning) = self.watcher.warning() else {
+        let is_refused = self.listed.is_refused.replace(false);
+        let Some(warning) = self.watcher.watch.replace(Watch::Known(None)).warning() else {
             return;
         };
         if is_reported || is_refused {
             return;
         }
-        if let Ok(line) = self.watcher.line(rt, warning) {
-            self.say(rt, line.as_str());
+        if let Ok(mut line) = self.watcher.line.try_borrow_mut() {
+            if warning.push(&mut line).is_ok() {
+                self.say(rt, line.as_slice());
+            }
         }
     }
 
@@ -158,7 +141,7 @@ impl<'a> Run<'a> {
     /// Opens a file, or the list.
     fn open(&self, rt: &HostRuntime, origin: Origin<'_>) -> IoResult<Device<Watched<'_, Input>>> {
         self.warn(rt);
-        self.progress.advance(rt, self.names.count());
+        self.progress.advance(rt, self.names.count.get());
         let names = self.watch(name_of(origin));
         let opened = open_found(rt, self.held, self.found, origin);
         if names.is_none() {
@@ -170,7 +153,7 @@ impl<'a> Run<'a> {
 
     /// Writes what is wanted of the plan's files, and between their lines how far that is.
     fn write(&self, rt: &HostRuntime, seeds: &Seeds, plan: &KeysPlan<'_>, listing: Listing) -> u8 {
-        let mut out = Device::new(self.out(rt, plan.json));
+        let mut out = Device::new(self.out(rt));
         let mut err = Device::new(self.errors(rt));
         let opener = |origin: Origin<'_>| self.open(rt, origin);
         match listing {
@@ -183,36 +166,26 @@ impl<'a> Run<'a> {
 
     /// How many of the plan's files are duplicates.
     fn tally(&self, plan: &KeysPlan<'_>) -> Tally {
-        let refusals = self.report_lines.count();
-        let all = plan.files.len().saturating_add(self.names.count());
+        let refusals = self.report_lines.count.get();
+        let all = plan.files.len().saturating_add(self.names.count.get());
         Tally {
             files: all.saturating_sub(refusals),
             refusals,
-            duplicates: self.output_names.count(),
-            groups: self.output_names.groups(),
-        }
-    }
-
-    /// Says what to change in the arguments.
-    fn hint(&self, rt: &HostRuntime, plan: &KeysPlan<'_>) {
-        let hints = [
-            self.hints.of_folder(),
-            self.hints.of_list(plan.zero, &self.names),
-        ];
-        for hint in hints.iter().flatten() {
-            self.say(rt, hint);
+            duplicates: self.listed.names.count.get(),
+            groups: self.listed.names.groups(),
         }
     }
 
     /// Says on a terminal what to change in the arguments, and how many files are duplicates.
     fn close(&self, rt: &HostRuntime, plan: &KeysPlan<'_>, listing: Listing) {
-        if !self.is_whole.get() || !rt.stderr().is_terminal() {
+        if !self.listed.is_whole.get() || !rt.stderr().is_terminal() {
             return;
         }
-        self.hint(rt, plan);
+        self.say(rt, self.hints.of_folder().as_bytes());
+        self.say(rt, self.hints.of_list(plan.zero, &self.names).as_bytes());
         if matches!(listing, Listing::Duplicates) {
             if let Ok(line) = self.tally(plan).line(rt) {
-                self.say(rt, line.as_str());
+                self.say(rt, line.as_bytes());
             }
         }
     }
@@ -237,12 +210,15 @@ fn write_listing(
         lists: Cell::new(plan.from.is_some()),
         names: NameCount::new(plan.zero),
         hints: Hints::new(plan.files.len()),
-        output_names: NameCount::new(plan.zero),
-        is_whole: Cell::new(false),
+        listed: Listed {
+            names: NameCount::new(plan.zero),
+            is_whole: Cell::new(false),
+            json: plan.json,
+            is_refused: Cell::new(false),
+        },
         is_left: Cell::new(false),
         report_lines: NameCount::new(false),
         earlier_reports: Cell::new(0),
-        is_refused: Cell::new(false),
     };
     let status = run.write(rt, &seeds, plan, listing);
     run.warn(rt);

@@ -17,7 +17,7 @@ mod rereading;
 mod tasks;
 mod watching;
 
-use arguments::{LossyArguments, Unreadable, arguments, lossy_arguments, report_unreadable};
+use arguments::{Arguments, Unreadable, read_arguments, report_unreadable};
 use clap::Error;
 use clap::error::ErrorKind;
 use escaping::push_visible;
@@ -52,6 +52,7 @@ fn print_error(rt: &HostRuntime, error: &Error) -> IoResult<()> {
     let mut terminal = Visible {
         stream,
         is_terminal: true,
+        progress: None,
     };
     terminal.write_all(text.as_bytes())
 }
@@ -76,15 +77,25 @@ fn print(rt: &HostRuntime, usage: &Usage) -> Printed {
 
 /// Whether the command is one over any number of files.
 fn names_many_files(words: &[String]) -> bool {
-    words
-        .get(1)
-        .is_some_and(|word| matches!(word.as_str(), "keys" | "duplicates"))
+    match words {
+        [_, command, ..] => matches!(command.as_str(), "keys" | "duplicates"),
+        _ => false,
+    }
+}
+
+/// Whether the words ask for sentences.
+fn asks_for_sentences(words: &[String]) -> bool {
+    for word in words {
+        if word.as_str() == "--explain" {
+            return true;
+        }
+    }
+    false
 }
 
 /// Says in a sentence that standard input is named twice, on a terminal or where the words ask for it.
 fn explain_two_inputs(rt: &HostRuntime, words: &[String]) {
-    let is_asked = words.iter().any(|word| word.as_str() == "--explain");
-    if !is_asked && !rt.stderr().is_terminal() {
+    if !asks_for_sentences(words) && !rt.stderr().is_terminal() {
         return;
     }
     let sentence: &[u8] = if names_many_files(words) {
@@ -109,48 +120,27 @@ fn report_usage(rt: &HostRuntime, usage: &Usage, words: &[String]) -> u8 {
     status
 }
 
-/// Does what the words ask for.
-fn run(rt: &HostRuntime, held: &HeldStreams, words: &[String]) -> u8 {
-    match request(rt.alloc(), words) {
-        Ok(Request::Work(plan)) => do_task(rt, held, &plan),
-        Ok(Request::Keys(plan)) => list_files(rt, held, Found::new(rt), &plan, Listing::Keys),
-        Ok(Request::Duplicates(plan)) => {
-            list_files(rt, held, Found::new(rt), &plan, Listing::Duplicates)
-        }
-        Err(usage) => report_usage(rt, &usage, words),
-    }
-}
-
 /// Whether so many files of the plan are known not to be opened.
 fn are_files(plan: &KeysPlan<'_>, found: &Found, count: usize) -> bool {
-    plan.files
-        .iter()
-        .filter(|file| found.why(file).is_some())
-        .count()
-        == count
+    let mut unopened: usize = 0;
+    for file in plan.files.as_slice() {
+        if found.why(file).is_some() {
+            unopened = unopened.saturating_add(1);
+        }
+    }
+    unopened == count
 }
 
-/// Notes that no file has a name that isn't UTF-8 text.
-fn note_damaged(rt: &HostRuntime, damaged: &[String], found: &mut Found) -> Result<(), AllocError> {
-    for word in damaged {
-        let name = String::from_str(rt.alloc(), word.as_str())?;
-        found.note(name, IoErrorKind::InvalidFilename)?;
-    }
-    Ok(())
-}
-
-/// Writes the line that says that an argument isn't UTF-8 text, and returns the status.
-fn refuse_words(rt: &HostRuntime, damaged: &[String]) -> Result<u8, AllocError> {
-    let mut shown = String::new(rt.alloc());
-    if let Some(word) = damaged.first() {
-        push_visible(&mut shown, word.as_bytes())?;
-    }
+/// Writes the line that says that this argument isn't UTF-8 text, and returns the status.
+fn refuse_word(rt: &HostRuntime, word: &str) -> Result<u8, AllocError> {
+    let mut shown = Vec::new(rt.alloc());
+    push_visible(&mut shown, word.as_bytes())?;
     let mut err = Device::new(rt.stderr());
-    Ok(report_unreadable(&mut err, Unreadable::NoText, shown.as_bytes()))
+    Ok(report_unreadable(&mut err, Unreadable::NoText, shown.as_slice()))
 }
 
-/// Writes what is wanted of the plan's files if all arguments that aren't UTF-8 text are names of its files.
-fn list_lossy(
+/// Writes what is wanted of the plan's files. Each argument that isn't UTF-8 text has to be the name of one: there is no such file.
+fn list(
     rt: &HostRuntime,
     held: &HeldStreams,
     damaged: &[String],
@@ -158,51 +148,40 @@ fn list_lossy(
     listing: Listing,
 ) -> Result<u8, AllocError> {
     let mut found = Found::new(rt);
-    note_damaged(rt, damaged, &mut found)?;
-    if !are_files(plan, &found, damaged.len()) {
-        return refuse_words(rt, damaged);
+    for word in damaged {
+        found.note(rt, word.as_str(), IoErrorKind::InvalidFilename)?;
     }
-    Ok(list_files(rt, held, found, plan, listing))
+    match damaged {
+        [word, ..] if !are_files(plan, &found, damaged.len()) => refuse_word(rt, word.as_str()),
+        _ => Ok(list_files(rt, held, found, plan, listing)),
+    }
 }
 
-/// Does what the arguments ask for if those that aren't UTF-8 text are only names of files of a command over any number of files. There is no such file.
-fn run_lossy(
-    rt: &HostRuntime,
-    held: &HeldStreams,
-    arguments: &LossyArguments,
-) -> Result<u8, AllocError> {
+/// Does what the arguments ask for.
+fn run(rt: &HostRuntime, held: &HeldStreams, arguments: &Arguments) -> Result<u8, AllocError> {
     let damaged = arguments.damaged.as_slice();
     match request(rt.alloc(), arguments.words.as_slice()) {
-        Ok(Request::Work(_plan)) => refuse_words(rt, damaged),
-        Ok(Request::Keys(plan)) => list_lossy(rt, held, damaged, &plan, Listing::Keys),
-        Ok(Request::Duplicates(plan)) => list_lossy(rt, held, damaged, &plan, Listing::Duplicates),
+        Ok(Request::Work(plan)) => match damaged {
+            [] => Ok(do_task(rt, held, &plan)),
+            [word, ..] => refuse_word(rt, word.as_str()),
+        },
+        Ok(Request::Keys(plan)) => list(rt, held, damaged, &plan, Listing::Keys),
+        Ok(Request::Duplicates(plan)) => list(rt, held, damaged, &plan, Listing::Duplicates),
         Err(usage) => Ok(report_usage(rt, &usage, arguments.words.as_slice())),
     }
 }
 
-/// Reads the arguments again, and does what they ask for.
-fn reread(rt: &HostRuntime, held: &HeldStreams) -> Result<u8, AllocError> {
-    let arguments = lossy_arguments(rt)?;
-    run_lossy(rt, held, &arguments)
-}
-
-/// Does what arguments ask for of which one can't be read.
-fn run_unreadable(rt: &HostRuntime, held: &HeldStreams, why: Unreadable) -> u8 {
-    let done = match why {
-        Unreadable::NoText => reread(rt, held),
-        Unreadable::Memory => Err(AllocError),
-    };
-    match done {
-        Ok(status) => status,
-        Err(_) => report_unreadable(&mut Device::new(rt.stderr()), Unreadable::Memory, b""),
-    }
+/// Reads the arguments, and does what they ask for.
+fn read_and_run(rt: &HostRuntime, held: &HeldStreams) -> Result<u8, AllocError> {
+    let arguments = read_arguments(rt)?;
+    run(rt, held, &arguments)
 }
 
 fn main(rt: HostRuntime) -> ExitCode {
     let held = hold_closed_streams(&rt);
-    let status = match arguments(&rt) {
-        Ok(words) => run(&rt, &held, words.as_slice()),
-        Err(error) => run_unreadable(&rt, &held, Unreadable::from(error)),
+    let status = match read_and_run(&rt, &held) {
+        Ok(status) => status,
+        Err(_) => report_unreadable(&mut Device::new(rt.stderr()), Unreadable::Memory, b""),
     };
     ExitCode::from(status)
 }

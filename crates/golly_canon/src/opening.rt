@@ -30,10 +30,12 @@ pub(crate) struct HeldStreams([Option<File>; 3]);
 impl HeldStreams {
     /// Whether standard input was closed, so that its number is held.
     pub(crate) fn holds_input(&self) -> bool {
-        self.0
-            .iter()
-            .flatten()
-            .any(|folder| folder.as_raw_fd() == 0)
+        for folder in self.0.iter().flatten() {
+            if folder.as_raw_fd() == 0 {
+                return true;
+            }
+        }
+        false
     }
 }
 
@@ -68,12 +70,18 @@ fn metadata(rt: &HostRuntime, input: &Input) -> Result<Metadata> {
 
 /// About how many bytes an input has, if the system says so: the length of a file, and 0 for anything else.
 fn length(rt: &HostRuntime, input: &Input) -> u64 {
-    metadata(rt, input).map_or(0, |metadata| metadata.len())
+    match metadata(rt, input) {
+        Ok(metadata) => metadata.len(),
+        Err(_) => 0,
+    }
 }
 
 /// Whether an input is a folder, which can't be read, if the system says so.
 fn is_folder(rt: &HostRuntime, input: &Input) -> bool {
-    metadata(rt, input).is_ok_and(|metadata| metadata.is_dir())
+    match metadata(rt, input) {
+        Ok(metadata) => metadata.is_dir(),
+        Err(_) => false,
+    }
 }
 
 /// Opens what a word names, unless it is a folder, or a standard input that a caller has closed.

@@ -1,6 +1,8 @@
 //! Standard output, whose reader may leave before the end; standard error, to which that isn't reported; and what a terminal gets of both.
 
 use crate::counting::NameCount;
+use crate::escaping::hexadecimal;
+use crate::progress::ProgressLine;
 use std::cell::Cell;
 use std::io::{ErrorKind, Result, Write};
 
@@ -12,66 +14,75 @@ pub(crate) fn is_broken_pipe<T>(answer: &Result<T>) -> bool {
     }
 }
 
+/// What the output of a run over files shows of it.
+#[derive(Drop)]
+pub(crate) struct Listed {
+    /// The names in the output.
+    pub names: NameCount,
+    /// Set by a flush, which comes after all names.
+    pub is_whole: Cell<bool>,
+    /// Whether the output is objects of JSON.
+    pub json: bool,
+    /// Set by an object of JSON that says that its file has no key.
+    pub is_refused: Cell<bool>,
+}
+
+/// What comes in an object of JSON before the kind of its file's fault. A quote in a name is escaped, so that no name has this text.
+const KIND: &[u8] = b",\"kind\":\"";
+
+/// Whether an object of JSON is that of a file without a key.
+fn has_kind(object: &[u8]) -> bool {
+    for bytes in object.windows(9) {
+        if bytes == KIND {
+            return true;
+        }
+    }
+    false
+}
+
+impl Listed {
+    /// Looks at a text that is written next.
+    fn look(&self, text: &[u8]) {
+        if self.json && has_kind(text) {
+            self.is_refused.set(true);
+        }
+    }
+}
+
 /// Standard output, or what is written to it by way of another writer.
 #[derive(Drop)]
 pub(crate) struct Output<'a, W> {
     pub stream: W,
     /// Set as soon as a write finds that nobody reads the output any more.
     pub is_left: &'a Cell<bool>,
-    /// If `keys` writes objects of JSON: set by the object of a file without a key.
-    pub is_refused: Option<&'a Cell<bool>>,
-}
-
-/// Whether an object of JSON is that of a file without a key. A quote in a name is escaped, so that no name has this text.
-fn has_kind(object: &[u8]) -> bool {
-    object
-        .windows(9)
-        .any(|bytes| bytes == b",\"kind\":\"".as_slice())
+    /// What is seen of the output of a run over files.
+    pub listed: Option<&'a Listed>,
 }
 
 impl<'a, W: Write> Write for Output<'a, W> {
     fn write(&mut self, buf: &[u8]) -> Result<usize> {
-        if let Some(is_refused) = self.is_refused {
-            if has_kind(buf) {
-                is_refused.set(true);
-            }
+        if let Some(listed) = self.listed {
+            listed.look(buf);
         }
         let written = self.stream.write(buf);
-        if is_broken_pipe(&written) {
-            self.is_left.set(true);
+        match (&written, self.listed) {
+            (Ok(count), Some(listed)) => listed.names.take(&buf[..*count]),
+            _ => self
+                .is_left
+                .set(self.is_left.get() || is_broken_pipe(&written)),
         }
         written
     }
 
     fn flush(&mut self) -> Result<()> {
         let flushed = self.stream.flush();
-        if is_broken_pipe(&flushed) {
-            self.is_left.set(true);
+        match (&flushed, self.listed) {
+            (Ok(_), Some(listed)) => listed.is_whole.set(true),
+            _ => self
+                .is_left
+                .set(self.is_left.get() || is_broken_pipe(&flushed)),
         }
         flushed
-    }
-}
-
-/// An output whose names are counted.
-#[derive(Drop)]
-pub(crate) struct NameCounter<'a, W> {
-    pub stream: W,
-    pub names: &'a NameCount,
-    /// Set by a flush, which comes after all names.
-    pub is_whole: &'a Cell<bool>,
-}
-
-impl<'a, W: Write> Write for NameCounter<'a, W> {
-    fn write(&mut self, buf: &[u8]) -> Result<usize> {
-        let count = self.stream.write(buf)?;
-        self.names.take(&buf[..count]);
-        Ok(count)
-    }
-
-    fn flush(&mut self) -> Result<()> {
-        self.stream.flush()?;
-        self.is_whole.set(true);
-        Ok(())
     }
 }
 
@@ -100,48 +111,41 @@ impl<'a, W: Write> Write for Errors<'a, W> {
     }
 }
 
-/// Whether a byte is a control character that a terminal might act on. A line feed ends a line, and a NUL does nothing.
-fn is_control(byte: u8) -> bool {
-    byte.is_ascii_control() && byte != b'\n' && byte != b'\0'
-}
-
-/// How many bytes the control character has that a text begins with, or 0 if it begins with another one.
+/// How many bytes the control character has that a text begins with and that a terminal might act on, or 0 if it begins with another one. A line feed ends a
+/// line, and a NUL does nothing.
 fn control_length(text: &[u8]) -> usize {
     match text {
-        [0xC2, second, ..] if *second >= 0x80 && *second < 0xA0 => 2,
-        [byte, ..] if is_control(*byte) => 1,
+        [0xC2, 0x80..=0x9F, ..] => 2,
+        [b'\n' | b'\0', ..] => 0,
+        [byte, ..] if byte.is_ascii_control() => 1,
         _ => 0,
     }
 }
 
-/// A hexadecimal digit.
-fn hex_digit(value: u8) -> u8 {
-    match b"0123456789abcdef".get(usize::from(value % 16)) {
-        Some(digit) => *digit,
-        None => b'?',
-    }
-}
-
-/// A stream whose control characters are written as `\xHH`, byte by byte, if it is a terminal.
+/// A standard stream whose lines come in place of the line of progress. If it is a terminal, its control characters are written as `\xHH`, byte by byte.
 #[derive(Drop)]
-pub(crate) struct Visible<W> {
+pub(crate) struct Visible<'a, W> {
     pub stream: W,
     pub is_terminal: bool,
+    /// The line of progress, if it is on the terminal of the stream.
+    pub progress: Option<&'a ProgressLine>,
 }
 
-impl<W: Write> Visible<W> {
+impl<'a, W: Write> Visible<'a, W> {
     /// Writes so many bytes at the beginning of a text as `\xHH`.
     fn write_escaped(&mut self, text: &[u8], count: usize) -> Result<()> {
         for byte in text.iter().take(count) {
-            let digits = [b'\\', b'x', hex_digit(*byte / 16), hex_digit(*byte)];
-            self.stream.write_all(&digits)?;
+            self.stream.write_all(&hexadecimal(*byte))?;
         }
         Ok(())
     }
 }
 
-impl<W: Write> Write for Visible<W> {
+impl<'a, W: Write> Write for Visible<'a, W> {
     fn write(&mut self, buf: &[u8]) -> Result<usize> {
+        if let Some(progress) = self.progress {
+            progress.clear();
+        }
         if !self.is_terminal {
             return self.stream.write(buf);
         }
@@ -160,19 +164,5 @@ impl<W: Write> Write for Visible<W> {
 
     fn flush(&mut self) -> Result<()> {
         self.stream.flush()
-    }
-}
-
-/// A writer that drops what it is given.
-#[derive(Clone, Copy, Drop)]
-pub(crate) struct Nowhere;
-
-impl Write for Nowhere {
-    fn write(&mut self, buf: &[u8]) -> Result<usize> {
-        Ok(buf.len())
-    }
-
-    fn flush(&mut self) -> Result<()> {
-        Ok(())
     }
 }

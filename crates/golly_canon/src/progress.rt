@@ -4,7 +4,7 @@ ghost use Rattle.std.specs.Prelude.{◌≡◌, ◌≤◌, ◌↔◌, IsTrue};
 
 use life_cli::plans::KeysPlan;
 use std::cell::Cell;
-use std::io::{IsTerminal, Result, Write};
+use std::io::{IsTerminal, Write};
 use std::rt::Stderr;
 use std::time::Instant;
 
@@ -77,16 +77,18 @@ impl ProgressLine {
         if is_due(now, self.next_time.get()) {
             self.next_time.set(now.saturating_add(PAUSE));
             self.stands.set(true);
-            let _ = self.write(rt, done, listed);
+            self.write(rt, done, listed);
         }
     }
 
-    fn write(&self, rt: &HostRuntime, opened: u64, listed: usize) -> Result<()> {
+    /// Writes the line, where there is memory for it.
+    fn write(&self, rt: &HostRuntime, opened: u64, listed: usize) {
         let done = opened.saturating_sub(u64::from(self.has_list));
         let total = self.named.saturating_add(listed);
-        let text = format!(in rt.alloc(); "\r{done} of {total} files")?;
-        let mut terminal = self.terminal;
-        terminal.write_all(text.as_bytes())
+        if let Ok(text) = format!(in rt.alloc(); "\r{done} of {total} files") {
+            let mut terminal = self.terminal;
+            let _ = terminal.write_all(text.as_bytes());
+        }
     }
 
     /// Clears the line, if it is shown.
@@ -96,27 +98,5 @@ impl ProgressLine {
             let mut terminal = self.terminal;
             let _ = terminal.write_all(b"\r\x1b[K");
         }
-    }
-}
-
-/// A standard stream that clears the line of progress before each write.
-#[derive(Drop)]
-pub(crate) struct ClearingWriter<'a, W> {
-    pub stream: W,
-    pub progress: &'a ProgressLine,
-    /// Whether the stream is the terminal of the line.
-    pub clears: bool,
-}
-
-impl<'a, W: Write> Write for ClearingWriter<'a, W> {
-    fn write(&mut self, buf: &[u8]) -> Result<usize> {
-        if self.clears {
-            self.progress.clear();
-        }
-        self.stream.write(buf)
-    }
-
-    fn flush(&mut self) -> Result<()> {
-        self.stream.flush()
     }
 }

@@ -92,7 +92,7 @@ fn done(
             let mut out = Device::new(Output {
                 stream: rt.stdout(),
                 is_left,
-                is_refused: None,
+                listed: None,
             });
             carry_out(
                 rt.alloc(),

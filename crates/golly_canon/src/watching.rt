@@ -1,7 +1,7 @@
 //! What a pattern file is probably meant to be, where the formats read it otherwise: its bytes are watched as they pass.
 
 use crate::counting::NameCount;
-use crate::escaping::push_name;
+use crate::escaping::{push_all, push_name};
 use crate::opening::Input;
 use life_cli::Opened;
 use std::alloc::AllocError;
@@ -9,7 +9,7 @@ use std::cell::{Cell, RefCell};
 use std::io::{Read, Result as IoResult};
 
 /// Why a file is probably meant otherwise than it is read.
-#[derive(Clone, Copy, PartialEq, Eq, Debug)]
+#[derive(Clone, Copy)]
 pub(crate) enum Warning {
     /// It is macrocell, and its first line has a carriage return inside it.
     Return,
@@ -45,15 +45,13 @@ impl Warning {
     }
 
     /// Adds the warning after the name of a file, and ends the line.
-    pub(crate) fn push(self, line: &mut String) -> Result<(), AllocError> {
-        line.push_str(": warning: ")?;
-        line.push_str(self.text())?;
-        line.push('\n')
+    pub(crate) fn push(self, line: &mut Vec<u8>) -> Result<(), AllocError> {
+        push_all(line, &[b": warning: ", self.text().as_bytes(), b"\n"])
     }
 }
 
 /// What is known of a file by its bytes so far.
-#[derive(Clone, Copy, PartialEq, Eq, Debug)]
+#[derive(Clone, Copy)]
 pub(crate) enum Watch {
     /// None of them came.
     Start,
@@ -103,104 +101,53 @@ pub(crate) enum Watch {
     Known(Option<Warning>),
 }
 
-/// What is known after one byte more, where the mark `[M2]` isn't whole yet.
-fn after_mark(watch: Watch, byte: u8) -> Watch {
-    match (watch, byte) {
-        (Watch::Start, b'[') => Watch::Bracket,
-        (Watch::Bracket, b'M') => Watch::Letter,
-        (Watch::Letter, b'2') => Watch::Digit,
-        (Watch::Digit, b']') => Watch::FirstLine,
-        (Watch::Start, _) => after_rle_line(Watch::RleStart, byte),
-        _ => Watch::Known(None),
-    }
-}
-
-/// What is known after one byte more of RLE, where no header came before.
-fn after_rle_line(watch: Watch, byte: u8) -> Watch {
-    match (watch, byte) {
-        (_, b'\n') => Watch::RleStart,
-        (Watch::RleStart, b'x') => Watch::Header,
-        _ => Watch::RleComment,
-    }
-}
-
-/// What is known after one byte more of a header. Before its rule, which begins with `r`, all digits are those of sizes.
-fn after_header(watch: Watch, byte: u8) -> Watch {
-    match (watch, byte) {
-        (Watch::SizedHeader, b'\n') => Watch::ItemsStart,
-        (Watch::SizedHeader, _) | (_, b'1'..=b'9') => Watch::SizedHeader,
-        (_, b'r' | b'\n') => Watch::Known(None),
-        _ => Watch::Header,
-    }
-}
-
-/// What is known after one byte more, where a header with a size came before. All letters but `b` are those of live cells, or come before one.
-fn after_items(watch: Watch, byte: u8) -> Watch {
-    match (watch, byte) {
-        (_, b'\n') => Watch::ItemsStart,
-        (Watch::ItemsComment, _) | (Watch::ItemsStart, b'#') => Watch::ItemsComment,
-        (_, b'!') => Watch::Known(Some(Warning::NoCells)),
-        (_, b'o' | b'p'..=b'y' | b'A'..=b'X') => Watch::Known(None),
-        _ => Watch::Items,
-    }
-}
-
-/// What is known after one byte more of the first line.
-fn after_first(watch: Watch, byte: u8) -> Watch {
-    match (watch, byte) {
-        (_, b'\n') => Watch::LineStart,
-        (_, b'\r') => Watch::FirstReturn,
-        (Watch::FirstReturn, _) => Watch::Known(Some(Warning::Return)),
-        _ => Watch::FirstLine,
-    }
-}
-
-/// What is known after the first byte of a line, or the first one after its spaces.
-fn after_start(watch: Watch, byte: u8) -> Watch {
-    match (watch, byte) {
-        (Watch::LineStart, b'#') => Watch::Hash,
-        (_, b' ' | b'\t' | b'\r') => Watch::Spaces,
-        (_, b'#' | 0x0B | 0x0C) => Watch::Rest,
-        _ => Watch::Known(None),
-    }
-}
-
-/// What is known after one byte more of a comment.
-fn after_comment(watch: Watch, byte: u8) -> Watch {
-    match (watch, byte) {
-        (Watch::Hash, b'R') => Watch::Rule,
-        (Watch::Hash, b'G') => Watch::Generation,
-        (Watch::Rule, b'B' | b'b' | b'S' | b's') => Watch::Sets,
-        (Watch::Rule | Watch::Counts, b'0'..=b'8') => Watch::Counts,
-        (Watch::Rule | Watch::Counts, b'/') => Watch::Meant,
-        (Watch::Sets, b'0'..=b'8') => Watch::Meant,
-        (Watch::Generation, b'0'..=b'9') => Watch::Meant,
-        (Watch::Meant, _) => Watch::Meant,
-        _ => Watch::Rest,
-    }
-}
-
-/// What is known after one byte more of a line that isn't the first.
-fn after_line(watch: Watch, byte: u8) -> Watch {
-    match (watch, byte) {
-        (Watch::Meant, b'\n') => Watch::Known(Some(Warning::Comment)),
-        (_, b'\n') => Watch::LineStart,
-        (Watch::LineStart | Watch::Spaces, _) => after_start(watch, byte),
-        _ => after_comment(watch, byte),
-    }
-}
-
 impl Watch {
     /// What is known after one byte more.
     fn after(self, byte: u8) -> Watch {
-        match self {
-            Watch::Known(_) => self,
-            Watch::Start | Watch::Bracket | Watch::Letter | Watch::Digit => after_mark(self, byte),
-            Watch::FirstLine | Watch::FirstReturn => after_first(self, byte),
-            Watch::RleStart | Watch::RleComment => after_rle_line(self, byte),
-            Watch::Header | Watch::SizedHeader => after_header(self, byte),
-            Watch::ItemsStart | Watch::ItemsComment | Watch::Items => after_items(self, byte),
-            _ => after_line(self, byte),
+        match (self, byte) {
+            (Watch::Known(_), _) => self,
+            // The mark `[M2]`, and the line that it begins.
+            (Watch::Start, b'[') => Watch::Bracket,
+            (Watch::Bracket, b'M') => Watch::Letter,
+            (Watch::Letter, b'2') => Watch::Digit,
+            (Watch::Digit, b']') => Watch::FirstLine,
+            (Watch::Bracket | Watch::Letter | Watch::Digit, _) => Watch::Known(None),
+            (Watch::FirstLine | Watch::FirstReturn, b'\n') => Watch::LineStart,
+            (Watch::FirstLine | Watch::FirstReturn, b'\r') => Watch::FirstReturn,
+            (Watch::FirstLine, _) => Watch::FirstLine,
+            (Watch::FirstReturn, _) => Watch::Known(Some(Warning::Return)),
+            // RLE before its header.
+            (Watch::Start | Watch::RleStart | Watch::RleComment, b'\n') => Watch::RleStart,
+            (Watch::Start | Watch::RleStart, b'x') => Watch::Header,
+            (Watch::Start | Watch::RleStart | Watch::RleComment, _) => Watch::RleComment,
+            // A header. Before its rule, which begins with `r`, all digits are those of sizes.
+            (Watch::SizedHeader, b'\n') => Watch::ItemsStart,
+            (Watch::SizedHeader, _) | (Watch::Header, b'1'..=b'9') => Watch::SizedHeader,
+            (Watch::Header, b'r' | b'\n') => Watch::Known(None),
+            (Watch::Header, _) => Watch::Header,
+            // After a header with a size. All letters but `b` are those of live cells, or come before one.
+            (Watch::ItemsStart | Watch::ItemsComment | Watch::Items, b'\n') => Watch::ItemsStart,
+            (Watch::ItemsComment, _) | (Watch::ItemsStart, b'#') => Watch::ItemsComment,
+            (Watch::ItemsStart | Watch::Items, b'!') => Watch::Known(Some(Warning::NoCells)),
+            (Watch::ItemsStart | Watch::Items, b'o' | b'p'..=b'y' | b'A'..=b'X') => Watch::Known(
+                None,
+            ),
+            (Watch::ItemsStart | Watch::Items, _) => Watch::Items,
+            // A line of macrocell that isn't the first.
+            (Watch::Meant, b'\n') => Watch::Known(Some(Warning::Comment)),
+            (_, b'\n') => Watch::LineStart,
+            (Watch::LineStart, b'#') => Watch::Hash,
+            (Watch::LineStart | Watch::Spaces, b' ' | b'\t' | b'\r') => Watch::Spaces,
+            (Watch::LineStart | Watch::Spaces, b'#' | 0x0B | 0x0C) => Watch::Rest,
+            (Watch::LineStart | Watch::Spaces, _) => Watch::Known(None),
+            (Watch::Hash, b'R') => Watch::Rule,
+            (Watch::Hash, b'G') => Watch::Generation,
+            (Watch::Rule, b'B' | b'b' | b'S' | b's') => Watch::Sets,
+            (Watch::Rule | Watch::Counts, b'0'..=b'8') => Watch::Counts,
+            (Watch::Rule | Watch::Counts, b'/') => Watch::Meant,
+            (Watch::Sets, b'0'..=b'8') | (Watch::Generation, b'0'..=b'9') => Watch::Meant,
+            (Watch::Meant, _) => Watch::Meant,
+            _ => Watch::Rest,
         }
     }
 
@@ -241,21 +188,22 @@ impl Watch {
 /// What is watched of the file that a run reads.
 #[derive(Drop)]
 pub(crate) struct Watcher {
-    name: RefCell<String>,
+    /// The line of its warning, as far as the name in it.
+    pub line: RefCell<Vec<u8>>,
     pub watch: Cell<Watch>,
 }
 
-/// Keeps a name in the place of another.
-fn keep(kept: &mut String, name: &str) -> Result<(), AllocError> {
-    kept.clear();
-    kept.push_str(name)
+/// Makes a line begin with a name.
+fn begin_line(line: &mut Vec<u8>, name: &str) -> Result<(), AllocError> {
+    line.clear();
+    push_name(line, name)
 }
 
 impl Watcher {
     /// No file is watched yet.
     pub(crate) fn new(rt: &HostRuntime) -> Watcher {
         Watcher {
-            name: RefCell::new(String::new(rt.alloc())),
+            line: RefCell::new(Vec::new(rt.alloc())),
             watch: Cell::new(Watch::Known(None)),
         }
     }
@@ -263,27 +211,11 @@ impl Watcher {
     /// Begins to watch a file of this name. Where there is no memory for the name, nothing is watched.
     pub(crate) fn begin(&self, name: &str) {
         self.watch.set(Watch::Known(None));
-        let Ok(mut kept) = self.name.try_borrow_mut() else {
-            return;
-        };
-        if keep(&mut kept, name).is_ok() {
-            self.watch.set(Watch::Start);
+        if let Ok(mut line) = self.line.try_borrow_mut() {
+            if begin_line(&mut line, name).is_ok() {
+                self.watch.set(Watch::Start);
+            }
         }
-    }
-
-    /// The warning of the file that was watched, if there is one. It is returned once.
-    pub(crate) fn warning(&self) -> Option<Warning> {
-        self.watch.replace(Watch::Known(None)).warning()
-    }
-
-    /// The line of a warning of that file.
-    pub(crate) fn line(&self, rt: &HostRuntime, warning: Warning) -> Result<String, AllocError> {
-        let mut line = String::new(rt.alloc());
-        if let Ok(name) = self.name.try_borrow() {
-            push_name(&mut line, name.as_str())?;
-        }
-        warning.push(&mut line)?;
-        Ok(line)
     }
 }
 
