@@ -38,6 +38,8 @@ mod Stored
 mod CellFacts
 mod CallFacts
 mod PieceFacts
+pub mod OrderFacts
+mod LesserFacts
 mod WalkingFacts
 mod CountingFacts
 mod ShowFacts

@@ -1,6 +1,8 @@
 pub mod Universe
 pub mod Files
 pub mod Listing
+pub mod Lesser
+pub mod LesserLaws
 pub mod Closed
 pub mod Counting
 pub mod Least

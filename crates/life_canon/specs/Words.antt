@@ -23,6 +23,8 @@ pub use Rattle.life_canon.specs.Laws.{FormatsDiffer, LengthHidesNoFault, Lengths
 pub use Rattle.life_canon.specs.Laws.{RefusalsHaveKinds, RleTextsAreFiles, RleTextsKeepPatterns, SquaresAreCentred, SquaresHavePlaces, TextsAreFiles}
 pub use Rattle.life_canon.specs.Laws.{TextsAreFixed, TextsKeepPatterns, TextsTellPatterns, TextsTellUniverses, WiderPlaneKeepsTexts, WiderPlanesKeepFiles}
 pub use Rattle.life_canon.specs.Least.{IsLeast, IsLeastText}
+pub use Rattle.life_canon.specs.Lesser.{Holds, IsLesser, IsLesserText, IsOldHeld, IsOldLesser, IsUpTo, IsWithin, LinesCome}
+pub use Rattle.life_canon.specs.LesserLaws.{no-lines-come, old-is-lesser}
 pub use Rattle.life_canon.specs.Listing.{canon_text, canonical_file, is_in, is_small, lines_for, listed, number_of, rows_of, square_file}
 pub use Rattle.life_canon.specs.Needs.{LacksForFront, SomeAtEnd, SomeGrown, SomeOfLine, SomeOfLines, SomeOfRuns, SomeRoot}
 pub use Rattle.life_canon.specs.PieceLaws.{piece-begins, piece-stops, unfailed}

@@ -7,6 +7,7 @@ mod files;
 mod front;
 pub mod laws;
 mod leaf_rows;
+mod lesser;
 mod line_sink;
 mod line_squares;
 mod macrocell;
@@ -23,6 +24,7 @@ mod writer;
 
 pub use compare::{are_same, same};
 pub use files::read;
+pub use lesser::lesser_text;
 pub use macrocell::number;
 pub use pattern::{Pattern, least_level};
 pub use reader::Reader;
