@@ -1,50 +1,14 @@
 -- The turned form: the least of eight texts.
-use Rattle.std.proofs.Common.{◌≡◌, ◌⊎◌, inl, inr, ℕ, ◌≤◌, Bool, true, false, List, refl, sym, ap, ◌∙◌, subst, true≢false, Ordering, Less, Equal, Greater, nat_cmp, is_gt}
-use Rattle.std.specs.Ordering.{ordering_reverse}
-use Rattle.std.specs.Cmp.Lexicographic.{slice_cmp}
-use Rattle.std.specs.FinMap.{slice_cmp-IsAntisymmetric, nat_cmp-IsAntisymmetric}
-use Rattle.std.proofs.lemmas.Cmp.{nat_list_cmp_total, upto, tied_itself}
+use Rattle.std.proofs.Common.{◌≡◌, ◌⊎◌, inl, inr, ℕ, ◌≤◌, Bool, true, false, List, sym, ◌∙◌, subst}
+use Rattle.life_canon.specs.Lesser.{IsUpTo}
 use Rattle.life_canon.specs.Universe.{Universe, IsSame, IsOnPlane}
+use Rattle.life_canon.proofs.OrderFacts.{up-to-itself, up-to-on, up-to-both, either-way}
 use Rattle.life_forms.specs.Forms.{Tells}
 use Rattle.life_forms.specs.Turns.{Turn, turn_of, image, after, back}
-use Rattle.life_forms.specs.Forms.{IsShift, IsUpTo, IsTurned, IsTurnedShift}
+use Rattle.life_forms.specs.Forms.{IsShift, IsTurned, IsTurnedShift}
 use Rattle.life_forms.specs.Laws.{TurnedFormsExist, TurnedFormsAreOnPlane, TurnedTextsTellTurns, TurnedFormsAreFixed}
 use Rattle.life_forms.proofs.TurnFacts.{turns-are-closed, turns-have-inverses, images-keep-shifts, images-stay-on-plane}
 use Rattle.life_forms.proofs.ShiftFacts.{same-refl, same-sym, still, shift-sym, shift-trans, moved-forms-exist, moved-on-plane, forms-of-shifts, shift-of-forms}
-
--- ---- the order of texts
-
-pub up-to-itself : (a : List ℕ) → IsUpTo a a
-up-to-itself a = record { order = ap is_gt (tied_itself nat_list_cmp_total a) }
-
-pub up-to-on : (a b c : List ℕ) → IsUpTo a b → IsUpTo b c → IsUpTo a c
-up-to-on a b c h k = record { order = upto nat_list_cmp_total a b c h.order k.order }
-
-not-both-greater : (o : Ordering) → is_gt o ≡ true → is_gt (ordering_reverse o) ≡ false
-not-both-greater Less e = absurd (true≢false (sym e))
-not-both-greater Equal e = absurd (true≢false (sym e))
-not-both-greater Greater e = refl
-
--- the lesser of two is no greater
-pub up-to-less : (a b : List ℕ) → is_gt (slice_cmp nat_cmp a b) ≡ true → IsUpTo b a
-up-to-less a b e = record { order = ap is_gt (nat_list_cmp_total.antisymm b a) ∙ not-both-greater _ e }
-
-either-way : (a b : List ℕ) → IsUpTo a b ⊎ IsUpTo b a
-either-way a b = go (is_gt (slice_cmp nat_cmp a b)) refl
-  where
-    go : (g : Bool) → is_gt (slice_cmp nat_cmp a b) ≡ g → IsUpTo a b ⊎ IsUpTo b a
-    go false e = inl (record { order = e })
-    go true e = inr (up-to-less a b e)
-
-equal-of-both : (o : Ordering) → is_gt o ≡ false → is_gt (ordering_reverse o) ≡ false → o ≡ Equal
-equal-of-both Less e f = absurd (true≢false f)
-equal-of-both Equal e f = refl
-equal-of-both Greater e f = absurd (true≢false e)
-
-pub up-to-both : (a b : List ℕ) → IsUpTo a b → IsUpTo b a → a ≡ b
-up-to-both a b h k =
-    slice_cmp-IsAntisymmetric nat_cmp-IsAntisymmetric a b
-    (equal-of-both _ h.order (ap is_gt (sym (nat_list_cmp_total.antisymm b a)) ∙ k.order))
 
 -- ---- a least one of eight
 

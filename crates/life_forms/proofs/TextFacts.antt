@@ -2,14 +2,15 @@
 use Rattle.std.proofs.Common.{◌≡◌, ◌⊎◌, inl, inr, ℕ, ◌+◌, ◌<◌, ◌≤◌, List, refl, sym, ap, ◌∙◌, subst, arith}
 use Rattle.std.proofs.lemmas.Bool.Decides.{nat_tests}
 use Rattle.std.proofs.lemmas.Option.{get_or_from_slice_get, slice_get-get_or}
+use Rattle.life_canon.specs.Lesser.{IsUpTo}
 use Rattle.life_canon.specs.Listing.{canon_text}
 use Rattle.life_canon.specs.Universe.{Universe, IsSame, IsBlankOutside}
+use Rattle.life_canon.proofs.OrderFacts.{up-to-itself, up-to-on}
 use Rattle.life_forms.specs.Turns.{Turn, image, turns, upright}
-use Rattle.life_forms.specs.Forms.{IsMoved, IsUpTo}
-use Rattle.life_forms.specs.Images.{IsImageText, IsLeastOfFirst, IsTurnedText, numbered}
+use Rattle.life_forms.specs.Forms.{IsMoved}
+use Rattle.life_forms.specs.Images.{IsImageText, IsLeastOfFirst, IsLesserImageText, IsTurnedText, numbered}
 use Rattle.life_forms.proofs.TurnFacts.{turns-are-eight, image-outside}
 use Rattle.life_forms.proofs.ShiftFacts.{same-refl, still, forms-of-shifts}
-use Rattle.life_forms.proofs.LeastFacts.{up-to-itself, up-to-on}
 
 -- patterns that are the same have one text, on the plane or not
 same-text : (top : ℕ) (u v : Universe) → IsSame u v → canon_text top u ≡ canon_text top v
@@ -39,22 +40,22 @@ first-text top u some outside text is = record {
         let here = subst (λ (n : ℕ). IsImageText top u (numbered n) other) none also in
         subst (λ (t : List ℕ). IsUpTo text t) (one-text top u some outside (numbered 0) text other is here) (up-to-itself text)
 
-pub next-text : (top : ℕ) (u : Universe) → 1 ≤ top → IsBlankOutside top u.cell → (n : ℕ) (best text lesser : List ℕ) → IsLeastOfFirst top u n best
-    → IsImageText top u (numbered n) text → (lesser ≡ best) ⊎ (lesser ≡ text) → IsUpTo lesser best → IsUpTo lesser text → IsLeastOfFirst top u (n + 1) lesser
-next-text top u some outside n best text lesser so_far is one below_best below_text = elim one [
+pub next-text : (top : ℕ) (u : Universe) → 1 ≤ top → IsBlankOutside top u.cell → (n : ℕ) (best text : List ℕ) → IsLeastOfFirst top u n best
+    → IsLesserImageText top u (numbered n) best text → IsLeastOfFirst top u (n + 1) text
+next-text top u some outside n best text so_far is = elim is.lesser.one [
   | inl e ↦ record { turn = so_far.turn; of_image = subst (λ (t : List ℕ). IsImageText top u so_far.turn t) (sym e) so_far.of_image; least = below }
-  | inr e ↦ record { turn = numbered n; of_image = subst (λ (t : List ℕ). IsImageText top u (numbered n) t) (sym e) is; least = below }
+  | inr e ↦ record { turn = numbered n; of_image = subst (λ (t : List ℕ). IsImageText top u (numbered n) t) (sym e) is.of_image; least = below }
 ]
   where
     earlier : (k : ℕ) → k < n + 1 → (k < n) ⊎ (k ≡ n)
     earlier k low = grind (arith, nat_tests)
 
-    below : (k : ℕ) (other : List ℕ) → k < n + 1 → IsImageText top u (numbered k) other → IsUpTo lesser other
+    below : (k : ℕ) (other : List ℕ) → k < n + 1 → IsImageText top u (numbered k) other → IsUpTo text other
     below k other low also = elim (earlier k low) [
-      | inl before ↦ up-to-on lesser best other below_best (so_far.least k other before also)
+      | inl before ↦ up-to-on text best other is.lesser.first (so_far.least k other before also)
       | inr last ↦
           let here = subst (λ (m : ℕ). IsImageText top u (numbered m) other) last also in
-          subst (λ (t : List ℕ). IsUpTo lesser t) (one-text top u some outside (numbered n) text other is here) below_text
+          subst (λ (t : List ℕ). IsUpTo text t) (one-text top u some outside (numbered n) is.other other is.of_image here) is.lesser.second
     ]
 
 pub turned-text : (top : ℕ) (u : Universe) (text : List ℕ) → IsLeastOfFirst top u 8 text → IsTurnedText top u text

@@ -8,8 +8,8 @@ pub use Rattle.life_base.specs.declared.rule.Rule.{Rule}
 pub use Rattle.life_canon.specs.Store.{IsTrimmed, universe_in, IsKnown, content}
 pub use Rattle.life_canon.specs.Texts.{IsOrdered}
 pub use Rattle.life_canon.specs.Universe.{Universe, square_universe, least_level}
-pub use Rattle.life_forms.specs.Forms.{IsShift, IsTurnedShift, IsMoved, IsUpTo, IsInPlace}
-pub use Rattle.life_forms.specs.Images.{IsImageText, IsTurnedText, numbered}
+pub use Rattle.life_forms.specs.Forms.{IsShift, IsTurnedShift, IsMoved, IsInPlace}
+pub use Rattle.life_forms.specs.Images.{IsImageText, IsLesserImageText, IsTurnedText, numbered}
 pub use Rattle.life_forms.specs.Laws.{TurnsAreEight, TurnsAreClosed, TurnsHaveInverses, ImagesStayOnPlane, ImagesKeepShifts, ShiftsHaveOneSize, TurnsHaveOneSize, MovedFormsExist, MovedFormsAreOnPlane, MovedFormsTellShifts, MovedFormsAreFixed, MovedTextsTellShifts, MovedTextsTellFiles, TurnedTextsTellFiles, MovedTextsAreFiles, TurnedTextsAreFiles, FilesHaveForms, ForFaithfulTexts, TurnedFormsExist, TurnedFormsAreOnPlane, TurnedTextsTellTurns, TurnedFormsAreFixed}
 pub use Rattle.life_forms.specs.Needed.{AddsMoved, HasLargeForm, HasLargeImage, HasLargerForm, IsMovedRoot, LacksForMoved, RefusesTurning, SomeOfMovedForm, SomeOfMovedRoot}
 pub use Rattle.life_forms.specs.Turns.{image}

@@ -1,12 +1,12 @@
 //! Texts of a pattern's images.
 
 ghost use Rattle.std.specs.Prelude.{◌≡◌, ◌⊎◌, ◌^◌, ◌≤◌, IfOk, IfErr, OnOk};
-ghost use Rattle.life_forms.specs.Words.{MAX_LEVEL, Full, OrMemory, fault_of, IsTrimmed, universe_in, IsMoved, IsUpTo, IsImageText, IsTurnedText, numbered, HasLargerForm, RefusesTurning, image};
+ghost use Rattle.life_forms.specs.Words.{MAX_LEVEL, Full, OrMemory, fault_of, IsTrimmed, universe_in, IsMoved, IsImageText, IsLesserImageText, IsTurnedText, numbered, HasLargerForm, RefusesTurning, image};
 
 use crate::patterns::{form_of, most_squares, without_limit};
 use life_base::Fault;
 use life_canon::laws::{centred_squares_tell_cells, squares_are_centred};
-use life_canon::{Pattern, text_of};
+use life_canon::{Pattern, lesser_text, text_of};
 use life_quad::{Shared, SharedSquares, Turn, turned};
 use std::alloc::Global;
 
@@ -62,6 +62,22 @@ fn moved_image(
     }
 }
 
+/// The same with the limit of a form that is made of this store's pattern.
+fn limited_image(
+    alloc: Global,
+    store: &Shared,
+    pattern: &Pattern,
+    turn: Turn,
+) -> Result<(Shared, Pattern), Fault>
+    requires { IsTrimmed store.now pattern.now }
+    ensures trimmed { IfOk result (λ form. IsTrimmed form.0 form.1) }
+    ensures moved { IfOk result (λ form. IsMoved MAX_LEVEL
+        (image turn (universe_in store.now pattern.now)) (universe_in form.0 form.1)) }
+    ensures fault { IfErr result (RefusesTurning store.now pattern.now) }
+{
+    moved_image(alloc, store, most_squares(store), pattern, turn)
+}
+
 /// The canonical text of an image of a pattern, moved.
 fn image_text(
     alloc: Global,
@@ -74,21 +90,25 @@ fn image_text(
         (λ text. IsImageText MAX_LEVEL (universe_in store.now pattern.now) turn text.items) }
     ensures fault { IfErr result (RefusesTurning store.now pattern.now) }
 {
-    let (form, moved) = moved_image(alloc, store, most_squares(store), pattern, turn)?;
+    let (form, moved) = limited_image(alloc, store, pattern, turn)?;
     text_of(alloc, &form, &moved)
 }
 
-/// The first of two texts, unless the second is less, byte by byte.
-fn lesser(first: Vec<u8>, second: Vec<u8>) -> Vec<u8>
-    ensures one { (result.items ≡ first.items) ⊎ (result.items ≡ second.items) }
-    ensures first { IsUpTo result.items first.items }
-    ensures second { IsUpTo result.items second.items }
+/// The lesser, byte by byte, of a text and of the canonical text of an image of a pattern, moved.
+fn lesser_image_text(
+    alloc: Global,
+    store: &Shared,
+    pattern: &Pattern,
+    turn: Turn,
+    best: Vec<u8>,
+) -> Result<Vec<u8>, Fault>
+    requires { IsTrimmed store.now pattern.now }
+    ensures text { IfOk result (λ text. IsLesserImageText MAX_LEVEL
+        (universe_in store.now pattern.now) turn best.items text.items) }
+    ensures fault { IfErr result (RefusesTurning store.now pattern.now) }
 {
-    if first.as_slice().cmp(second.as_slice()).is_gt() {
-        second
-    } else {
-        first
-    }
+    let (form, moved) = limited_image(alloc, store, pattern, turn)?;
+    lesser_text(alloc, &form, &moved, best)
 }
 
 /// The canonical text of the turned form of a pattern: of the eight turns and reflections of the pattern, each moved as by `moved_of`, the one
@@ -107,8 +127,7 @@ pub fn turned_text(alloc: Global, store: &Shared, pattern: &Pattern) -> Result<V
 {
     let mut best = image_text(alloc, store, pattern, numbered(0))?;
     for number in 1..8u8 {
-        let text = image_text(alloc, store, pattern, numbered(number))?;
-        best = lesser(best, text);
+        best = lesser_image_text(alloc, store, pattern, numbered(number), best)?;
     }
     Ok(best)
 }

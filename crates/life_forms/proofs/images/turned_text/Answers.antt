@@ -2,7 +2,7 @@ use Rattle.std.proofs.Common.{◌≡◌, ℕ, subst, arith, lit≤}
 use Rattle.life_base.specs.declared.cell.TheConstants.{MAX_LEVEL}
 use Rattle.life_canon.specs.Store.{universe_in}
 use Rattle.life_quad.proofs.LawLemmas.{known_squares_are_full}
-use Rattle.life_forms.specs.Images.{IsImageText, IsLeastOfFirst}
+use Rattle.life_forms.specs.Images.{IsImageText, IsLeastOfFirst, IsLesserImageText}
 use Rattle.life_forms.specs.Turns.{Turn}
 use Rattle.life_forms.proofs.PlaneFacts.{outside-blank}
 use Rattle.life_forms.proofs.TextFacts.{first-text, next-text, turned-text}
@@ -22,10 +22,10 @@ loop-number-preserved c =
     let u = universe_in c.args.store.now c.args.pattern.now in
     let outside = outside-blank _ (known_squares_are_full c.args.store.now c.args.pattern.now.root c.requires.known.0).1 in
     record {
-      least = next-text MAX_LEVEL u (lit≤ tt) outside c.loop-number.number c.loop-number.best.items c.in_ok-text.text.items c.lesser-best.result.items
+      least = next-text MAX_LEVEL u (lit≤ tt) outside c.loop-number.number c.loop-number.best.items c.in_ok-best-2.best.items
           c.loop-number.invariant.least
-          (subst (λ (t : Turn). IsImageText MAX_LEVEL u t c.in_ok-text.text.items) c.numbered-in-loop-number.ensures c.in_ok-text.ensures.text)
-          c.lesser-best.ensures.one c.lesser-best.ensures.first c.lesser-best.ensures.second;
+          (subst (λ (t : Turn). IsLesserImageText MAX_LEVEL u t c.loop-number.best.items c.in_ok-best-2.best.items)
+          c.numbered-in-loop-number.ensures c.in_ok-best-2.ensures.text);
     }
 
 pub returns-clause-text : goal.returns-clause-text
