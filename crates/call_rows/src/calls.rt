@@ -22,7 +22,7 @@ pub(crate) enum Call {
 }
 
 /// The calls by their names.
-const CALLS: [(&[u8], Call); 58] = [
+const CALLS: [(&[u8], Call); 59] = [
     (b"rule", Call::Base(base::Call::Rule)),
     (b"same_rules", Call::Base(base::Call::SameRules)),
     (b"name_copy", Call::Base(base::Call::NameCopy)),
@@ -73,6 +73,7 @@ const CALLS: [(&[u8], Call); 58] = [
     (b"read_from", Call::Lent(Lent::File(File::ReadFrom))),
     (b"same", Call::Lent(Lent::Compared)),
     (b"is_same", Call::Lent(Lent::IsSame)),
+    (b"lesser", Call::Lent(Lent::Lesser)),
     (b"two_pieces", Call::Lent(Lent::TwoPieces)),
     (b"each_piece", Call::Lent(Lent::EachPiece)),
     (b"run_within", Call::Lent(Lent::RunWithin)),

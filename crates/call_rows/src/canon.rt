@@ -4,9 +4,10 @@ ghost use Rattle.life_canon.specs.Store.{IsTrimmed};
 
 use crate::answer::{Answer, Unanswered};
 use crate::row::halves;
+use crate::shown::show_text;
 use crate::stores::new_store;
 use life_base::Fault;
-use life_canon::{Pattern, Reader, canon, number, read, same, show, text_of, to_rle};
+use life_canon::{Pattern, Reader, canon, lesser_text, number, read, same, show, text_of, to_rle};
 use life_mc::write_mc;
 use life_quad::Shared;
 use std::alloc::Global;
@@ -128,4 +129,28 @@ pub(crate) fn numbered(alloc: Global, out: &mut Answer, store: &mut Shared, file
 /// The canonical text of a file that a reader is fed; or the line and the kind of a fault.
 pub(crate) fn fed(alloc: Global, out: &mut Answer, store: &mut Shared, file: &[u8]) {
     show_texts(out, texts_fed(alloc, store, file));
+}
+
+/// The lesser of a text and of the canonical text of a file.
+fn lesser_of(
+    alloc: Global,
+    store: &mut Shared,
+    text: Vec<u8>,
+    file: &[u8],
+) -> Result<Vec<u8>, Fault> {
+    let pattern = read(alloc, store, file)?;
+    lesser_text(alloc, store, &pattern, text)
+}
+
+/// The lesser of a text and of the canonical text of a file; or the line and the kind of a fault.
+pub(crate) fn lesser(
+    alloc: Global,
+    out: &mut Answer,
+    store: &mut Shared,
+    input: &[u8],
+) -> Result<(), Unanswered> {
+    let (text, file) = halves(input)?;
+    let text = Vec::from_slice(alloc, text)?;
+    show_text(out, lesser_of(alloc, store, text, file));
+    Ok(())
 }
