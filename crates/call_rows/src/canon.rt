@@ -6,7 +6,7 @@ use crate::answer::{Answer, Unanswered};
 use crate::row::halves;
 use crate::shown::show_text;
 use crate::stores::new_store;
-use life_base::Fault;
+use life_base::{Fault, Kind};
 use life_canon::{Pattern, Reader, canon, lesser_text, number, read, same, show, text_of, to_rle};
 use life_mc::write_mc;
 use life_quad::Shared;
@@ -150,7 +150,9 @@ pub(crate) fn lesser(
     input: &[u8],
 ) -> Result<(), Unanswered> {
     let (text, file) = halves(input)?;
-    let text = Vec::from_slice(alloc, text)?;
+    let Ok(text) = Vec::from_slice(alloc, text) else {
+        return Err(Unanswered::Refused(Kind::Memory));
+    };
     show_text(out, lesser_of(alloc, store, text, file));
     Ok(())
 }
