@@ -1,6 +1,8 @@
 pub mod BandLemmas
 pub mod CountLemmas
 pub mod GenerationLemmas
+pub mod LawPieceLemmas
+pub mod LawPlaneLemmas
 pub mod LeastLemmas
 pub mod NeedLemmas
 pub mod PieceLemmas

@@ -106,6 +106,15 @@ module _ (P : Tree → Type 0) (f : ℤ → ℤ → ℕ) (small : (x y : ℤ) �
         ]
       ]
 
+-- a part of the square of the whole plane is a square of the plane
+pub whole-part : (P : Tree → Type 0) (f : ℤ → ℤ → ℕ) → ((x y : ℤ) → f x y < 256) → (t : Tree) → depth t ≡ MAX_LEVEL
+    → (let corner = neg_ℤ (pos (half_side t)) in SomePart P (square_from f (depth t) corner corner)) → SomeSquare P (2 ^ MAX_LEVEL) (by_columns f)
+whole-part P f below t whole h =
+    let half : half_side t ≡ half_plane = ap (λ n. 2 ^ (n - 1)) whole in
+    let corner : neg_ℤ (pos (half_side t)) ≡ at 0 = omega (arith, ints, half) in
+    part-square P f below MAX_LEVEL 0 0 (omega arith) (omega arith)
+    (subst (λ n. SomePart P (square_from f n (at 0) (at 0))) whole (moved P f below (depth t) _ _ _ _ corner corner h))
+
 one-or-none : (b : Bool) → (if b then 1 else 0) < 256
 one-or-none true = omega arith
 one-or-none false = omega arith
@@ -115,10 +124,6 @@ pub plane-part : LifeAnswersAt → (P : Tree → Type 0) (rule : OuterTotalistic
 plane-part law P rule t whole quiet clear h =
     let next = next_life rule (tree_cell t) in
     let below : (x y : ℤ) → next x y < 256 = (λ x y. one-or-none _) in
-    let half : half_side t ≡ half_plane = ap (λ n. 2 ^ (n - 1)) whole in
-    let corner : neg_ℤ (pos (half_side t)) ≡ at 0 = omega (arith, ints, half) in
-    let from : SomePart P (square_from next MAX_LEVEL (at 0) (at 0)) =
-    subst (λ n. SomePart P (square_from next n (at 0) (at 0))) whole (moved P next below (depth t) _ _ _ _ corner corner h) in
     of_plane whole (of_next next (λ x y. (law rule (tree_cell t) x y _).1 refl)
     (λ x y outside. next-outside rule t quiet clear x y (λ i. outside (on-plane t x y (omega (arith, whole)) i)))
-    (part-square P next below MAX_LEVEL 0 0 (omega arith) (omega arith) from))
+    (whole-part P next below t whole h))

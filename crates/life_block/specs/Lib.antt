@@ -1,4 +1,5 @@
 pub mod Bits
+pub mod Laws
 pub mod Needed
 pub mod Pieces
 pub mod Remembered

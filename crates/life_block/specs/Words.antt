@@ -3,6 +3,7 @@ pub use Rattle.life_base.specs.Refusal.{fault_of, IsMemory}
 pub use Rattle.life_base.specs.Rules.{has_digit}
 pub use Rattle.life_base.specs.Tree.{depth, point, tree_cell}
 pub use Rattle.life_block.specs.Bits.{AreBands, count_at, counted_in, exchanged, HasBand, neighbours_in, place_in, sides_in}
+pub use Rattle.life_block.specs.Laws.{IsNextAt, IsNextOfNine, IsPieceBy, RemembersBy}
 pub use Rattle.life_block.specs.Needed.{HasClearEdge, level_behind, next_plane, next_square, SomeOfBands, SomeOfNext, SomeOfNine, SomeOfSixteen, square_from}
 pub use Rattle.life_block.specs.Pieces.{ahead, AreFour, AreNine, AreSixteen, AreThree, at_corner, back, eastern, four_of, front, in_middle, InFour, InNine}
 pub use Rattle.life_block.specs.Pieces.{InSixteen, InThree, IsAt, IsBinary, IsPiece, IsWhereBinary, Nine as NineValue, rear, western}
@@ -13,8 +14,8 @@ pub use Rattle.life_quad.specs.Memory.{Recalls}
 pub use Rattle.life_quad.specs.Refused.{SomePart}
 pub use Rattle.life_quad.specs.Store.{four, two}
 pub use Rattle.life_quad.specs.declared.id.Id.{Id as IdValue}
-pub use Rattle.life_sweep.specs.Generation.{after, before, IsNextLife, LifeAnswers, next_by_count, next_life}
-pub use Rattle.life_sweep.specs.Refused.{GenerationRefusal}
-pub use Rattle.life_table.specs.Meaning.{count_of}
+pub use Rattle.life_sweep.specs.Generation.{after, before, IsNextLife, LifeAnswers, next_by_count, next_life, states_at}
+pub use Rattle.life_sweep.specs.Refused.{GenerationRefusal, SomeNext}
+pub use Rattle.life_table.specs.Meaning.{Becomes, count_of}
 pub use Rattle.std.specs.Int.{bit_at}
 pub use Rattle.std.specs.Int.Bits.{bit_and}

@@ -10,9 +10,12 @@ mod blocks;
 mod counts;
 mod generation;
 mod grid;
+mod law_generation;
+mod law_squares;
 mod leaf;
 mod remembered;
 mod words;
 
 pub use blocks::next_life_square;
 pub use generation::next_life_generation;
+pub use law_generation::next_law_generation;

@@ -4,12 +4,12 @@ ghost use Rattle.std.specs.Prelude.{◌≡◌, ◌≢◌, ◌+◌, ◌^◌, ◌-
 ghost use Rattle.life_step.specs.Words.{fault_of, IsRule, depth, tree_cell, NamedRule, IsNew, ForEachFile, Keeps, IsKnown, IsOfFile, IsWant, content, IsSame, least_level, square_universe, largest_state, TrimmedTo, LacksForLife, LacksForStep, LacksForStepBy, LacksForTable, LifeRefusal, RefusesFile, RefusesPattern, SomeByRule, SomeByTable, SomeOfStep, SomeOfStepBy, AddsOnly, held, TableRefusal, IsStepped, IsSteppedBy, IsTextOf};
 
 use life_base::{Fault, Kind, MAX_LEVEL, Rule};
-use life_block::next_life_generation;
+use life_block::{next_law_generation, next_life_generation};
 use life_canon::laws::{files_are_on_plane, patterns_fit, texts_are_files, texts_tell_universes};
 use life_canon::{MOST_CELLS, Pattern, least_level, read, text_of};
 use life_quad::{Id, Shared, trim};
 use life_sweep::laws::{life_answers_at, table_answers_at};
-use life_sweep::{ByTable, next_generation};
+use life_sweep::ByTable;
 use life_table::Table;
 use life_table::laws::one_answer;
 use std::alloc::Global;
@@ -150,7 +150,7 @@ pub fn next_by_table(
     table_answers_at();
     one_answer();
     let mut by_table = ByTable::new(alloc, table)?;
-    let square = next_generation(alloc, store, &mut by_table, pattern.root, MOST_CELLS)?;
+    let square = next_law_generation(alloc, store, &mut by_table, pattern.root, MOST_CELLS)?;
     text_of_square(alloc, store, pattern.rule, generation, square)
 }
 

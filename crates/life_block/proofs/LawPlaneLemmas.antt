@@ -1,0 +1,60 @@
+-- The next generation of a pattern by a law: it isn't refused, and its parts are squares of the plane.
+use Rattle.std.proofs.Common.{◌≡◌, ℕ, ◌^◌, ◌<◌, ◌≤◌, false, inr, List, ℤ, None, refl, sym, ◌∙◌, ap, subst, arith}
+use Rattle.life_base.specs.Tree.{Tree, point, quad, depth, half_side, tree_cell, IsFull}
+use Rattle.life_base.specs.declared.cell.TheConstants.{MAX_LEVEL}
+use Rattle.life_quad.specs.Cells.{population}
+use Rattle.life_quad.specs.Refused.{SomePart}
+use Rattle.life_quad.specs.Turning.{turned_tree}
+use Rattle.life_quad.specs.declared.turning.Turn.{Turn}
+use Rattle.life_strip.specs.Given.{IsOnPlane}
+use Rattle.life_sweep.specs.Refused.{GenerationRefusal, HasStateFrom, SomeAmbiguous, SomeNext, of_plane}
+use Rattle.life_sweep.specs.Sweep.{IsLeft}
+use Rattle.life_table.specs.Meaning.{Answer, Becomes, Ambiguous}
+use Rattle.life_block.specs.Laws.{IsNextAt}
+use Rattle.life_block.specs.Needed.{square_from}
+use Rattle.life_block.proofs.GenerationLemmas.{on-plane, one-state, same-state}
+use Rattle.life_block.proofs.LawPieceLemmas.{cell-small}
+use Rattle.life_block.proofs.NeedLemmas.{piece-is}
+use Rattle.life_block.proofs.PlaneLemmas.{whole-part}
+use Rattle.life_block.proofs.RootLemmas.{cell-outside, corner, piece-of_root}
+
+-- the image under the turn that changes nothing
+abbrev pub upright : Turn
+upright = record { exchange = false; columns = false; rows = false }
+
+pub upright-image : (t : Tree) → turned_tree upright t ≡ t
+upright-image (point s) = refl
+upright-image (quad a b c d) = (λ i. quad (upright-image a i) (upright-image b i) (upright-image c i) (upright-image d i))
+
+module _ (answers : List ℕ → Answer → Type 0) (bound : ℕ) (t r : Tree) (full : IsFull r) (whole : depth r ≡ MAX_LEVEL)
+    (next : (x y : ℤ) → IsNextAt answers bound (tree_cell t) x y (tree_cell r x y)) where
+  outside : (x y : ℤ) → ¬ (IsOnPlane x y 1) → tree_cell r x y ≡ 0
+  outside x y apart = cell-outside r x y (λ i. apart (on-plane r x y (omega (arith, whole)) i))
+
+  -- it isn't refused, where there is one answer at most
+  pub accepted-by : ((states : List ℕ) (a b : Answer) → answers states a → answers states b → a ≡ b) → (most : ℕ) → population t ≤ most
+      → GenerationRefusal answers bound most t None
+  accepted-by one most few = inr (many, inr (beyond, inr (ambiguous, inr (left, refl))))
+    where
+      many : ¬ (most < population t)
+      many l = omega (arith, l, few)
+
+      beyond : ¬ (HasStateFrom bound (tree_cell t))
+      beyond h =
+          let below = (next h.0 h.1).below in
+          let above = h.2 in
+          omega (arith, below, above)
+
+      ambiguous : ¬ (SomeAmbiguous answers (tree_cell t))
+      ambiguous h = one-state (tree_cell r h.0 h.1) h.2 (one _ _ _ h.3 (next h.0 h.1).answer)
+
+      left : ¬ (IsLeft answers (tree_cell t))
+      left h = h.nonzero (same-state h.next (tree_cell r h.x h.y) (one _ _ _ h.answer (next h.x h.y).answer) ∙ outside h.x h.y h.outside)
+
+  -- a part of it is a square of the plane
+  pub part-by : (P : Tree → Type 0) → SomePart P r → SomeNext P answers (tree_cell t)
+  part-by P some =
+      let high : 1 ≤ depth r = omega (arith, whole) in
+      let is : r ≡ square_from (tree_cell r) (depth r) (corner r) (corner r) = piece-is (tree_cell r) (depth r) (corner r) (corner r) r full refl
+      (piece-of_root r full high) in
+      of_plane (tree_cell r) (λ x y. (next x y).answer) outside (whole-part P (tree_cell r) (cell-small r full high) r whole (subst (SomePart P) is some))
