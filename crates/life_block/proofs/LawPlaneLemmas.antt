@@ -1,5 +1,9 @@
 -- The next generation of a pattern by a law: it isn't refused, and its parts are squares of the plane.
-use Rattle.std.proofs.Common.{◌≡◌, ℕ, ◌^◌, ◌<◌, ◌≤◌, false, inr, List, ℤ, None, refl, sym, ◌∙◌, ap, subst, arith}
+use Rattle.std.proofs.Common.{◌≡◌, ℕ, ◌^◌, ◌<◌, ◌≤◌, false, inr, List, ℤ, Option, Some, None, IfSome, Result, Err, refl, sym, ◌∙◌, ap, subst, arith}
+use Rattle.life_base.specs.Refusal.{fault_of}
+use Rattle.life_base.specs.declared.fault.Fault.{Fault}
+use Rattle.life_base.specs.declared.kind.Kind.{Kind}
+use Rattle.life_base.specs.declared.kind.Kind.TheVariants.{Full}
 use Rattle.life_base.specs.Tree.{Tree, point, quad, depth, half_side, tree_cell, IsFull}
 use Rattle.life_base.specs.declared.cell.TheConstants.{MAX_LEVEL}
 use Rattle.life_quad.specs.Cells.{population}
@@ -12,7 +16,7 @@ use Rattle.life_sweep.specs.Sweep.{IsLeft}
 use Rattle.life_table.specs.Meaning.{Answer, Becomes, Ambiguous}
 use Rattle.life_block.specs.Laws.{IsNextAt}
 use Rattle.life_block.specs.Needed.{square_from}
-use Rattle.life_block.proofs.GenerationLemmas.{on-plane, one-state, same-state}
+use Rattle.life_block.proofs.GenerationLemmas.{on-plane, same-state}
 use Rattle.life_block.proofs.LawPieceLemmas.{cell-small}
 use Rattle.life_block.proofs.NeedLemmas.{piece-is}
 use Rattle.life_block.proofs.PlaneLemmas.{whole-part}
@@ -25,6 +29,22 @@ upright = record { exchange = false; columns = false; rows = false }
 pub upright-image : (t : Tree) → turned_tree upright t ≡ t
 upright-image (point s) = refl
 upright-image (quad a b c d) = (λ i. quad (upright-image a i) (upright-image b i) (upright-image c i) (upright-image d i))
+
+-- what an option has, its value has
+pub of-option : {T : Type 0} (P : T → Type 0) {o : Option T} {x : T} → o ≡ Some x → IfSome o P → P x
+of-option P is h = subst (λ o. IfSome o P) is h
+
+-- what holds of two values holds of equal ones
+pub of-equals : {A B : Type 0} (P : A → B → Type 0) {a c : A} {b d : B} → a ≡ c → b ≡ d → P a b → P c d
+of-equals P {c = c} {b = b} e f h = subst (P c) f (subst (λ a. P a b) e h)
+
+-- the fault that names no line has its kind
+pub kind-of-full : {T U : Type 0} (kind : Kind) → ◌≡◌ {A = Result T Fault} (Err (fault_of kind)) (Err (fault_of Full))
+    → ◌≡◌ {A = Result U Kind} (Err kind) (Err Full)
+kind-of-full kind e = let same : fault_of kind ≡ fault_of Full = cc in ap (λ (f : Fault). Err f.kind) same
+
+not-both : (state line : ℕ) → Ambiguous line ≡ Becomes state → ⊥
+not-both state line e = cc
 
 module _ (answers : List ℕ → Answer → Type 0) (bound : ℕ) (t r : Tree) (full : IsFull r) (whole : depth r ≡ MAX_LEVEL)
     (next : (x y : ℤ) → IsNextAt answers bound (tree_cell t) x y (tree_cell r x y)) where
@@ -46,7 +66,7 @@ module _ (answers : List ℕ → Answer → Type 0) (bound : ℕ) (t r : Tree) (
           omega (arith, below, above)
 
       ambiguous : ¬ (SomeAmbiguous answers (tree_cell t))
-      ambiguous h = one-state (tree_cell r h.0 h.1) h.2 (one _ _ _ h.3 (next h.0 h.1).answer)
+      ambiguous h = not-both (tree_cell r h.0 h.1) h.2 (one _ _ _ h.3 (next h.0 h.1).answer)
 
       left : ¬ (IsLeft answers (tree_cell t))
       left h = h.nonzero (same-state h.next (tree_cell r h.x h.y) (one _ _ _ h.answer (next h.x h.y).answer) ∙ outside h.x h.y h.outside)
@@ -58,3 +78,6 @@ module _ (answers : List ℕ → Answer → Type 0) (bound : ℕ) (t r : Tree) (
       let is : r ≡ square_from (tree_cell r) (depth r) (corner r) (corner r) = piece-is (tree_cell r) (depth r) (corner r) (corner r) r full refl
       (piece-of_root r full high) in
       of_plane (tree_cell r) (λ x y. (next x y).answer) outside (whole-part P (tree_cell r) (cell-small r full high) r whole (subst (SomePart P) is some))
+
+  pub part-of_image : (P : Tree → Type 0) → SomePart P (turned_tree upright r) → SomeNext P answers (tree_cell t)
+  part-of_image P some = part-by P (subst (SomePart P) (upright-image r) some)

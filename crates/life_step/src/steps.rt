@@ -150,7 +150,9 @@ pub fn next_by_table(
     table_answers_at();
     one_answer();
     let mut by_table = ByTable::new(alloc, table)?;
-    let square = next_law_generation(alloc, store, &mut by_table, pattern.root, MOST_CELLS)?;
+    let stored = store.len();
+    let square =
+        next_law_generation(alloc, store, &mut by_table, pattern.root, MOST_CELLS, stored)?;
     text_of_square(alloc, store, pattern.rule, generation, square)
 }
 

@@ -36,8 +36,8 @@ returns-in_err-generation-clause-refused c =
     rw (p.1, p.2, last.1)
     (inr (λ bytes r. (r.universe, r.reads, table-last c.args.table.now r.universe (sym r.is.rule ∙ is) (sym r.is.generation ∙ last.0))))
 
-pub next_generation-requires-clause-high : goal.next_generation-requires-clause-high
-next_generation-requires-clause-high c =
+pub next_law_generation-requires-clause-high : goal.next_law_generation-requires-clause-high
+next_law_generation-requires-clause-high c =
     let fits = c.patterns_fit.ensures _ _ _ c.requires.1 in
     root-high c.args.pattern.rule _ fits.0.level
 
@@ -63,7 +63,7 @@ returns-in_err-square-clause-refused c =
 
 pub text_of_square-requires-clause-states : goal.text_of_square-requires-clause-states
 text_of_square-requires-clause-states c =
-    let squares = c.next_generation.new.squares in
+    let squares = c.next_law_generation.new.squares in
     let next = content squares c.in_ok-square.square in
     let full = (known_squares_are_full squares c.in_ok-square.square c.in_ok-square.ensures.known.0).0 in
     λ x y. subst (λ q. tree_cell next x y ≤ largest_state q) (sym (c.is_rule_of.ensures.0 c.if-not-is_rule_of.false)) (cell-byte next full x y)
@@ -76,7 +76,7 @@ returns-clause-stepped c =
     let t = content c.args.store.now c.args.pattern.root in
     let law : Table = c.in_ok-by_table.by_table in
     let same : law ≡ c.args.table.now = c.in_ok-by_table.ensures.table in
-    let next = content c.next_generation.new.squares c.in_ok-square.square in
+    let next = content c.next_law_generation.new.squares c.in_ok-square.square in
     let none = subst (λ (T : Table). GenerationRefusal (TableAnswers T) T.n_states (2 ^ 20) t None) same c.in_ok-square.ensures.accepted in
     let cells = subst (λ (T : Table). (x y : ℤ) → TableAnswers T (states_at (tree_cell t) x y) (Becomes (tree_cell next x y))) same
     c.in_ok-square.ensures.next in
@@ -91,7 +91,7 @@ returns-clause-keeps c = keeps-then c.in_ok-square.ensures.keeps c.text_of_squar
 pub returns-in_err-square-clause-needed : goal.returns-in_err-square-clause-needed
 returns-in_err-square-clause-needed c full =
     let root = content c.args.store.now c.args.pattern.root in
-    let P = IsNew c.next_generation.new.squares in (
+    let P = IsNew c.next_law_generation.new.squares in (
       c.is_rule_of.ensures.0 c.if-not-is_rule_of.false,
       subst (λ (T : Table). SomeOfTable P T root) c.in_ok-by_table.ensures.table
           (of_next (handed-on _ c.from_residual-in_err-square.ensures.1 c.in_err-square.ensures.needed full)),
@@ -102,7 +102,7 @@ returns-clause-needed c full =
     let square = c.in_ok-square.ensures in
     let states = answered-by_table c.table_answers_at.ensures c.in_ok-by_table.by_table c.args.table.now _ _ c.in_ok-by_table.ensures.table square.next in
     root-by_table (IsNew c.text_of_square.new.store) c.args.table.now (c.is_rule_of.ensures.0 c.if-not-is_rule_of.false)
-    (known_squares_are_full c.next_generation.new.squares _ square.known.0).0 square.level
+    (known_squares_are_full c.next_law_generation.new.squares _ square.known.0).0 square.level
     states (c.text_of_square.ensures.needed full)
 
 pub returns-in_err-square-clause-adds : goal.returns-in_err-square-clause-adds
@@ -122,5 +122,5 @@ returns-clause-adds c =
     let states = answered-by_table c.table_answers_at.ensures c.in_ok-by_table.by_table c.args.table.now _ _ c.in_ok-by_table.ensures.table square.next in
     adds-then _ square.adds c.text_of_square.ensures.adds
     (λ P some. (is, subst (λ (T : Table). SomeOfTable P T root) c.in_ok-by_table.ensures.table (of_next some)))
-    (λ P. root-by_table P c.args.table.now is (known_squares_are_full c.next_generation.new.squares _ square.known.0).0 square.level
+    (λ P. root-by_table P c.args.table.now is (known_squares_are_full c.next_law_generation.new.squares _ square.known.0).0 square.level
     states)
