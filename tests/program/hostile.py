@@ -742,7 +742,7 @@ BLOCK = b"**$**$$$$$$$\n"
 BLOCKS = repeated(BLOCK, 3, 9)
 BLINKERS, TURNED_BLINKERS = repeated(b"$$.***$$$$$$\n", 3, 9), repeated(b"$..*$..*$..*$$$$$\n", 3, 9)
 SPECKS = repeated(b"*$$$$$$$$\n", 3, 10)
-NAMED_SPECKS = repeated(b"1 1 0 0 0\n", 1, 8)
+NAMED_SPECKS = repeated(b"1 1 0 0 0\n", 1, 10)
 
 
 @once
@@ -797,8 +797,12 @@ BLOCKS_SHOWN = b"rule B3/S23\ngeneration 0\npopulation 1048576\nbox %d %d %d %d\
 STILL = {"still.rule": FILES["still.rule"]}.items()
 # The blocks, moved: the first of them is at (0, 0). Each turn or reflection of them, moved, is the same.
 MOVED_BLOCKS = BLOCK + chain(4, 52, b"L C 0 0 0\n") + chain(53, 61, b"L C C C C\n", 50) + b"62 0 0 0 59\n"
-# A step by a table visits each place of the plane beside which a cell is, and so takes the cells times the levels, however few lines say them. Such
-# a file has less than a kilobyte. One under a B/S rule remembers what it was told of the squares around a square.
+# The rule's dead cells between 1 and 2, and between 3 and 4, are ambiguous. The latter stand further north, in the square that is stepped later.
+AMBIGUOUS = {"two.rule": b"@RULE Spread\n@TABLE\nn_states:5\nneighborhood:vonNeumann\nsymmetries:permute\nvar a={1,2}\nvar b={1,2}\nvar c={3,4}\n"
+         b"var d={3,4}\n0,a,b,0,0,a\n0,c,d,0,0,c\n"}.items()
+TWO_APART = (b"1 1 0 0 2\n" + chain(2, 50, b"L 0 0 C 0\n") + b"1 3 0 0 4\n" + chain(2, 50, b"L 0 C 0 0\n", 51)
+             + b"1 1 0 0 0\n" + chain(2, 44, b"L C 0 0 0\n", 101) + chain(45, 50, b"L C C C C\n", 144) + b"51 50 100 150 150\n")
+# A step remembers what it was told of the squares around a square, and so takes no longer than the lines.
 FEW_LINES = [
     few_lines("2^20 cells in 60 lines", BLOCKS, LIFE + BLOCKS, "canon input"),
     few_lines("2^20 cells in 60 lines that are shown", BLOCKS, BLOCKS_SHOWN, "show input"),
@@ -816,8 +820,12 @@ FEW_LINES = [
     few_lines("2^20 single cells of the whole plane that die", of_the_plane(SPECKS), LIFE + b"#G 1\n", "step input"),
     accepted("40,000 lines of chains at random, of 786,432 cells that stay", [LIFE, mixed_blocks], [LIFE + b"#G 1\n", mixed_blocks], "step input", each=1,
              little=20 * MEGABYTE),
-    few_lines("2^16 single cells in 60 lines that stay by a table", NAMED_SPECKS, canonical(b"Still", 1) + NAMED_SPECKS,
-              "step input --table still.rule", STILL, b"Still", each=4000),
+    few_lines("2^20 single cells in 60 lines that stay by a table", NAMED_SPECKS, canonical(b"Still", 1) + NAMED_SPECKS,
+              "step input --table still.rule", STILL, b"Still"),
+    few_lines("2^20 single cells of the whole plane that stay by a table", of_the_plane(NAMED_SPECKS), canonical(b"Still", 1) + of_the_plane(NAMED_SPECKS),
+              "step input --table still.rule", STILL, b"Still"),
+    few_lines("two ambiguous cells far apart, and 2^13 single cells", TWO_APART, b"", "step input --table two.rule", AMBIGUOUS, b"Spread", status=2,
+              error="table line 11: Ambiguous"),
 ]
 
 

@@ -33,7 +33,11 @@ fn is_off_edge(bounds: &Bounds) -> bool
 /// # Errors
 ///
 /// `Memory`, and nothing else.
-pub(crate) fn reaches_edge<S: SharedSquares>(alloc: Global, squares: &S, id: Id) -> Result<bool, Kind>
+pub(crate) fn reaches_edge<S: SharedSquares>(
+    alloc: Global,
+    squares: &S,
+    id: Id,
+) -> Result<bool, Kind>
     requires known { S.knows squares.now id }
     ensures whole { IfOk result
         (λ reaches. reaches ≡ true → depth (S.content squares.now id) ≡ MAX_LEVEL) }
