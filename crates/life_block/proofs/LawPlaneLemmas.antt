@@ -1,10 +1,10 @@
 -- The next generation of a pattern by a law: it isn't refused, and its parts are squares of the plane.
-use Rattle.std.proofs.Common.{◌≡◌, ℕ, ◌^◌, ◌<◌, ◌≤◌, false, inr, List, ℤ, Option, Some, None, IfSome, Result, Err, refl, sym, ◌∙◌, ap, subst, arith}
+use Rattle.std.proofs.Common.{◌≡◌, ℕ, ◌<◌, ◌≤◌, false, inr, List, ℤ, Option, Some, None, IfSome, Result, Err, refl, ◌∙◌, ap, subst, arith}
 use Rattle.life_base.specs.Refusal.{fault_of}
 use Rattle.life_base.specs.declared.fault.Fault.{Fault}
 use Rattle.life_base.specs.declared.kind.Kind.{Kind}
 use Rattle.life_base.specs.declared.kind.Kind.TheVariants.{Full}
-use Rattle.life_base.specs.Tree.{Tree, point, quad, depth, half_side, tree_cell, IsFull}
+use Rattle.life_base.specs.Tree.{Tree, point, quad, depth, tree_cell, IsFull}
 use Rattle.life_base.specs.declared.cell.TheConstants.{MAX_LEVEL}
 use Rattle.life_quad.specs.Cells.{population}
 use Rattle.life_quad.specs.Refused.{SomePart}

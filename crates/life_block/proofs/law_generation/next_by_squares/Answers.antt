@@ -1,4 +1,4 @@
-use Rattle.std.proofs.Common.{◌≡◌, sym, ◌∙◌, subst}
+use Rattle.std.proofs.Common.{sym, ◌∙◌, subst}
 use Rattle.life_base.specs.Tree.{tree_cell}
 use Rattle.life_quad.proofs.GrowsLemmas.{grows-err, grows-ok}
 use Rattle.life_quad.proofs.LawLemmas.{known_squares_are_full}

@@ -1,4 +1,4 @@
-use Rattle.std.proofs.Common.{◌≡◌, ◌≤◌, ◌⊎◌, Ok, Some, None, IfErr, ap, arith}
+use Rattle.std.proofs.Common.{◌≤◌, ◌⊎◌, Ok, Some, IfErr, ap, arith}
 use Rattle.std.proofs.lemmas.Result.{err_from_is_err_and}
 use Rattle.life_base.specs.Tree.{tree_cell}
 use Rattle.life_quad.specs.Cells.{population}

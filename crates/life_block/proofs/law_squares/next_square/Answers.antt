@@ -1,4 +1,4 @@
-use Rattle.std.proofs.Common.{◌≡◌, ◌+◌, ◌-◌, ◌^◌, sym, ◌∙◌, ap, subst, arith}
+use Rattle.std.proofs.Common.{◌≡◌, ◌+◌, ◌-◌, ◌^◌, sym, ◌∙◌, ap, arith}
 use Rattle.life_base.specs.Tree.{depth, tree_cell}
 use Rattle.life_block.specs.Laws.{IsNextAt}
 use Rattle.life_block.specs.Pieces.{ahead}

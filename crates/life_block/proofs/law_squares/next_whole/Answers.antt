@@ -1,4 +1,4 @@
-use Rattle.std.proofs.Common.{◌≡◌, sym, ◌∙◌, arith}
+use Rattle.std.proofs.Common.{sym, ◌∙◌, arith}
 use Rattle.life_base.specs.Tree.{tree_cell}
 use Rattle.life_block.proofs.LawPieceLemmas.{both-some, plane-next, RemembersBy-none}
 use Rattle.life_block.proofs.RootLemmas.{IsDivided, around-in_middle, corner, quarters-at}
