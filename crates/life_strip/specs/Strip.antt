@@ -63,6 +63,17 @@ quad_at content level upper lower column =
     quad (square_at content level upper (2 * column)) (square_at content level upper (2 * column + 1))
     (square_at content level lower (2 * column)) (square_at content level lower (2 * column + 1))
 
+-- the strip has one span at most, and that is in the two columns of this column of the next level
+pub record IsOnly (spans : List Span) (column : ℕ) : Type 0 where
+  pub few : length spans ≤ 1
+  pub there : All (λ s. (2 * column ≤ s.start) × (s.end ≤ 2 * column + 2)) spans
+
+-- this column of the next level has all squares of two strips, which aren't both blank
+pub record IsOnlyColumn (upper lower : List Span) (column : ℕ) : Type 0 where
+  pub above : IsOnly upper column
+  pub below : IsOnly lower column
+  pub within : (side : ℕ) → AreBefore side upper → AreBefore side lower → 2 * column < side
+
 -- each column of a strip of the next level has the four squares of the two strips
 abbrev pub IsPaired : (Id → Tree) → (Id → Tree) → ℕ → List Span → List Span → List Span → Type 0
 IsPaired old new level upper lower spans = (column : ℕ) → square_at new (suc level) spans column ≡ quad_at old level upper lower column

@@ -13,7 +13,7 @@ pub use Rattle.life_strip.specs.Needed.{SomeColumn, SomeSquare}
 pub use Rattle.life_strip.specs.Picture.{AreFalling, AreStacked, height, IsLowest, IsNotLast, IsRow, IsSound, IsStack, picture}
 pub use Rattle.life_strip.specs.Pile.{IsClosed, IsPile, SomeOfPile, strips_of}
 pub use Rattle.life_strip.specs.Plane.{AddsRun, BeginsRow, cell_so_far, IsFilled, IsFree, IsUnfilled, state_so_far}
-pub use Rattle.life_strip.specs.Strip.{AreBefore, AreWithin, EndsAfter, FilledTo, goes_to, HaveColumns, IsAt, IsExtended, IsFound, IsNearer, IsPaired}
-pub use Rattle.life_strip.specs.Strip.{ArePieces, IsPast, IsStrip, IsWalk, quad_at, Rise, square_at, square_in, with_squares}
+pub use Rattle.life_strip.specs.Strip.{AreBefore, AreWithin, EndsAfter, FilledTo, goes_to, HaveColumns, id_at, id_or, IsAt, IsExtended, IsFound, IsNearer}
+pub use Rattle.life_strip.specs.Strip.{ArePieces, IsOnly, IsOnlyColumn, IsPaired, IsPast, IsStrip, IsWalk, quad_at, Rise, square_at, square_in, with_squares}
 pub use Rattle.life_strip.specs.declared.spans.Span.{Span as SpanValue}
 pub use Rattle.std.specs.Borrow.{ftrue}

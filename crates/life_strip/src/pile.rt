@@ -154,6 +154,10 @@ impl Pile {
             (λ P. SomeSquare P (height (strips_of self.old) + 1 + blank_rows)
             (picture (S.content squares.old) (strips_of self.old ++ row ∷ []))) }
     {
+        // The first row of the plane is begun without cells: it is skipped with those below it, in the fewest strips.
+        if row.spans.is_empty() {
+            return self.skip_rows(squares, blank_rows + 1);
+        }
         self.push_row(squares, row)?;
         self.skip_rows(squares, blank_rows)
     }

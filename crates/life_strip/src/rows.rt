@@ -3,6 +3,7 @@ ghost use Rattle.std.specs.Prelude.{◌≡◌, ℕ, suc, ◌+◌, ◌-◌, ◌^�
 ghost use Rattle.life_strip.specs.Words.{depth, state_at, Grows, quad_at, picture, height, AreFalling, AreStacked, IsLowest, IsNotLast, IsRow, IsSound, IsStack, SomeColumn, SomeSquare};
 
 use crate::bands::band_spans;
+use crate::single::{only_column, pair_only};
 use crate::spans::{Strip, find, pair};
 use crate::spare::Spare;
 use life_base::{Kind, MAX_LEVEL};
@@ -12,30 +13,40 @@ use life_quad::{Id, Squares};
 fn merge<S: Squares>(
     squares: &mut S,
     spare: &mut Spare,
-    upper: &Strip,
-    lower: &Strip,
+    upper: Strip,
+    lower: Strip,
 ) -> Result<Strip, Kind>
-    requires low { upper.now.level < MAX_LEVEL }
-    requires one_level { lower.now.level ≡ upper.now.level }
-    requires upper { IsSound (S.knows squares.old) (S.content squares.old) upper.now }
-    requires lower { IsSound (S.knows squares.old) (S.content squares.old) lower.now }
+    requires low { upper.level < MAX_LEVEL }
+    requires one_level { lower.level ≡ upper.level }
+    requires upper { IsSound (S.knows squares.old) (S.content squares.old) upper }
+    requires lower { IsSound (S.knows squares.old) (S.content squares.old) lower }
     ensures sound { IfOk result (λ r. IsSound (S.knows squares.new) (S.content squares.new) r) }
-    ensures level { IfOk result (λ r. r.level ≡ suc upper.now.level) }
+    ensures level { IfOk result (λ r. r.level ≡ suc upper.level) }
     ensures stack { IfOk result
-        (λ r. IsStack (S.content squares.old) (S.content squares.new) upper.now lower.now r) }
+        (λ r. IsStack (S.content squares.old) (S.content squares.new) upper lower r) }
     ensures grows { Grows S.Squares squares.old squares.new result
-        (λ P. SomeColumn P (upper.now.level + 1) (quad_at (S.content squares.old)
-        upper.now.level upper.now.spans.items lower.now.spans.items)) }
+        (λ P. SomeColumn P (upper.level + 1) (quad_at (S.content squares.old)
+        upper.level upper.spans.items lower.spans.items)) }
 {
+    let level = upper.level;
+    if let Some(column) = only_column(upper.spans.as_slice(), lower.spans.as_slice()) {
+        let spans = pair_only(squares, level, column, upper.spans, lower.spans)?;
+        return Ok(Strip {
+            level: level + 1,
+            spans,
+        });
+    }
     let spans = pair(
         squares,
         spare,
-        upper.level,
+        level,
         upper.spans.as_slice(),
         lower.spans.as_slice(),
     )?;
+    spare.give(upper.spans);
+    spare.give(lower.spans);
     Ok(Strip {
-        level: upper.level + 1,
+        level: level + 1,
         spans,
     })
 }
@@ -80,10 +91,7 @@ pub(crate) fn push_strip<S: Squares>(
 {
     let mut lowest = strip;
     while let Some(last) = take_last(strips, lowest.level) {
-        let merged = merge(squares, spare, &last, &lowest)?;
-        spare.give(last.spans);
-        spare.give(lowest.spans);
-        lowest = merged;
+        lowest = merge(squares, spare, last, lowest)?;
     }
     strips.push(lowest)?;
     Ok(())

@@ -98,10 +98,10 @@ loop-last-preserved g c =
     let first = c.take_last.new.strips.items in
     let last = c.in-Some.last in
     let lowest = c.loop-last.lowest in
-    let both = c.in_ok-merged.merged in
+    let both = c.in_ok-lowest.lowest in
     let items = c.in-Some.ensures.0 in
     let same = c.in-Some.ensures.1 in
-    let r = c.in_ok-merged.ensures in
+    let r = c.in_ok-lowest.ensures in
     let fall = subst AreFalling items inv.strips.falling in
     let h = merged-height xs first last lowest items same both r.level in
     let cells = merged-cells xs first last lowest items same both r.level r.grows.keeps inv.strips.sound r.stack in
@@ -121,8 +121,8 @@ loop-last-preserved g c =
           (omega (arith, inv.rows, c.requires.room)) Q n));
     }
 
-pub returns-in_err-merged-clause-grows : goal.returns-in_err-merged-clause-grows
-returns-in_err-merged-clause-grows g c =
+pub returns-in_err-lowest-clause-grows : goal.returns-in_err-lowest-clause-grows
+returns-in_err-lowest-clause-grows g c =
     let K = g.S.Squares.knows in
     let C = g.S.Squares.content in
     let now = c.loop-last.squares in
@@ -131,7 +131,7 @@ returns-in_err-merged-clause-grows g c =
     let strip = c.args.strip in
     let taken = c.in-Some.ensures in
     let M = λ (P : Tree → Type 0). SomeSquare P (height xs + 2 ^ strip.level) (picture (C c.args.squares.now) (xs ++ strip ∷ [])) in
-    grows-err M (grows-behind M inv.keeps inv.adds c.in_err-merged.ensures.grows
+    grows-err M (grows-behind M inv.keeps inv.adds c.in_err-lowest.ensures.grows
     (λ Q n. SomeSquare-same (omega (arith, inv.rows)) inv.cells
     (merged-needs c.loop-last.strips.items c.take_last.new.strips.items c.in-Some.last c.loop-last.lowest taken.0 taken.1 (K now) (C now)
     (g.met.S.Squares.full now) inv.strips inv.strip (omega (arith, inv.rows, c.requires.room)) Q n)))

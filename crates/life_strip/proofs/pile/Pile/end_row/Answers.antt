@@ -1,14 +1,38 @@
-use Rattle.std.proofs.Common.{◌∙◌, arith, refl}
-use Rattle.life_quad.proofs.GrowsLemmas.{grows-then, grows-err}
+use Rattle.std.proofs.Common.{◌≡◌, ◌∙◌, List, [], ◌∷◌, arith, length, refl, sym}
+use Rattle.life_quad.proofs.GrowsLemmas.{grows-as, grows-then, grows-err}
+use Rattle.life_strip.specs.Pile.{strips_of}
+use Rattle.life_strip.specs.declared.spans.Span.{Span}
 use Rattle.life_strip.proofs.NeededLemmas.{SomeSquare-same}
-use Rattle.life_strip.proofs.PictureLemmas.{on_ok_map}
+use Rattle.life_strip.proofs.PictureLemmas.{on_ok_map, picture-blank}
+use Rattle.life_strip.proofs.pile.Pile.end_row.Given.{Over}
 use Rattle.life_strip.proofs.pile.Pile.end_row.Goals as goal
+use Rattle.life_strip.proofs.pile.Pile.end_row.Goals.{After-drop-row}
+
+no_spans : (xs : List Span) → length xs ≡ 0 → xs ≡ []
+no_spans [] e = refl
+no_spans (x ∷ xs) e = absurd (omega (arith, e))
+
+-- the row has no cells
+blank : (g : Over) (c : After-drop-row g) → c.args.row.spans.items ≡ []
+blank g c = no_spans c.args.row.spans.items (grind (arith, c.is_empty.ensures, c.if-is_empty.true))
+
+pub returns-then-is_empty-clause-picture : goal.returns-then-is_empty-clause-picture
+returns-then-is_empty-clause-picture g c =
+    on_ok_map c.skip_rows.result
+    (λ e i j. e i j ∙ sym (picture-blank (g.S.Squares.content c.args.squares.now) (strips_of c.args.self.now) c.args.row (blank g c) i j))
+    c.skip_rows.ensures.picture
+
+pub returns-then-is_empty-clause-grows : goal.returns-then-is_empty-clause-grows
+returns-then-is_empty-clause-grows g c =
+    grows-as _ c.skip_rows.ensures.grows (λ P n.
+    SomeSquare-same (omega arith) (λ i j.
+    sym (picture-blank (g.S.Squares.content c.args.squares.now) (strips_of c.args.self.now) c.args.row (blank g c) i j)) n)
 
 pub returns-clause-height : goal.returns-clause-height
-returns-clause-height g c = on_ok_map c.skip_rows.result (λ e. e ∙ (omega (arith, c.in_ok-push_row.ensures.height))) c.skip_rows.ensures.height
+returns-clause-height g c = on_ok_map c.skip_rows-2.result (λ e. e ∙ (omega (arith, c.in_ok-push_row.ensures.height))) c.skip_rows-2.ensures.height
 
 pub returns-clause-picture : goal.returns-clause-picture
-returns-clause-picture g c = on_ok_map c.skip_rows.result (λ e i j. e i j ∙ c.in_ok-push_row.ensures.picture i j) c.skip_rows.ensures.picture
+returns-clause-picture g c = on_ok_map c.skip_rows-2.result (λ e i j. e i j ∙ c.in_ok-push_row.ensures.picture i j) c.skip_rows-2.ensures.picture
 
 pub returns-in_err-push_row-clause-grows : goal.returns-in_err-push_row-clause-grows
 returns-in_err-push_row-clause-grows g c =
@@ -17,5 +41,5 @@ returns-in_err-push_row-clause-grows g c =
 pub returns-clause-grows : goal.returns-clause-grows
 returns-clause-grows g c =
     let row = c.in_ok-push_row.ensures in
-    grows-then _ row.grows c.skip_rows.ensures.grows (λ P n. SomeSquare-same (omega arith) (λ i j. refl) n)
+    grows-then _ row.grows c.skip_rows-2.ensures.grows (λ P n. SomeSquare-same (omega arith) (λ i j. refl) n)
     (λ P n. SomeSquare-same (omega (arith, row.height)) (λ i j. row.picture i j) n)
