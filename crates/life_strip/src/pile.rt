@@ -2,7 +2,7 @@
 ghost use Rattle.std.specs.Prelude.{◌≡◌, ℕ, ◌+◌, ◌^◌, ◌<◌, ◌≤◌, ◌++◌, ◌∷◌, [], All, length, IfOk, OnOk};
 ghost use Rattle.life_strip.specs.Words.{depth, state_at, Grows, picture, height, AreStacked, IsLowest, IsRow, SomeSquare, IsPile, IsClosed, SomeOfPile, strips_of};
 
-use crate::rows::{band_strip, blank_level, push_strip, whole};
+use crate::rows::{band_strip, blank_level, push_and_raise, push_strip, take_last, whole};
 use crate::spans::Strip;
 use crate::spare::Spare;
 use life_base::{Kind, MAX_LEVEL};
@@ -123,6 +123,12 @@ impl Pile {
                 continue;
             }
             let level = blank_level(self.strips.as_slice(), rest);
+            if let Some(last) = take_last(&mut self.strips, level) {
+                let spare = &mut self.spare;
+                let strips = &mut self.strips;
+                rest -= push_and_raise(squares, spare, self.alloc, strips, last, rest)?;
+                continue;
+            }
             let strip = Strip {
                 level,
                 spans: Vec::new(self.alloc),

@@ -8,8 +8,43 @@ use crate::spans::{Strip, find, pair};
 use crate::spare::Spare;
 use life_base::{Kind, MAX_LEVEL};
 use life_quad::{Id, Squares};
+use std::alloc::Global;
+
+// The strip of the next level with the upper strip above the lower, where they may have many squares. It is never inlined, so that `merge` can be.
+#[inline(never)]
+fn merge_long<S: Squares>(
+    squares: &mut S,
+    spare: &mut Spare,
+    upper: Strip,
+    lower: Strip,
+) -> Result<Strip, Kind>
+    requires low { upper.level < MAX_LEVEL }
+    requires one_level { lower.level ≡ upper.level }
+    requires upper { IsSound (S.knows squares.old) (S.content squares.old) upper }
+    requires lower { IsSound (S.knows squares.old) (S.content squares.old) lower }
+    ensures sound { IfOk result (λ r. IsSound (S.knows squares.new) (S.content squares.new) r) }
+    ensures level { IfOk result (λ r. r.level ≡ suc upper.level) }
+    ensures stack { IfOk result
+        (λ r. IsStack (S.content squares.old) (S.content squares.new) upper lower r) }
+    ensures grows { Grows S.Squares squares.old squares.new result
+        (λ P. SomeColumn P (upper.level + 1) (quad_at (S.content squares.old)
+        upper.level upper.spans.items lower.spans.items)) }
+{
+    let spans = pair(
+        squares,
+        spare,
+        upper.level,
+        upper.spans.as_slice(),
+        lower.spans.as_slice(),
+    )?;
+    let level = upper.level + 1;
+    spare.give(upper.spans);
+    spare.give(lower.spans);
+    Ok(Strip { level, spans })
+}
 
 // The strip of the next level with the upper strip above the lower.
+#[inline(always)]
 fn merge<S: Squares>(
     squares: &mut S,
     spare: &mut Spare,
@@ -29,22 +64,10 @@ fn merge<S: Squares>(
         upper.level upper.spans.items lower.spans.items)) }
 {
     let level = upper.level;
-    if let Some(column) = only_column(upper.spans.as_slice(), lower.spans.as_slice()) {
-        let spans = pair_only(squares, level, column, upper.spans, lower.spans)?;
-        return Ok(Strip {
-            level: level + 1,
-            spans,
-        });
-    }
-    let spans = pair(
-        squares,
-        spare,
-        level,
-        upper.spans.as_slice(),
-        lower.spans.as_slice(),
-    )?;
-    spare.give(upper.spans);
-    spare.give(lower.spans);
+    let Some(column) = only_column(upper.spans.as_slice(), lower.spans.as_slice()) else {
+        return merge_long(squares, spare, upper, lower);
+    };
+    let spans = pair_only(squares, level, column, upper.spans, lower.spans)?;
     Ok(Strip {
         level: level + 1,
         spans,
@@ -53,7 +76,7 @@ fn merge<S: Squares>(
 
 // Takes the last strip, if it has the level.
 #[inline(always)]
-fn take_last(strips: &mut Vec<Strip>, level: u8) -> Option<Strip>
+pub(crate) fn take_last(strips: &mut Vec<Strip>, level: u8) -> Option<Strip>
     ensures { MatchOption result
         ((strips.new.items ≡ strips.old.items) × IsNotLast level strips.old.items)
         (λ last. (strips.old.items ≡ strips.new.items ++ last ∷ []) × (last.level ≡ level)) }
@@ -95,6 +118,71 @@ pub(crate) fn push_strip<S: Squares>(
     }
     strips.push(lowest)?;
     Ok(())
+}
+
+// The strip with blank rows below it that fill it up to a level.
+fn raise<S: Squares>(
+    squares: &mut S,
+    spare: &mut Spare,
+    alloc: Global,
+    strip: Strip,
+    top: u8,
+) -> Result<Strip, Kind>
+    requires low { strip.level ≤ top }
+    requires high { top ≤ MAX_LEVEL }
+    requires strip { IsSound (S.knows squares.old) (S.content squares.old) strip }
+    ensures sound { IfOk result (λ r. IsSound (S.knows squares.new) (S.content squares.new) r) }
+    ensures level { IfOk result (λ r. r.level ≡ top) }
+    ensures picture { IfOk result (λ r. (column row : ℕ)
+        → picture (S.content squares.new) (r ∷ []) column row
+        ≡ picture (S.content squares.old) (strip ∷ []) column row) }
+    ensures grows { Grows S.Squares squares.old squares.new result
+        (λ P. SomeSquare P (2 ^ top) (picture (S.content squares.old) (strip ∷ []))) }
+{
+    let mut raised = strip;
+    while raised.level < top {
+        let blank = Strip {
+            level: raised.level,
+            spans: Vec::new(alloc),
+        };
+        raised = merge(squares, spare, raised, blank)?;
+    }
+    Ok(raised)
+}
+
+// One strip more, below the others, and below it as many blank rows as let it grow at once. Returns how many these are.
+pub(crate) fn push_and_raise<S: Squares>(
+    squares: &mut S,
+    spare: &mut Spare,
+    alloc: Global,
+    strips: &mut Vec<Strip>,
+    strip: Strip,
+    rows: u64,
+) -> Result<u64, Kind>
+    requires strips { AreStacked (S.knows squares.old) (S.content squares.old) strips.old.items }
+    requires strip { IsSound (S.knows squares.old) (S.content squares.old) strip }
+    requires lowest { IsLowest (suc strip.level) strips.old.items }
+    requires high { strip.level ≤ MAX_LEVEL }
+    requires fits { 2 ^ strip.level ≤ rows }
+    requires room { height strips.old.items + 2 ^ strip.level + rows ≤ 2 ^ MAX_LEVEL }
+    ensures strips { OnOk result
+        (AreStacked (S.knows squares.new) (S.content squares.new) strips.new.items) }
+    ensures count { IfOk result (λ r. (top : ℕ) × (strip.level < top)
+        × (r + 2 ^ strip.level ≡ 2 ^ top) × (r ≤ rows)) }
+    ensures height { IfOk result
+        (λ r. height strips.new.items ≡ height strips.old.items + 2 ^ strip.level + r) }
+    ensures picture { OnOk result ((column row : ℕ)
+        → picture (S.content squares.new) strips.new.items column row
+        ≡ picture (S.content squares.old) (strips.old.items ++ strip ∷ []) column row) }
+    ensures grows { Grows S.Squares squares.old squares.new result
+        (λ P. SomeSquare P (height strips.old.items + 2 ^ strip.level + rows)
+        (picture (S.content squares.old) (strips.old.items ++ strip ∷ []))) }
+{
+    let side = 1 << strip.level;
+    let top = blank_level(strips.as_slice(), rows + side);
+    let raised = raise(squares, spare, alloc, strip, top)?;
+    push_strip(squares, spare, strips, raised)?;
+    Ok((1 << top) - side)
 }
 
 // The largest level of a blank strip that fits below the others and into this many rows.

@@ -1,56 +1,15 @@
-use Rattle.std.proofs.Common.{ℕ, suc, List, ◌<◌, ◌≤◌, ◌≡◌, ◌+◌, ◌*◌, ◌^◌, ◌++◌, ◌∷◌, [], All, length, length-append, arith, rules, refl, sym, ◌∙◌, ap, subst}
+use Rattle.std.proofs.Common.{List, ◌≡◌, ◌+◌, ◌^◌, ◌++◌, ◌∷◌, [], All, length, length-append, arith, rules, refl, sym, ◌∙◌, ap, subst}
 use Rattle.std.proofs.lemmas.List.Elements.{All-push}
-use Rattle.life_base.specs.declared.cell.TheConstants.{MAX_LEVEL}
-use Rattle.life_base.specs.Tree.{Tree, IsFull}
-use Rattle.life_quad.specs.declared.id.Id.{Id}
-use Rattle.life_quad.specs.Keeping.{KeepsSquares}
+use Rattle.life_base.specs.Tree.{Tree}
 use Rattle.life_quad.proofs.KeepingLemmas.{keeps-then, keeps-same, adds-none, adds-then}
 use Rattle.life_quad.proofs.GrowsLemmas.{grows-behind, grows-err, grows-still}
 use Rattle.life_strip.specs.declared.spans.Strip.{Strip}
-use Rattle.life_strip.specs.Strip.{IsStrip, quad_at}
-use Rattle.life_strip.specs.Picture.{picture, height, AreFalling, AreStacked, IsSound, IsStack}
-use Rattle.life_strip.specs.Needed.{SomeColumn, SomeSquare}
-use Rattle.life_strip.proofs.SpanLemmas.{double}
-use Rattle.life_strip.proofs.NeededLemmas.{SomeSquare-same, SomeSquare-pair}
-use Rattle.life_strip.proofs.PictureLemmas.{fits_below, all_init, all_last, strips-kept, picture-merge, height-push, falling-init, lowest-init, falling-below}
+use Rattle.life_strip.specs.Picture.{picture, height, AreFalling, IsSound}
+use Rattle.life_strip.specs.Needed.{SomeSquare}
+use Rattle.life_strip.proofs.NeededLemmas.{SomeSquare-same}
+use Rattle.life_strip.proofs.PictureLemmas.{all_init, all_last, strips-kept, height-push, falling-init, lowest-init, falling-below}
+use Rattle.life_strip.proofs.MergeLemmas.{not-greatest, merged-needs, merged-height, merged-cells}
 use Rattle.life_strip.proofs.rows.push_strip.Goals as goal
-
--- strips of which the last was made one with a strip below it, of the same level
-module _ (xs first : List Strip) (last strip : Strip) (items : xs ≡ first ++ last ∷ []) (same : last.level ≡ strip.level) where
-  not-greatest : height xs + 2 ^ strip.level ≤ 2 ^ MAX_LEVEL → last.level < MAX_LEVEL
-  not-greatest room =
-      let h : height xs ≡ height first + 2 ^ last.level = ap height items ∙ height-push first last in
-      let w : 2 ^ last.level ≡ 2 ^ strip.level = ap (λ n. 2 ^ n) same in
-      fits_below (height first) last.level (omega (arith, h, w, room))
-
-  -- a square that the call to make them one needs is one of theirs
-  merged-needs : (knows : Id → Type 0) (content : Id → Tree) → ((id : Id) → knows id → IsFull (content id)) → AreStacked knows content xs
-      → IsSound knows content strip → height xs + 2 ^ strip.level ≤ 2 ^ MAX_LEVEL → (P : Tree → Type 0)
-      → SomeColumn P (last.level + 1) (quad_at content last.level last.spans.items strip.spans.items)
-      → SomeSquare P (height xs + 2 ^ strip.level) (picture content (xs ++ strip ∷ []))
-  merged-needs knows content full stacked sound room P n =
-      let upper = all_last (IsSound knows content) first last (subst (All (IsSound knows content)) items stacked.sound) in
-      let lower : IsStrip knows content last.level strip.spans.items = subst (λ n. IsStrip knows content n strip.spans.items) (sym same) sound.squares in
-      subst (λ z. SomeSquare P (height z + 2 ^ strip.level) (picture content (z ++ strip ∷ []))) (sym items)
-      (SomeSquare-pair knows content last strip upper.squares (sym same) n.0 P first full lower (subst AreFalling items stacked.falling) (not-greatest room)
-      n.1 n.2)
-
-  module _ (both : Strip) (level : both.level ≡ suc last.level) where
-    merged-height : height first + 2 ^ both.level ≡ height xs + 2 ^ strip.level
-    merged-height =
-        let h : height xs ≡ height first + 2 ^ last.level = ap height items ∙ height-push first last in
-        let w : 2 ^ last.level ≡ 2 ^ strip.level = ap (λ n. 2 ^ n) same in
-        let v : 2 ^ both.level ≡ 2 * 2 ^ last.level = ap (λ n. 2 ^ n) level ∙ double last.level in
-        omega (arith, h, w, v)
-
-    merged-cells : {S : Type 0} {knows : S → Id → Type 0} {content : S → Id → Tree} {stored : S → List Tree} {most : S → ℕ} {old new : S}
-        → KeepsSquares knows content stored most old new → All (IsSound (knows old) (content old)) xs → IsStack (content old) (content new) last strip both
-        → (i j : ℕ) → picture (content new) (first ++ both ∷ []) i j ≡ picture (content old) (xs ++ strip ∷ []) i j
-    merged-cells {knows = knows} {content = content} {old = old} {new = new} keeps sound stack i j =
-        let P = IsSound (knows old) (content old) in
-        picture-merge {knows = knows old} {knows' = knows new} {old = content old} {new = content new} keeps.contents first last strip both
-        (all_init P first last (subst (All P) items sound)) (sym same) level stack i j
-        ∙ ap (λ z. picture (content old) (z ++ strip ∷ []) i j) (sym items)
 
 pub loop-last-init : goal.loop-last-init
 loop-last-init g c =

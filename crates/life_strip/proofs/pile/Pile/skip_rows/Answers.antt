@@ -1,14 +1,16 @@
-use Rattle.std.proofs.Common.{◌≡◌, ℕ, ◌+◌, ◌-◌, ◌^◌, ◌≤◌, ◌++◌, ◌∷◌, [], List, refl, sym, ◌∙◌, ap, subst, arith}
+use Rattle.std.proofs.Common.{◌≡◌, ℕ, suc, ◌+◌, ◌-◌, ◌*◌, ◌^◌, ◌<◌, ◌≤◌, ◌++◌, ◌∷◌, [], List, All, refl, sym, ◌∙◌, ap, subst, arith}
+use Rattle.std.proofs.Math.Pow.{pow_mono}
 use Rattle.life_base.specs.Tree.{Tree}
 use Rattle.life_quad.specs.declared.id.Id.{Id}
 use Rattle.life_quad.proofs.KeepingLemmas.{keeps-then, keeps-same, adds-none, adds-then}
 use Rattle.life_quad.proofs.GrowsLemmas.{grows-behind, grows-err, grows-still}
 use Rattle.life_strip.specs.declared.spans.Strip.{Strip}
 use Rattle.life_strip.specs.Pile.{strips_of}
-use Rattle.life_strip.specs.Picture.{picture, height, IsLowest}
+use Rattle.life_strip.specs.Picture.{picture, height, AreFalling, IsLowest, IsSound}
 use Rattle.life_strip.specs.Needed.{SomeSquare}
 use Rattle.life_strip.proofs.NeededLemmas.{SomeSquare-same}
-use Rattle.life_strip.proofs.PictureLemmas.{picture-blank}
+use Rattle.life_strip.proofs.SpanLemmas.{double}
+use Rattle.life_strip.proofs.PictureLemmas.{all_init, all_last, falling-init, height-push, lowest-init, picture-blank, positive_power}
 use Rattle.life_strip.proofs.BandPictures.{no-rows, none_of, four-divides, lowest-more, pile-alone}
 use Rattle.life_strip.proofs.pile.Pile.skip_rows.Goals as goal
 
@@ -36,6 +38,11 @@ of-all now old xs all s rows most blank le same P n = SomeSquare-same le (λ i j
 alone : (now old : Id → Tree) (xs ys all : List Strip) → ys ≡ [] → ((i j : ℕ) → picture now (xs ++ ys) i j ≡ picture old all i j)
     → (i j : ℕ) → picture now xs i j ≡ picture old all i j
 alone now old xs ys all none same i j = sym (ap (λ z. picture now z i j) (no-rows xs ys none)) ∙ same i j
+
+-- the same strips by another name
+same-cells : (now old : Id → Tree) (ws xs all : List Strip) → ws ≡ xs → ((i j : ℕ) → picture now xs i j ≡ picture old all i j) → (i j : ℕ)
+    → picture now ws i j ≡ picture old all i j
+same-cells now old ws xs all e same i j = ap (λ z. picture now z i j) e ∙ same i j
 
 pub loop-rest-init : goal.loop-rest-init
 loop-rest-init g c =
@@ -80,14 +87,18 @@ returns-in_err-push_strip-clause-grows g c =
     let inv = c.loop-rest.invariant in
     let all = strips_of c.args.self.now in
     let xs = c.loop-rest.self.strips.items in
+    let kept = c.in_default.ensures.0 in
     let ys = c.loop-rest.self.band.items in
     let empty = none_of ys (grind (arith, c.is_empty.ensures, c.if-not-is_empty.false)) in
     let h = ap height (no-rows xs ys empty) in
     let M = λ (P : Tree → Type 0). SomeSquare P (height all + c.args.count) (picture (C c.args.squares.now) all) in
+    let low = ap height kept in
     grows-err M (grows-behind M inv.keeps inv.adds c.in_err-push_strip.ensures.grows
-    (of-all (C c.loop-rest.squares) (C c.args.squares.now) xs all (record { level = c.blank_level-level.result; spans = c.new-in-loop-rest.result }) _
-    (height all + c.args.count) c.new-in-loop-rest.ensures.items (omega (arith, h, inv.rows, c.blank_level-level.ensures.fits))
-    (alone (C c.loop-rest.squares) (C c.args.squares.now) xs ys all empty inv.cells)))
+    (of-all (C c.loop-rest.squares) (C c.args.squares.now) c.take_last.new.strips.items all
+    (record { level = c.blank_level-level.result; spans = c.new-in-loop-rest.result }) _
+    (height all + c.args.count) c.new-in-loop-rest.ensures.items (omega (arith, h, low, inv.rows, c.blank_level-level.ensures.fits))
+    (same-cells (C c.loop-rest.squares) (C c.args.squares.now) _ xs all kept
+    (alone (C c.loop-rest.squares) (C c.args.squares.now) xs ys all empty inv.cells))))
     c.from_residual-in_err-push_strip.ensures.1 (λ P n. n)
 
 pub loop-rest-preserved : goal.loop-rest-preserved
@@ -102,6 +113,8 @@ loop-rest-preserved g c =
     let xs = pile.strips.items in
     let ys = pile.band.items in
     let zs = c.push_strip.new.strips.items in
+    let kept = c.in_default.ensures.0 in
+    let low = ap height kept in
     let empty = none_of ys (grind (arith, c.is_empty.ensures, c.if-not-is_empty.false)) in
     let level = c.blank_level-level.result in
     let s : Strip = record { level = level; spans = c.new-in-loop-rest.result } in
@@ -110,14 +123,122 @@ loop-rest-preserved g c =
     (omega (arith, c.if-rest-lt4.false)) in
     let r = c.in_ok-push_strip.ensures in
     let e = ap height (no-rows xs ys empty) in
-    let h = skipped-height xs ys zs (2 ^ level) empty r.height in
+    let taller : height zs ≡ height xs + 2 ^ level = omega (arith, r.height, low) in
+    let h = skipped-height xs ys zs (2 ^ level) empty taller in
     record {
       pile = pile-alone (K new) (C new) (record pile { spare = c.push_strip.new.spare; strips = c.push_strip.new.strips }) empty r.strips
-          (lowest-more xs zs (2 ^ level) (2 ^ (level - 2)) inv.pile.lowest r.strips.falling r.height (four-divides level deep));
+          (lowest-more xs zs (2 ^ level) (2 ^ (level - 2)) inv.pile.lowest r.strips.falling taller (four-divides level deep));
       rows = omega (arith, h, inv.rows, c.blank_level-level.ensures.fits);
-      cells = λ i j. skipped (C now) (C new) xs ys zs s empty blank r.picture i j ∙ inv.cells i j;
+      cells = λ i j. skipped (C now) (C new) xs ys zs s empty blank
+          (λ a b. r.picture a b ∙ ap (λ (z : List Strip). picture (C now) (z ++ s ∷ []) a b) kept) i j ∙ inv.cells i j;
       keeps = keeps-then inv.keeps r.grows.keeps;
       adds = adds-then _ inv.adds r.grows.adds (λ P n. n)
-          (of-all (C now) (C c.args.squares.now) xs all s _ (height all + c.args.count) blank
-          (omega (arith, e, inv.rows, c.blank_level-level.ensures.fits)) (alone (C now) (C c.args.squares.now) xs ys all empty inv.cells));
+          (of-all (C now) (C c.args.squares.now) c.take_last.new.strips.items all s _ (height all + c.args.count) blank
+          (omega (arith, e, low, inv.rows, c.blank_level-level.ensures.fits))
+          (same-cells (C now) (C c.args.squares.now) _ xs all kept (alone (C now) (C c.args.squares.now) xs ys all empty inv.cells)));
+    }
+
+-- ---- the last strip, which is taken and put back with blank rows below it
+
+-- where strips of level 2 or more grew by so many rows
+grown-by-fours : (level top n : ℕ) → 2 ≤ level → level < top → n + 2 ^ level ≡ 2 ^ top → n ≡ (2 ^ (top - 2) - 2 ^ (level - 2)) * 4
+grown-by-fours level top n deep higher e =
+    let low = four-divides level deep in
+    let high = four-divides top (omega (arith, deep, higher)) in
+    omega (arith, low, high, e)
+
+some-rows : (level top n : ℕ) → level < top → n + 2 ^ level ≡ 2 ^ top → 0 < n
+some-rows level top n higher e =
+    let more = pow_mono {i = suc level} {j = top} (omega (arith, higher)) in
+    let two = double level in
+    let some = positive_power level in
+    omega (arith, more, two, some, e)
+
+pub push_and_raise-requires : goal.push_and_raise-requires
+push_and_raise-requires g c =
+    let now = c.loop-rest.squares in
+    let P = IsSound (g.S.Squares.knows now) (g.S.Squares.content now) in
+    let inv = c.loop-rest.invariant in
+    let xs = c.loop-rest.self.strips.items in
+    let ys = c.loop-rest.self.band.items in
+    let first = c.take_last.new.strips.items in
+    let last = c.in-Some.last in
+    let items = c.in-Some.ensures.0 in
+    let same = c.in-Some.ensures.1 in
+    let empty = none_of ys (grind (arith, c.is_empty.ensures, c.if-not-is_empty.false)) in
+    let fall = subst AreFalling items inv.pile.strips.falling in
+    let e = ap height (no-rows xs ys empty) in
+    let h : height xs ≡ height first + 2 ^ last.level = ap height items ∙ height-push first last in
+    let side : 2 ^ last.level ≡ 2 ^ c.blank_level-level.result = ap (λ n. 2 ^ n) same in
+    record {
+      strips = record { sound = all_init P first last (subst (All P) items inv.pile.strips.sound); falling = falling-init first last fall };
+      strip = all_last P first last (subst (All P) items inv.pile.strips.sound);
+      lowest = lowest-init first last fall (suc last.level) refl;
+      high = omega (arith, same, c.blank_level-level.ensures.most);
+      fits = omega (arith, side, c.blank_level-level.ensures.fits);
+      room = omega (arith, e, h, inv.rows, c.requires.room);
+    }
+
+pub loop-rest-smaller-in-Some : goal.loop-rest-smaller-in-Some
+loop-rest-smaller-in-Some g c =
+    let n = c.in_ok-rest.ensures.count in
+    let some = some-rows c.in-Some.last.level n.0 c.in_ok-rest.field-0 n.1 n.2 in
+    omega (arith, some, n.3)
+
+pub returns-in_err-rest-clause-grows : goal.returns-in_err-rest-clause-grows
+returns-in_err-rest-clause-grows g c =
+    let C = g.S.Squares.content in
+    let inv = c.loop-rest.invariant in
+    let all = strips_of c.args.self.now in
+    let xs = c.loop-rest.self.strips.items in
+    let ys = c.loop-rest.self.band.items in
+    let first = c.take_last.new.strips.items in
+    let last = c.in-Some.last in
+    let items = c.in-Some.ensures.0 in
+    let empty = none_of ys (grind (arith, c.is_empty.ensures, c.if-not-is_empty.false)) in
+    let e = ap height (no-rows xs ys empty) in
+    let h : height xs ≡ height first + 2 ^ last.level = ap height items ∙ height-push first last in
+    let M = λ (P : Tree → Type 0). SomeSquare P (height all + c.args.count) (picture (C c.args.squares.now) all) in
+    grows-err M (grows-behind M inv.keeps inv.adds c.in_err-rest.ensures.grows
+    (λ P n. SomeSquare-same (omega (arith, e, h, inv.rows))
+    (same-cells (C c.loop-rest.squares) (C c.args.squares.now) _ xs all (sym items)
+    (alone (C c.loop-rest.squares) (C c.args.squares.now) xs ys all empty inv.cells)) n))
+    c.from_residual-in_err-rest.ensures.1 (λ P n. n)
+
+pub loop-rest-preserved-in-Some : goal.loop-rest-preserved-in-Some
+loop-rest-preserved-in-Some g c =
+    let K = g.S.Squares.knows in
+    let C = g.S.Squares.content in
+    let now = c.loop-rest.squares in
+    let new = c.push_and_raise.new.squares in
+    let inv = c.loop-rest.invariant in
+    let pile = c.loop-rest.self in
+    let all = strips_of c.args.self.now in
+    let xs = pile.strips.items in
+    let ys = pile.band.items in
+    let zs = c.push_and_raise.new.strips.items in
+    let first = c.take_last.new.strips.items in
+    let last = c.in-Some.last in
+    let items = c.in-Some.ensures.0 in
+    let empty = none_of ys (grind (arith, c.is_empty.ensures, c.if-not-is_empty.false)) in
+    let r = c.in_ok-rest.ensures in
+    let n = c.in_ok-rest.field-0 in
+    let count = r.count in
+    let deep : 2 ≤ last.level = all_last (λ (s : Strip). 2 ≤ s.level) first last (subst (IsLowest 2) items inv.pile.lowest) in
+    let e = ap height (no-rows xs ys empty) in
+    let h : height xs ≡ height first + 2 ^ last.level = ap height items ∙ height-push first last in
+    let taller : height zs ≡ height xs + n = omega (arith, r.height, h) in
+    let whole = skipped-height xs ys zs n empty taller in
+    let same = same-cells (C now) (C now) _ xs xs (sym items) (λ i j. refl) in
+    record {
+      pile = pile-alone (K new) (C new) (record pile { spare = c.push_and_raise.new.spare; strips = c.push_and_raise.new.strips }) empty r.strips
+          (lowest-more xs zs n (2 ^ (count.0 - 2) - 2 ^ (last.level - 2)) inv.pile.lowest r.strips.falling taller
+          (grown-by-fours last.level count.0 n deep count.1 count.2));
+      rows = let few = count.3 in omega (arith, whole, inv.rows, few);
+      cells = λ i j. ap (λ (z : List Strip). picture (C new) z i j) (no-rows zs ys empty) ∙ r.picture i j ∙ same i j
+          ∙ alone (C now) (C c.args.squares.now) xs ys all empty inv.cells i j;
+      keeps = keeps-then inv.keeps r.grows.keeps;
+      adds = adds-then _ inv.adds r.grows.adds (λ P m. m)
+          (λ P m. SomeSquare-same (omega (arith, e, h, inv.rows))
+          (same-cells (C now) (C c.args.squares.now) _ xs all (sym items) (alone (C now) (C c.args.squares.now) xs ys all empty inv.cells)) m);
     }
