@@ -8,8 +8,8 @@ use life_block::{next_law_generation, next_life_generation};
 use life_canon::laws::{files_are_on_plane, patterns_fit, texts_are_files, texts_tell_universes};
 use life_canon::{MOST_CELLS, Pattern, least_level, read, text_of};
 use life_quad::{Id, Shared, trim};
-use life_sweep::laws::{life_answers_at, table_answers_at};
 use life_sweep::ByTable;
+use life_sweep::laws::{life_answers_at, table_answers_at};
 use life_table::Table;
 use life_table::laws::one_answer;
 use std::alloc::Global;
@@ -151,8 +151,14 @@ pub fn next_by_table(
     one_answer();
     let mut by_table = ByTable::new(alloc, table)?;
     let stored = store.len();
-    let square =
-        next_law_generation(alloc, store, &mut by_table, pattern.root, MOST_CELLS, stored)?;
+    let square = next_law_generation(
+        alloc,
+        store,
+        &mut by_table,
+        pattern.root,
+        MOST_CELLS,
+        stored,
+    )?;
     text_of_square(alloc, store, pattern.rule, generation, square)
 }
 
