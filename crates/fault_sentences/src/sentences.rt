@@ -45,8 +45,9 @@ pub fn sentence(kind: Kind) -> &'static str
         Kind::BadLeaf => "A leaf has another byte than . * $, or more than 8 rows or columns.",
         Kind::Timeline => "The file holds several patterns, with lines #FRAME.",
         Kind::LineTooLong => "A line of the file, or of the rule table, has more than 2^20 bytes.",
-        Kind::Full =>
-            "The command needs more than 2^31 different squares, or a form has more than 2^21.",
+        Kind::Full => {
+            "The command needs more than 2^31 different squares, or a form has more than 2^21."
+        }
         Kind::Memory => "Memory was refused.",
         Kind::Spent => "A reader that has refused was used again.",
         Kind::NoRuleLine => "The table begins with no line @RULE NAME.",

@@ -384,7 +384,8 @@ module _ (t : Tree) (box : Bounds) (least : IsLeastBox t box) (high : 1 ≤ dept
       own-root tight P inner whole level piece p =
           subst (SomePart P) (root-is tight) (own-part P g j c c _ (quarter-is inner whole level piece) p)
 
-      pub inner-part : IsTight box j m → (P : Tree → Type 0) → SomePart P (square_from (tree_cell t) j box.left box.top) → SomePart P (root_from t box.left box.top m)
+      pub inner-part : IsTight box j m → (P : Tree → Type 0) → SomePart P (square_from (tree_cell t) j box.left box.top)
+          → SomePart P (root_from t box.left box.top m)
       inner-part tight P s =
           subst (SomePart P) (root-is tight) (quarter-part P g j c c (inr (inr (inr (subst (SomePart P) inner-square s)))))
 

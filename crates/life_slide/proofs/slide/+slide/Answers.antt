@@ -129,7 +129,8 @@ slid_of_seen-returns-in-Some-leaf_cells-clause-remembers g m c =
 pub slid_of_seen-returns-in-Some-leaf_cells-clause-slid : goal.slid_of_seen-returns-in-Some-leaf_cells-clause-slid
 slid_of_seen-returns-in-Some-leaf_cells-clause-slid g m c =
     IfOk-weaker c.small.result _ _
-    (λ r is cells x y h. is-piece cells c.args.level _ _ _ (is ∙ leaf-is g m (goal.at.slid_of_seen-returns-in-Some-leaf_cells-clause-slid g m c).After-small cells x y h))
+    (λ r is cells x y h. is-piece cells c.args.level _ _ _
+        (is ∙ leaf-is g m (goal.at.slid_of_seen-returns-in-Some-leaf_cells-clause-slid g m c).After-small cells x y h))
     c.small.ensures.square
 
 pub slid_of_seen-returns-in-Some-leaf_cells-clause-needed : goal.slid_of_seen-returns-in-Some-leaf_cells-clause-needed
@@ -296,7 +297,8 @@ slid_of_nine-returns-in_err-ne-clause-adds g m c =
     adds-more
     (adds-as _ c.in_ok-nw.ensures.adds
     (λ P. of_north_west P (g.S.Squares.content c.args.from.now) c.args.offset.columns c.args.offset.rows c.args.level c.western.ensures))
-    c.in_err-ne.ensures.adds (λ P. of_north_east P (g.S.Squares.content c.args.from.now) c.args.offset.columns c.args.offset.rows c.args.level c.eastern.ensures)
+    c.in_err-ne.ensures.adds (λ P. of_north_east P (g.S.Squares.content c.args.from.now) c.args.offset.columns c.args.offset.rows
+        c.args.level c.eastern.ensures)
 
 pub slid_of_nine-returns-in_err-sw-clause-adds : goal.slid_of_nine-returns-in_err-sw-clause-adds
 slid_of_nine-returns-in_err-sw-clause-adds g m c =
@@ -304,8 +306,10 @@ slid_of_nine-returns-in_err-sw-clause-adds g m c =
     (adds-more
     (adds-as _ c.in_ok-nw.ensures.adds
     (λ P. of_north_west P (g.S.Squares.content c.args.from.now) c.args.offset.columns c.args.offset.rows c.args.level c.western.ensures))
-    c.in_ok-ne.ensures.adds (λ P. of_north_east P (g.S.Squares.content c.args.from.now) c.args.offset.columns c.args.offset.rows c.args.level c.eastern.ensures))
-    c.in_err-sw.ensures.adds (λ P. of_south_west P (g.S.Squares.content c.args.from.now) c.args.offset.columns c.args.offset.rows c.args.level c.western-2.ensures)
+    c.in_ok-ne.ensures.adds (λ P. of_north_east P (g.S.Squares.content c.args.from.now) c.args.offset.columns c.args.offset.rows
+        c.args.level c.eastern.ensures))
+    c.in_err-sw.ensures.adds (λ P. of_south_west P (g.S.Squares.content c.args.from.now) c.args.offset.columns c.args.offset.rows
+        c.args.level c.western-2.ensures)
 
 pub slid_of_nine-returns-in_err-se-clause-adds : goal.slid_of_nine-returns-in_err-se-clause-adds
 slid_of_nine-returns-in_err-se-clause-adds g m c =
@@ -314,9 +318,12 @@ slid_of_nine-returns-in_err-se-clause-adds g m c =
     (adds-more
     (adds-as _ c.in_ok-nw.ensures.adds
     (λ P. of_north_west P (g.S.Squares.content c.args.from.now) c.args.offset.columns c.args.offset.rows c.args.level c.western.ensures))
-    c.in_ok-ne.ensures.adds (λ P. of_north_east P (g.S.Squares.content c.args.from.now) c.args.offset.columns c.args.offset.rows c.args.level c.eastern.ensures))
-    c.in_ok-sw.ensures.adds (λ P. of_south_west P (g.S.Squares.content c.args.from.now) c.args.offset.columns c.args.offset.rows c.args.level c.western-2.ensures))
-    c.in_err-se.ensures.adds (λ P. of_south_east P (g.S.Squares.content c.args.from.now) c.args.offset.columns c.args.offset.rows c.args.level c.eastern-2.ensures)
+    c.in_ok-ne.ensures.adds (λ P. of_north_east P (g.S.Squares.content c.args.from.now) c.args.offset.columns c.args.offset.rows
+        c.args.level c.eastern.ensures))
+    c.in_ok-sw.ensures.adds (λ P. of_south_west P (g.S.Squares.content c.args.from.now) c.args.offset.columns c.args.offset.rows
+        c.args.level c.western-2.ensures))
+    c.in_err-se.ensures.adds (λ P. of_south_east P (g.S.Squares.content c.args.from.now) c.args.offset.columns c.args.offset.rows
+        c.args.level c.eastern-2.ensures)
 
 pub slid_of_nine-returns-clause-adds : goal.slid_of_nine-returns-clause-adds
 slid_of_nine-returns-clause-adds g m c =
@@ -326,8 +333,11 @@ slid_of_nine-returns-clause-adds g m c =
     (adds-more
     (adds-as _ c.in_ok-nw.ensures.adds
     (λ P. of_north_west P (g.S.Squares.content c.args.from.now) c.args.offset.columns c.args.offset.rows c.args.level c.western.ensures))
-    c.in_ok-ne.ensures.adds (λ P. of_north_east P (g.S.Squares.content c.args.from.now) c.args.offset.columns c.args.offset.rows c.args.level c.eastern.ensures))
-    c.in_ok-sw.ensures.adds (λ P. of_south_west P (g.S.Squares.content c.args.from.now) c.args.offset.columns c.args.offset.rows c.args.level c.western-2.ensures))
-    c.in_ok-se.ensures.adds (λ P. of_south_east P (g.S.Squares.content c.args.from.now) c.args.offset.columns c.args.offset.rows c.args.level c.eastern-2.ensures))
+    c.in_ok-ne.ensures.adds (λ P. of_north_east P (g.S.Squares.content c.args.from.now) c.args.offset.columns c.args.offset.rows
+        c.args.level c.eastern.ensures))
+    c.in_ok-sw.ensures.adds (λ P. of_south_west P (g.S.Squares.content c.args.from.now) c.args.offset.columns c.args.offset.rows
+        c.args.level c.western-2.ensures))
+    c.in_ok-se.ensures.adds (λ P. of_south_east P (g.S.Squares.content c.args.from.now) c.args.offset.columns c.args.offset.rows
+        c.args.level c.eastern-2.ensures))
     c.join.ensures.adds
     (λ P p cells x y h. own-part P _ _ _ _ _ (joined-is (parts g m (goal.at.slid_of_nine-returns-clause-adds g m c).After-join cells x y h)) p)
