@@ -259,7 +259,7 @@ root-of-form t low rule generation root is v moved =
     let u = square_universe rule generation t in
     let same = one-universe is.form v (forms-of-shifts MAX_LEVEL u u is.form v (outside-blank t low) is.moved moved (still u u (same-refl u))) in
     is.square ∙ (λ i. trimmed (centred (same i).cell MAX_LEVEL) (least_level rule))
-        ∙ ap (λ r. trimmed (centred v.cell MAX_LEVEL) (least_level r)) moved.shift.rule
+    ∙ ap (λ r. trimmed (centred v.cell MAX_LEVEL) (least_level r)) moved.shift.rule
 
 pub form-of-root : (P : Tree → Type 0) (u : Universe) → SomeOfMovedRoot P u (least_level u.rule) → SomeOfMovedForm P u
 unfolding whole

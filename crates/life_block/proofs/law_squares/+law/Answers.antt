@@ -67,10 +67,10 @@ next_of_middle-returns-clause-next g t c =
     nw.at ne.at sw.at
     (nw.next cells _ _ (western-nine content cells c.western.ensures (first-of_four c.front.ensures h)))
     (piece-by g.L.Law.answers g.L.Law.bound second cells (ahead x side) y (next c.next_of-2.new.to c.in_ok-ne.ne)
-        (ne.next cells _ _ (eastern-nine content cells c.eastern.ensures (first-of_four c.front-2.ensures h))))
+    (ne.next cells _ _ (eastern-nine content cells c.eastern.ensures (first-of_four c.front-2.ensures h))))
     (piece-by g.L.Law.answers g.L.Law.bound third cells x (ahead y side) (next c.next_of-3.new.to c.in_ok-sw.sw)
-        (sw.next cells _ _ (western-nine content cells c.western-2.ensures (last-of_four c.rear.ensures h))))
+    (sw.next cells _ _ (western-nine content cells c.western-2.ensures (last-of_four c.rear.ensures h))))
     (piece-by g.L.Law.answers g.L.Law.bound fourth cells (ahead x side) (ahead y side) (next c.next_of-4.new.to c.in_ok-se.se)
-        (se.next cells _ _ (eastern-nine content cells c.eastern-2.ensures (last-of_four c.rear-2.ensures h))))
+    (se.next cells _ _ (eastern-nine content cells c.eastern-2.ensures (last-of_four c.rear-2.ensures h))))
     is)
     c.join.ensures.square)

@@ -130,7 +130,7 @@ pub slid_of_seen-returns-in-Some-leaf_cells-clause-slid : goal.slid_of_seen-retu
 slid_of_seen-returns-in-Some-leaf_cells-clause-slid g m c =
     IfOk-weaker c.small.result _ _
     (λ r is cells x y h. is-piece cells c.args.level _ _ _
-        (is ∙ leaf-is g m (goal.at.slid_of_seen-returns-in-Some-leaf_cells-clause-slid g m c).After-small cells x y h))
+    (is ∙ leaf-is g m (goal.at.slid_of_seen-returns-in-Some-leaf_cells-clause-slid g m c).After-small cells x y h))
     c.small.ensures.square
 
 pub slid_of_seen-returns-in-Some-leaf_cells-clause-needed : goal.slid_of_seen-returns-in-Some-leaf_cells-clause-needed
@@ -298,7 +298,7 @@ slid_of_nine-returns-in_err-ne-clause-adds g m c =
     (adds-as _ c.in_ok-nw.ensures.adds
     (λ P. of_north_west P (g.S.Squares.content c.args.from.now) c.args.offset.columns c.args.offset.rows c.args.level c.western.ensures))
     c.in_err-ne.ensures.adds (λ P. of_north_east P (g.S.Squares.content c.args.from.now) c.args.offset.columns c.args.offset.rows
-        c.args.level c.eastern.ensures)
+    c.args.level c.eastern.ensures)
 
 pub slid_of_nine-returns-in_err-sw-clause-adds : goal.slid_of_nine-returns-in_err-sw-clause-adds
 slid_of_nine-returns-in_err-sw-clause-adds g m c =
@@ -307,9 +307,9 @@ slid_of_nine-returns-in_err-sw-clause-adds g m c =
     (adds-as _ c.in_ok-nw.ensures.adds
     (λ P. of_north_west P (g.S.Squares.content c.args.from.now) c.args.offset.columns c.args.offset.rows c.args.level c.western.ensures))
     c.in_ok-ne.ensures.adds (λ P. of_north_east P (g.S.Squares.content c.args.from.now) c.args.offset.columns c.args.offset.rows
-        c.args.level c.eastern.ensures))
+    c.args.level c.eastern.ensures))
     c.in_err-sw.ensures.adds (λ P. of_south_west P (g.S.Squares.content c.args.from.now) c.args.offset.columns c.args.offset.rows
-        c.args.level c.western-2.ensures)
+    c.args.level c.western-2.ensures)
 
 pub slid_of_nine-returns-in_err-se-clause-adds : goal.slid_of_nine-returns-in_err-se-clause-adds
 slid_of_nine-returns-in_err-se-clause-adds g m c =
@@ -319,11 +319,11 @@ slid_of_nine-returns-in_err-se-clause-adds g m c =
     (adds-as _ c.in_ok-nw.ensures.adds
     (λ P. of_north_west P (g.S.Squares.content c.args.from.now) c.args.offset.columns c.args.offset.rows c.args.level c.western.ensures))
     c.in_ok-ne.ensures.adds (λ P. of_north_east P (g.S.Squares.content c.args.from.now) c.args.offset.columns c.args.offset.rows
-        c.args.level c.eastern.ensures))
+    c.args.level c.eastern.ensures))
     c.in_ok-sw.ensures.adds (λ P. of_south_west P (g.S.Squares.content c.args.from.now) c.args.offset.columns c.args.offset.rows
-        c.args.level c.western-2.ensures))
+    c.args.level c.western-2.ensures))
     c.in_err-se.ensures.adds (λ P. of_south_east P (g.S.Squares.content c.args.from.now) c.args.offset.columns c.args.offset.rows
-        c.args.level c.eastern-2.ensures)
+    c.args.level c.eastern-2.ensures)
 
 pub slid_of_nine-returns-clause-adds : goal.slid_of_nine-returns-clause-adds
 slid_of_nine-returns-clause-adds g m c =
@@ -334,10 +334,10 @@ slid_of_nine-returns-clause-adds g m c =
     (adds-as _ c.in_ok-nw.ensures.adds
     (λ P. of_north_west P (g.S.Squares.content c.args.from.now) c.args.offset.columns c.args.offset.rows c.args.level c.western.ensures))
     c.in_ok-ne.ensures.adds (λ P. of_north_east P (g.S.Squares.content c.args.from.now) c.args.offset.columns c.args.offset.rows
-        c.args.level c.eastern.ensures))
+    c.args.level c.eastern.ensures))
     c.in_ok-sw.ensures.adds (λ P. of_south_west P (g.S.Squares.content c.args.from.now) c.args.offset.columns c.args.offset.rows
-        c.args.level c.western-2.ensures))
+    c.args.level c.western-2.ensures))
     c.in_ok-se.ensures.adds (λ P. of_south_east P (g.S.Squares.content c.args.from.now) c.args.offset.columns c.args.offset.rows
-        c.args.level c.eastern-2.ensures))
+    c.args.level c.eastern-2.ensures))
     c.join.ensures.adds
     (λ P p cells x y h. own-part P _ _ _ _ _ (joined-is (parts g m (goal.at.slid_of_nine-returns-clause-adds g m c).After-join cells x y h)) p)

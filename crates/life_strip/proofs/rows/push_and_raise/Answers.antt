@@ -64,7 +64,7 @@ returns-in_err-push_strip-clause-grows g c =
     let M = λ (P : Tree → Type 0). SomeSquare P (height xs + 2 ^ strip.level + c.args.rows) (picture (C old) (xs ++ strip ∷ [])) in
     grows-err M (grows-then M r.grows c.in_err-push_strip.ensures.grows
     (λ P n. lowered (C old) xs c.as_slice.result.now strip top.result c.args.rows c.as_slice.ensures.value top.ensures.lowest
-        c.requires.high top.ensures.fits n)
+    c.requires.high top.ensures.fits n)
     (λ P n. SomeSquare-same (omega (arith, same, side, top.ensures.fits))
     (picture-over {knows = K old} {knows' = K mid} {old = C old} {new = C mid} r.grows.keeps.contents xs (raised ∷ []) (strip ∷ []) c.requires.strips.sound
     r.picture) n))
@@ -86,7 +86,7 @@ returns-clause-grows g c =
     let M = λ (P : Tree → Type 0). SomeSquare P (height xs + 2 ^ strip.level + c.args.rows) (picture (C old) (xs ++ strip ∷ [])) in
     grows-ok M (grows-then M r.grows c.in_ok-push_strip.ensures.grows
     (λ P n. lowered (C old) xs c.as_slice.result.now strip top.result c.args.rows c.as_slice.ensures.value top.ensures.lowest
-        c.requires.high top.ensures.fits n)
+    c.requires.high top.ensures.fits n)
     (λ P n. SomeSquare-same (omega (arith, same, side, top.ensures.fits))
     (picture-over {knows = K old} {knows' = K mid} {old = C old} {new = C mid} r.grows.keeps.contents xs (raised ∷ []) (strip ∷ []) c.requires.strips.sound
     r.picture) n))
