@@ -234,104 +234,110 @@ fn requests(rt: HostRuntime) {
 
 /// Arguments of `keys` and `duplicates` with their form, their files, which of --zero, --recursive and --json (of `keys` alone) they have, and the list
 /// of further files. `keys` takes patterns as they lie, and `duplicates` in the moved form, where none is given.
-const FILES: [(&str, Form, &str, [bool; 3], Option<&str>); 16] = [
-    ("keys a", Form::Placed, "a", [false, false, false], None),
+const FILES: [(&str, Form, &[&str], [bool; 3], Option<&str>); 16] = [
+    ("keys a", Form::Placed, &["a"], [false, false, false], None),
     (
         "keys -r b a",
         Form::Placed,
-        "b a",
+        &["b", "a"],
         [false, true, false],
         None,
     ),
     (
         "keys a --form turned -",
         Form::Turned,
-        "a -",
+        &["a", "-"],
         [false, false, false],
         None,
     ),
     (
         "keys --from l",
         Form::Placed,
-        "",
+        &[],
         [false, false, false],
         Some("l"),
     ),
     (
         "keys a --zero",
         Form::Placed,
-        "a",
+        &["a"],
         [true, false, false],
         None,
     ),
-    ("keys -r a", Form::Placed, "a", [false, true, false], None),
+    (
+        "keys -r a",
+        Form::Placed,
+        &["a"],
+        [false, true, false],
+        None,
+    ),
     (
         "keys --json a",
         Form::Placed,
-        "a",
+        &["a"],
         [false, false, true],
         None,
     ),
     (
         "keys a --zero --json -r",
         Form::Placed,
-        "a",
+        &["a"],
         [true, true, true],
         None,
     ),
     (
         "keys --recursive --from l",
         Form::Placed,
-        "",
+        &[],
         [false, true, false],
         Some("l"),
     ),
     (
         "duplicates a",
         Form::Moved,
-        "a",
+        &["a"],
         [false, false, false],
         None,
     ),
     (
         "duplicates --zero a -- -r",
         Form::Moved,
-        "a -r",
+        &["a", "-r"],
         [true, false, false],
         None,
     ),
     (
         "duplicates --form=placed a b a",
         Form::Placed,
-        "a b a",
+        &["a", "b", "a"],
         [false, false, false],
         None,
     ),
     (
         "duplicates --from -",
         Form::Moved,
-        "",
+        &[],
         [false, false, false],
         Some("-"),
     ),
     (
         "duplicates -- a -r",
         Form::Moved,
-        "a -r",
+        &["a", "-r"],
         [false, false, false],
         None,
     ),
     (
         "duplicates a -r",
         Form::Moved,
-        "a",
+        &["a"],
         [false, true, false],
         None,
     ),
     (
         "duplicates --from=- --zero --recursive",
         Form::Moved,
-        "",
+        &[],
         [true, true, false],
         Some("-"),
     ),
@@ -346,19 +352,13 @@ fn plan_of_files<'a>(alloc: Global, words: &'a [&'a str]) -> Option<(KeysPlan<'a
     }
 }
 
-/// Whether files have these names, which have a space between each two.
-fn are_named(rt: &impl Abort, alloc: Global, files: &[&str], names: &str) -> bool {
-    let wanted = words_of(rt, alloc, names);
-    files == &wanted[1..]
-}
-
 /// The arguments of a text ask for the keys or the duplicates of files in this form, with these options, and have no plan for a job.
 fn assert_files(
     rt: &impl Abort,
     alloc: Global,
     text: &str,
     form: Form,
-    names: &str,
+    names: &[&str],
     options: ([bool; 3], Option<&str>),
 ) {
     let words = words_of(rt, alloc, text);
@@ -368,7 +368,7 @@ fn assert_files(
     let is_wanted = found.form == form && is_duplicates == text.starts_with("duplicates");
     let flags = [found.zero, found.recursive, found.json];
     assert!(rt; is_wanted && (flags, found.from) == options, "{text}");
-    assert!(rt; are_named(rt, alloc, &found.files, names), "{text}");
+    assert!(rt; found.files.as_slice() == names, "{text}");
 }
 
 #[test]
