@@ -760,28 +760,6 @@ def mixed_blocks():
     yield from gathered(nodes.lines(nodes.join(60, *squares[:3], 0)))
 
 
-@once
-def seam():
-    """The node lines of two rows of squares of 2^14 columns, one above the other, in which cells are near the line between the rows alone. The squares
-    above repeat after 512 and those below after 513, so they are few. Moved, the line lies inside squares, and nearly all pairs come up: a form of
-    3.1 million squares."""
-    order, nodes = random.Random(3), Nodes()
-
-    def chain_to(corner):
-        square = nodes.join(3, leaf(1 << order.randrange(64)))
-        for level in range(4, 14):
-            square = nodes.join(level, *(square if it == corner else 0 for it in range(4)))
-        return square
-
-    above = [nodes.join(14, 0, 0, chain_to(2), chain_to(3)) for _ in range(64)]
-    below = [nodes.join(14, chain_to(0), chain_to(1), 0, 0) for _ in range(64)]
-    above, below = [order.choice(above) for _ in range(512)], [order.choice(below) for _ in range(513)]
-    for level in range(15, 33):
-        above = [nodes.join(level, 0, 0, above[2 * it % 512], above[(2 * it + 1) % 512]) for it in range(512)]
-        below = [nodes.join(level, below[2 * it % 513], below[(2 * it + 1) % 513], 0, 0) for it in range(513)]
-    yield from gathered(nodes.lines(nodes.join(33, 0, above[0], 0, below[0])))
-
-
 def block_cells():
     """The cells of 2^18 blocks, row by row."""
     corners = [-(1 << 60) + (i << 52) for i in range(1 << 9)]
@@ -810,8 +788,6 @@ FEW_LINES = [
     few_lines("2^20 cells in 60 lines, moved", BLOCKS, LIFE + MOVED_BLOCKS, "canon input --form moved"),
     few_lines("2^20 cells in 60 lines, turned", BLOCKS, LIFE + MOVED_BLOCKS, "canon input --form turned"),
     few_lines("2^20 cells in 60 lines beside themselves, turned", BLOCKS, b"same\n", "same input input --form turned"),
-    refused("a form of 3.1 million squares", [b"[M2]\n", seam], "Full", "canon input --form moved", status=4, seconds=20, each=100,
-            little=400 * MEGABYTE),
     few_lines("2^20 cells in 60 lines that stay", BLOCKS, LIFE + b"#G 1\n" + BLOCKS, "step input"),
     few_lines("786,432 cells in 60 lines that turn", BLINKERS, LIFE + b"#G 1\n" + TURNED_BLINKERS, "step input"),
     few_lines("2^20 single cells in 60 lines that die", SPECKS, LIFE + b"#G 1\n", "step input"),
