@@ -13,6 +13,9 @@ accepts, and of N random ones, it compares
 - the macrocell that Golly makes of an RLE: the same cells one row further north;
 - the next generation by the rule or by the rule table, and Golly's: one pattern, but for its place.
 
+Of each it also takes the forms `moved` and `turned`, however many cells the pattern has: the text of a form has the population that Golly tells, and that
+text again in that form.
+
 Of 200 other random patterns it saves each by Golly in both formats: the two files have one key in the form `moved`, and the program's `keys` tells those
 of all files in one run.
 
@@ -135,6 +138,7 @@ class Comparison:
         # Where the root is a leaf, or there is no line for it.
         self.is_small = int(shown["nodes"]) <= 1
         yield from self.texts()
+        yield from self.forms()
         if 0 < self.population <= MOST_CELLS:
             self.rle = self.program.answer("convert", "--to", "rle", text=self.text)
             yield from self.conversions()
@@ -148,6 +152,14 @@ class Comparison:
         yield "population"
         equal("the canonical text", self.canonical, self.program.answer("canon", text=made))
         yield "canonical text"
+
+    def forms(self):
+        for form in ("moved", "turned"):
+            text = self.program.answer("canon", "--form", form, text=self.text)
+            shown = self.program.answer("show", text=text).decode()
+            equal(f"the population, {form}", f"population {self.population}", shown.splitlines()[2])
+            equal(f"the text, {form}", text, self.program.answer("canon", "--form", form, text=text))
+            yield f"form {form}"
 
     def conversions(self):
         population, made = self.golly.made(self.rle, self.rule, "rle")
