@@ -13,7 +13,7 @@ sys.dont_write_bytecode = True  # nothing is left in tests/
 sys.path.insert(0, os.path.dirname(os.path.dirname(os.path.abspath(__file__))))
 
 from shared import counting, processes  # noqa: E402
-from shared.fixtures import FILES, HEADER, LIFE, LINE_STEPPED, LONGEST, PAIR_RLE, PAIR_SHOWN, PAIR_TEXT, SPREAD_STEPPED, canonical  # noqa: E402
+from shared.fixtures import FILES, HEADER, LIFE, LINE_STEPPED, LONGEST, MANY_TEXT, PAIR_RLE, PAIR_SHOWN, PAIR_TEXT, SPREAD_STEPPED, canonical  # noqa: E402
 from shared.processes import Answer  # noqa: E402
 
 SAME, DIFFERENT = Answer(0, b"same\n"), Answer(1, b"different\n")
@@ -42,8 +42,10 @@ STATES = b"#CXRLE Pos=-3,-300 Gen=7\nx = 2, y = 1, rule = WireWorld\nyO.A$pA2.B!
 MOVED_STATES = canonical(b"WireWorld", 7) + b"1 255 0 25 0\n1 1 0 0 2\n2 1 2 0 0\n3 0 0 0 3\n"
 TURNED_STATES = canonical(b"WireWorld", 7) + b"1 0 1 2 0\n1 0 255 0 25\n2 1 2 0 0\n3 0 0 0 3\n"
 WHOLE_ROW = b"#CXRLE Pos=-2305843009213693952,0\nx = 1, y = 1\n4611686018427387904o!\n"
-# One cell more than is counted, and as many.
+# One cell more than is counted, and as many. Turned, the row of the first is a column, since $ is less than *.
 MANY, MOST = HEADER + b"1048577o!\n", HEADER + b"1048576o!\n"
+TURNED_MANY = LIFE + b"*$" * 8 + b"\n" + b"".join(b"%d %d 0 %d 0\n" % (level, level - 3, level - 3) for level in range(4, 21))
+TURNED_MANY += b"*$$$$$$$$\n" + b"".join(b"%d %d 0 0 0\n" % (level, level + 15) for level in range(4, 21)) + b"21 18 0 36 0\n22 0 0 0 37\n"
 BAD, NONE = HEADER + b"B!\n", b"o!\n"
 SPREAD, EITHER = FILES["spread.rule"], FILES["two.rule"]
 
@@ -123,15 +125,16 @@ SHOWN = [
 ]
 
 
-def in_form(form, glider, states):
-    """The texts in a form, where those of a glider and of the states are these. Files are read and judged before their cells are counted."""
+def in_form(form, glider, states, many):
+    """The texts in a form, where those of a glider, of the states and of many cells are these. Files are read and judged before their forms are made."""
     words, both = ["canon", "--form", form], ["same", "--form", form]
-    texts = [(NORTH_WEST, glider), (SOUTH_EAST, glider), (BLANK_WIRES, canonical(b"WireWorld", 9)), (STATES, states)]
-    many = b"TooManyCells"
+    texts = [(NORTH_WEST, glider), (SOUTH_EAST, glider), (BLANK_WIRES, canonical(b"WireWorld", 9)), (STATES, states), (MANY, many)]
     return [
         *of_one(words, texts),
-        *refusing(words, [(MANY, many)]),
-        *refusing(both, [([MANY, TWINS], many), ([TWINS, MANY], many), ([MANY, NONE], b"line 1: NoHeader"), ([HEADER + b"0o!\n", MANY], b"line 2: ZeroCount")]),
+        (both, [MANY, TWINS], DIFFERENT),
+        (both, [TWINS, MANY], DIFFERENT),
+        (both, [MANY, MANY], SAME),
+        *refusing(both, [([MANY, NONE], b"line 1: NoHeader"), ([HEADER + b"0o!\n", MANY], b"line 2: ZeroCount")]),
     ]
 
 
@@ -140,8 +143,8 @@ FORMS = [
     *of_one(["canon", "--form", "moved"], [(EAST_GLIDER, MOVED_GLIDER), (GLIDER, MOVED_GLIDER)]),
     *of_one(["canon", "--form", "turned"], [(image, TURNED_GLIDER) for image in IMAGES]),
     *[(["same", "--form", "turned"], [image, SOUTH_EAST], SAME) for image in IMAGES],
-    *in_form("moved", MOVED_GLIDER, MOVED_STATES),
-    *in_form("turned", TURNED_GLIDER, TURNED_STATES),
+    *in_form("moved", MOVED_GLIDER, MOVED_STATES, MANY_TEXT),
+    *in_form("turned", TURNED_GLIDER, TURNED_STATES, TURNED_MANY),
     (["same", "--form", "placed"], [NORTH_WEST, SOUTH_EAST], DIFFERENT),
     (["same", "--form", "moved"], [NORTH_WEST, SOUTH_EAST], SAME),
     (["same", "--form", "turned"], [NORTH_WEST, SOUTH_EAST], SAME),
