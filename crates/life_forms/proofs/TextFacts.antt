@@ -8,6 +8,7 @@ use Rattle.life_canon.specs.Universe.{Universe, IsSame, IsBlankOutside}
 use Rattle.life_canon.proofs.OrderFacts.{up-to-itself, up-to-on}
 use Rattle.life_forms.specs.Turns.{Turn, image, turns, upright}
 use Rattle.life_forms.specs.Forms.{IsMoved}
+use Rattle.life_forms.specs.Needed.{HasLargerForm}
 use Rattle.life_forms.specs.Images.{IsImageText, IsLeastOfFirst, IsLesserImageText, IsTurnedText, numbered}
 use Rattle.life_forms.proofs.TurnFacts.{turns-are-eight, image-outside}
 use Rattle.life_forms.proofs.ShiftFacts.{same-refl, still, forms-of-shifts}
@@ -40,6 +41,9 @@ first-text top u some outside text is = record {
         let here = subst (λ (n : ℕ). IsImageText top u (numbered n) other) none also in
         subst (λ (t : List ℕ). IsUpTo text t) (one-text top u some outside (numbered 0) text other is here) (up-to-itself text)
 
+earlier : (n k : ℕ) → k < n + 1 → (k < n) ⊎ (k ≡ n)
+earlier n k low = grind (arith, nat_tests)
+
 pub next-text : (top : ℕ) (u : Universe) → 1 ≤ top → IsBlankOutside top u.cell → (n : ℕ) (best text : List ℕ) → IsLeastOfFirst top u n best
     → IsLesserImageText top u (numbered n) best text → IsLeastOfFirst top u (n + 1) text
 next-text top u some outside n best text so_far is = elim is.lesser.one [
@@ -47,16 +51,19 @@ next-text top u some outside n best text so_far is = elim is.lesser.one [
   | inr e ↦ record { turn = numbered n; of_image = subst (λ (t : List ℕ). IsImageText top u (numbered n) t) (sym e) is.of_image; least = below }
 ]
   where
-    earlier : (k : ℕ) → k < n + 1 → (k < n) ⊎ (k ≡ n)
-    earlier k low = grind (arith, nat_tests)
-
     below : (k : ℕ) (other : List ℕ) → k < n + 1 → IsImageText top u (numbered k) other → IsUpTo text other
-    below k other low also = elim (earlier k low) [
+    below k other low also = elim (earlier n k low) [
       | inl before ↦ up-to-on text best other is.lesser.first (so_far.least k other before also)
       | inr last ↦
           let here = subst (λ (m : ℕ). IsImageText top u (numbered m) other) last also in
           subst (λ (t : List ℕ). IsUpTo text t) (one-text top u some outside (numbered n) is.other other is.of_image here) is.lesser.second
     ]
+
+-- a turn is that with its place in the list as its number
+number-of : (turn : Turn) → numbered (turns-are-eight turn).0 ≡ turn
+number-of turn =
+    let place = turns-are-eight turn in
+    get_or_from_slice_get turns place.0 _ upright (slice_get-get_or turns place.0 turn place.1) ∙ place.2
 
 pub turned-text : (top : ℕ) (u : Universe) (text : List ℕ) → IsLeastOfFirst top u 8 text → IsTurnedText top u text
 turned-text top u text h = record {
@@ -72,5 +79,28 @@ turned-text top u text h = record {
     below : (other : Turn) (w : Universe) → IsMoved top (image other u) w → IsUpTo text (canon_text top w)
     below other w moved =
         let place = turns-are-eight other in
-        let e : numbered place.0 ≡ other = get_or_from_slice_get turns place.0 _ upright (slice_get-get_or turns place.0 other place.1) ∙ place.2 in
+        let e = number-of other in
         h.least place.0 (canon_text top w) place.1 (record { form = w; moved = subst (λ (t : Turn). IsMoved top (image t u) w) (sym e) moved; is = refl })
+
+-- ---- the sizes of the images
+
+-- none of the first so many images has a larger form
+abbrev pub AreSmall : ℕ → Universe → ℕ → Type 0
+AreSmall most u count = (k : ℕ) → k < count → ¬ HasLargerForm most (image (numbered k) u)
+
+pub first-small : (most : ℕ) (u : Universe) → ¬ HasLargerForm most (image (numbered 0) u) → AreSmall most u 1
+first-small most u small k low =
+    let none : k ≡ 0 = omega arith in
+    subst (λ (n : ℕ). ¬ HasLargerForm most (image (numbered n) u)) (sym none) small
+
+pub next-small : (most : ℕ) (u : Universe) (n : ℕ) → AreSmall most u n → ¬ HasLargerForm most (image (numbered n) u) → AreSmall most u (n + 1)
+next-small most u n so_far small k low = elim (earlier n k low) [
+  | inl before ↦ so_far k before
+  | inr last ↦ subst (λ (m : ℕ). ¬ HasLargerForm most (image (numbered m) u)) (sym last) small
+]
+
+-- the first eight are all
+pub all-small : (most : ℕ) (u : Universe) → AreSmall most u 8 → (turn : Turn) → ¬ HasLargerForm most (image turn u)
+all-small most u small turn =
+    let place = turns-are-eight turn in
+    subst (λ (t : Turn). ¬ HasLargerForm most (image t u)) (number-of turn) (small place.0 place.1)

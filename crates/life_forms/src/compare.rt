@@ -56,6 +56,8 @@ pub fn are_turns(alloc: Global, store: &Shared, a: &Pattern, b: &Pattern) -> Res
     requires b_rule { IsRule b.now.rule }
     ensures answer { IfOk result (λ answer. IsTrue answer ↔ IsTurnedShift
         (universe_in store.now a.now) (universe_in store.now b.now)) }
+    ensures small { OnOk result (a.now.generation ≡ b.now.generation
+        → ¬ HasLargeImage store.now a.now × ¬ HasLargeImage store.now b.now) }
     ensures fault { IfErr result (λ fault. OrMemory fault ((fault ≡ fault_of Full)
         × (a.now.generation ≡ b.now.generation)
         × (HasLargeImage store.now a.now ⊎ HasLargeImage store.now b.now))) }

@@ -1,7 +1,7 @@
 //! Texts of a pattern's images.
 
-ghost use Rattle.std.specs.Prelude.{◌≡◌, ◌⊎◌, ◌^◌, ◌≤◌, IfOk, IfErr, OnOk};
-ghost use Rattle.life_forms.specs.Words.{MAX_LEVEL, Full, OrMemory, fault_of, IsTrimmed, universe_in, IsMoved, IsImageText, IsLesserImageText, IsTurnedText, numbered, HasLargerForm, RefusesTurning, image};
+ghost use Rattle.std.specs.Prelude.{◌≡◌, ◌⊎◌, ◌^◌, ◌≤◌, min, IfOk, IfErr, OnOk};
+ghost use Rattle.life_forms.specs.Words.{MAX_LEVEL, Full, OrMemory, fault_of, IsTrimmed, universe_in, IsMoved, IsImageText, IsLesserImageText, IsTurnedText, numbered, HasLargerForm, HasLargeImage, RefusesTurning, image};
 
 use crate::patterns::{form_of, most_squares, without_limit};
 use life_base::Fault;
@@ -73,6 +73,8 @@ fn limited_image(
     ensures trimmed { IfOk result (λ form. IsTrimmed form.0 form.1) }
     ensures moved { IfOk result (λ form. IsMoved MAX_LEVEL
         (image turn (universe_in store.now pattern.now)) (universe_in form.0 form.1)) }
+    ensures small { OnOk result (¬ HasLargerForm (min (2 ^ 21) store.now.limit)
+        (image turn (universe_in store.now pattern.now))) }
     ensures fault { IfErr result (RefusesTurning store.now pattern.now) }
 {
     moved_image(alloc, store, most_squares(store), pattern, turn)
@@ -88,6 +90,8 @@ fn image_text(
     requires { IsTrimmed store.now pattern.now }
     ensures text { IfOk result
         (λ text. IsImageText MAX_LEVEL (universe_in store.now pattern.now) turn text.items) }
+    ensures small { OnOk result (¬ HasLargerForm (min (2 ^ 21) store.now.limit)
+        (image turn (universe_in store.now pattern.now))) }
     ensures fault { IfErr result (RefusesTurning store.now pattern.now) }
 {
     let (form, moved) = limited_image(alloc, store, pattern, turn)?;
@@ -105,6 +109,8 @@ fn lesser_image_text(
     requires { IsTrimmed store.now pattern.now }
     ensures text { IfOk result (λ text. IsLesserImageText MAX_LEVEL
         (universe_in store.now pattern.now) turn best.items text.items) }
+    ensures small { OnOk result (¬ HasLargerForm (min (2 ^ 21) store.now.limit)
+        (image turn (universe_in store.now pattern.now))) }
     ensures fault { IfErr result (RefusesTurning store.now pattern.now) }
 {
     let (form, moved) = limited_image(alloc, store, pattern, turn)?;
@@ -117,12 +123,13 @@ fn lesser_image_text(
 ///
 /// # Errors
 ///
-/// `Full` where the moved form of one of the eight has more different squares than `MOST_SQUARES`, or than the pattern's store may hold, and `Memory`,
-/// at no line. A turn followed by a shift takes the eight forms to the same eight, so `Full` is returned for all of them or for none.
+/// `Full` where the moved form of one of the eight has more different squares than `MOST_SQUARES`, or than the pattern's store may hold, and only there;
+/// and `Memory`. They name no line. A turn followed by a shift takes the eight forms to the same eight, so `Full` is returned for all of them or for none.
 pub fn turned_text(alloc: Global, store: &Shared, pattern: &Pattern) -> Result<Vec<u8>, Fault>
     requires { IsTrimmed store.now pattern.now }
     ensures text { IfOk result
         (λ text. IsTurnedText MAX_LEVEL (universe_in store.now pattern.now) text.items) }
+    ensures small { OnOk result (¬ HasLargeImage store.now pattern.now) }
     ensures fault { IfErr result (RefusesTurning store.now pattern.now) }
 {
     let mut best = image_text(alloc, store, pattern, numbered(0))?;

@@ -1,4 +1,4 @@
-use Rattle.std.proofs.Common.{ℕ, inl, inr, subst}
+use Rattle.std.proofs.Common.{ℕ, inl, inr, subst, OnOk}
 use Rattle.std.proofs.lemmas.Result.{IfErr-weaker}
 use Rattle.life_canon.specs.Store.{universe_in}
 use Rattle.life_forms.specs.Needed.{HasLargerForm}
@@ -12,3 +12,8 @@ returns-clause-fault c =
       | inl memory ↦ inl memory
       | inr large ↦ inr (large.0, (c.args.turn, subst (λ (n : ℕ). HasLargerForm n (image c.args.turn u)) c.most_squares.ensures large.1))
     ]) c.moved_image.ensures.fault
+
+pub returns-clause-small : goal.returns-clause-small
+returns-clause-small c =
+    let u = universe_in c.args.store.now c.args.pattern.now in
+    subst (λ (n : ℕ). OnOk c.moved_image.result (¬ HasLargerForm n (image c.args.turn u))) c.most_squares.ensures c.moved_image.ensures.small
