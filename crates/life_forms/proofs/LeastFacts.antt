@@ -1,5 +1,5 @@
 -- The turned form: the least of eight texts.
-use Rattle.std.proofs.Common.{◌≡◌, ◌⊎◌, inl, inr, ℕ, ◌≤◌, Bool, true, false, List, sym, ◌∙◌, subst}
+use Rattle.std.proofs.Common.{◌≡◌, ◌⊎◌, inl, inr, ℕ, ◌≤◌, Bool, true, false, List, subst}
 use Rattle.life_canon.specs.Lesser.{IsUpTo}
 use Rattle.life_canon.specs.Universe.{Universe, IsSame, IsOnPlane}
 use Rattle.life_canon.proofs.OrderFacts.{up-to-itself, up-to-on, up-to-both, either-way}
