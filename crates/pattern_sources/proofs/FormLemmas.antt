@@ -1,12 +1,13 @@
 -- From patterns in a store that are taken in a form to their files.
-use Rattle.std.proofs.Common.{◌≡◌, ◌∙◌, ℕ, ◌^◌, inl, inr, ap, sym, subst, subst₂, List, Result, Ok, Err, IfOk, IfErr}
+use Rattle.std.proofs.Common.{◌≡◌, ◌∙◌, ℕ, ◌^◌, inl, inr, ap, sym, subst, subst₂, List, Result, Ok, Err, IfOk, IfErr, OnOk}
 use Rattle.std.specs.Prelude.{min}
 use Rattle.life_base.specs.Refusal.{OrMemory, fault_of}
+use Rattle.life_base.specs.Text.{lines_of}
 use Rattle.life_base.specs.declared.cell.TheConstants.{MAX_LEVEL}
 use Rattle.life_base.specs.declared.fault.Fault.{Fault}
 use Rattle.life_base.specs.declared.kind.Kind.TheVariants.{Full}
 use Rattle.life_quad.specs.Store.{Nodes}
-use Rattle.life_canon.specs.Laws.{PatternsFit}
+use Rattle.life_canon.specs.Laws.{FilesAreUnique, PatternsFit}
 use Rattle.life_canon.specs.Listing.{canon_text}
 use Rattle.life_canon.specs.Store.{IsRead, universe_in}
 use Rattle.life_canon.specs.Texts.{IsCanonical}
@@ -17,6 +18,7 @@ use Rattle.life_forms.specs.Turns.{image}
 use Rattle.pattern_sources.specs.Forms.{SaysText}
 use Rattle.pattern_sources.specs.Forms as files
 use Rattle.pattern_sources.specs.Sources.{RefusesInForm}
+use Rattle.command_line.specs.declared.plans.Form.{Form}
 use Rattle.command_line.specs.declared.plans.Form.TheVariants.{Moved, Turned}
 
 -- patterns with one rule, one generation and the same cells are one
@@ -38,16 +40,19 @@ module _ (fit : PatternsFit MAX_LEVEL) (store : Nodes) (pattern : Pattern) where
       λ bytes read. record { universe = read.universe; reads = read.reads; is = h ∙ ap (canon_text MAX_LEVEL) (sym (said bytes read)) }
   placed_text items (Err fault) h = tt
 
-  pub said_text : {X : Type 0} (is_text : Universe → List ℕ → Type 0) (items : X → List ℕ) (r : Result X Fault)
+  -- so is one of a pattern whose form is small
+  pub said_text : {X : Type 0} (form : Form) (is_text : Universe → List ℕ → Type 0) (items : X → List ℕ) (r : Result X Fault)
       → IfOk r (λ x. is_text (universe_in store pattern) (items x))
-      → IfOk r (λ x. (bytes : List ℕ) → IsRead MAX_LEVEL bytes store pattern → SaysText is_text MAX_LEVEL bytes (items x))
-  said_text is_text items (Ok x) h =
+      → OnOk r ((bytes : List ℕ) → IsRead MAX_LEVEL bytes store pattern → ¬ files.HasLargeForm form MAX_LEVEL bytes)
+      → IfOk r (λ x. (bytes : List ℕ) → IsRead MAX_LEVEL bytes store pattern → SaysText form is_text MAX_LEVEL bytes (items x))
+  said_text form is_text items (Ok x) h small =
       λ bytes read. record {
         universe = read.universe;
         reads = read.reads;
+        small = small bytes read;
         is = subst (λ (u : Universe). is_text u (items x)) (sym (said bytes read)) h;
       }
-  said_text is_text items (Err fault) h = tt
+  said_text form is_text items (Err fault) h small = tt
 
   -- a pattern with a large form is that of a file with one
   pub large_file : store.limit ≡ 2 ^ 31 → (bytes : List ℕ) → IsRead MAX_LEVEL bytes store pattern → HasLargeForm store pattern
@@ -66,6 +71,31 @@ module _ (fit : PatternsFit MAX_LEVEL) (store : Nodes) (pattern : Pattern) where
           (sym (said bytes read)) large.1,
     ),
   )
+
+  -- a file with a large form is one of a pattern with a large form
+  pub large_pattern : FilesAreUnique MAX_LEVEL → store.limit ≡ 2 ^ 31 → (bytes : List ℕ) → IsRead MAX_LEVEL bytes store pattern
+      → files.HasLargeForm Moved MAX_LEVEL bytes → HasLargeForm store pattern
+  large_pattern unique limit bytes read large =
+      let same = unique (lines_of bytes) large.0 read.universe large.1 read.reads ∙ said bytes read in
+      subst₂ (λ (n : ℕ) (u : Universe). HasLargerForm n u) (sym (form_limit store.limit limit)) same large.2
+
+  pub large_turn : FilesAreUnique MAX_LEVEL → store.limit ≡ 2 ^ 31 → (bytes : List ℕ) → IsRead MAX_LEVEL bytes store pattern
+      → files.HasLargeForm Turned MAX_LEVEL bytes → HasLargeImage store pattern
+  large_turn unique limit bytes read large =
+      let same = unique (lines_of bytes) large.0 read.universe large.1 read.reads ∙ said bytes read in (
+        large.2.0,
+        subst₂ (λ (n : ℕ) (u : Universe). HasLargerForm n (image large.2.0 u)) (sym (form_limit store.limit limit)) same large.2.1,
+      )
+
+  pub small_file : {X : Type 0} (r : Result X Fault) → FilesAreUnique MAX_LEVEL → store.limit ≡ 2 ^ 31 → OnOk r (¬ HasLargeForm store pattern)
+      → OnOk r ((bytes : List ℕ) → IsRead MAX_LEVEL bytes store pattern → ¬ files.HasLargeForm Moved MAX_LEVEL bytes)
+  small_file (Ok x) unique limit small = λ bytes read large. small (large_pattern unique limit bytes read large)
+  small_file (Err fault) unique limit small = tt
+
+  pub small_images : {X : Type 0} (r : Result X Fault) → FilesAreUnique MAX_LEVEL → store.limit ≡ 2 ^ 31 → OnOk r (¬ HasLargeImage store pattern)
+      → OnOk r ((bytes : List ℕ) → IsRead MAX_LEVEL bytes store pattern → ¬ files.HasLargeForm Turned MAX_LEVEL bytes)
+  small_images (Ok x) unique limit small = λ bytes read large. small (large_turn unique limit bytes read large)
+  small_images (Err fault) unique limit small = tt
 
   -- why there is no text
   pub unmoved : {X : Type 0} (r : Result X Fault) → store.limit ≡ 2 ^ 31

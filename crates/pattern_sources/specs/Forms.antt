@@ -17,20 +17,21 @@ pub record IsMovedText (top : ℕ) (u : Universe) (text : List ℕ) : Type 0 whe
   pub moved : IsMoved top u form
   pub is : text ≡ canon_text top form
 
--- the bytes are a file, and this is a text of what it says
-pub record SaysText (is_text : Universe → List ℕ → Type 0) (top : ℕ) (bytes text : List ℕ) : Type 0 where
-  pub universe : Universe
-  pub reads : Reads top bytes universe
-  pub is : is_text universe text
-
--- the bytes are a file, and this is the text of its pattern in the form
-abbrev pub IsTextIn : Form → ℕ → List ℕ → List ℕ → Type 0
-IsTextIn Placed top bytes text = IsCanonical top bytes text
-IsTextIn Moved top bytes text = SaysText (IsMovedText top) top bytes text
-IsTextIn Turned top bytes text = SaysText (IsTurnedText top) top bytes text
-
 -- the bytes are a file, and the moved form of what it says has more than 2^21 different squares; turned, that of one of its eight images
 abbrev pub HasLargeForm : Form → ℕ → List ℕ → Type 0
 HasLargeForm Placed top bytes = ⊥
 HasLargeForm Moved top bytes = (u : Universe) × Reads top bytes u × HasLargerForm (2 ^ 21) u
 HasLargeForm Turned top bytes = (u : Universe) × Reads top bytes u × ((turn : Turn) × HasLargerForm (2 ^ 21) (image turn u))
+
+-- the bytes are a file whose form is not too large, and this is a text of what it says
+pub record SaysText (form : Form) (is_text : Universe → List ℕ → Type 0) (top : ℕ) (bytes text : List ℕ) : Type 0 where
+  pub universe : Universe
+  pub reads : Reads top bytes universe
+  pub small : ¬ HasLargeForm form top bytes
+  pub is : is_text universe text
+
+-- the bytes are a file, and this is the text of its pattern in the form
+abbrev pub IsTextIn : Form → ℕ → List ℕ → List ℕ → Type 0
+IsTextIn Placed top bytes text = IsCanonical top bytes text
+IsTextIn Moved top bytes text = SaysText Moved (IsMovedText top) top bytes text
+IsTextIn Turned top bytes text = SaysText Turned (IsTurnedText top) top bytes text

@@ -1,13 +1,13 @@
 //! The texts of patterns in a form.
 
-ghost use Rattle.std.specs.Prelude.{◌≡◌, ◌^◌, IfOk, IfErr, List, ℕ};
+ghost use Rattle.std.specs.Prelude.{◌≡◌, ◌^◌, IfOk, IfErr, OnOk, List, ℕ};
 ghost use Rattle.pattern_sources.specs.Words.{source_run, fault_of, OrMemory, IsOfFile, IsRead, IsTrimmed, universe_in, HasLargeForm, IsMovedText, IsTextIn, ComesOf, RefusesInForm};
 
 use crate::patterns::{MOST_SQUARES, pattern_of};
 use crate::seeds::Seeds;
 use command_line::Form;
 use life_base::{Fault, Kind, MAX_LEVEL, Source};
-use life_canon::laws::patterns_fit;
+use life_canon::laws::{files_are_unique, patterns_fit};
 use life_canon::{Pattern, text_of};
 use life_forms::{moved_of, turned_text};
 use life_quad::Shared;
@@ -18,6 +18,7 @@ fn moved_text(alloc: Global, store: &Shared, pattern: &Pattern) -> Result<Vec<u8
     requires { IsTrimmed store.now pattern.now }
     ensures text { IfOk result
         (λ text. IsMovedText MAX_LEVEL (universe_in store.now pattern.now) text.items) }
+    ensures small { OnOk result (¬ HasLargeForm store.now pattern.now) }
     ensures fault { IfErr result (λ fault. OrMemory fault
         ((fault ≡ fault_of Kind.Full) × HasLargeForm store.now pattern.now)) }
 {
@@ -35,6 +36,7 @@ fn text_in(alloc: Global, store: &Shared, form: Form, pattern: &Pattern) -> Resu
         → IsRead MAX_LEVEL bytes store.now pattern.now → RefusesInForm form bytes fault)) }
 {
     patterns_fit();
+    files_are_unique();
     match form {
         Form::Placed => text_of(alloc, store, pattern),
         Form::Moved => moved_text(alloc, store, pattern),

@@ -1,7 +1,8 @@
 use Rattle.life_base.specs.declared.cell.TheConstants.{MAX_LEVEL}
 use Rattle.life_forms.specs.Images.{IsTurnedText}
 use Rattle.pattern_sources.specs.Forms.{IsMovedText}
-use Rattle.pattern_sources.proofs.FormLemmas.{placed_text, said_text, unmoved, unturned}
+use Rattle.command_line.specs.declared.plans.Form.TheVariants.{Moved, Turned}
+use Rattle.pattern_sources.proofs.FormLemmas.{placed_text, said_text, small_file, small_images, unmoved, unturned}
 use Rattle.pattern_sources.proofs.forms.text_in.Goals as goal
 
 pub returns-in-Placed-clause-text : goal.returns-in-Placed-clause-text
@@ -9,7 +10,8 @@ returns-in-Placed-clause-text c = rw c.in-Placed.is (placed_text c.patterns_fit.
 
 pub returns-in-Moved-clause-text : goal.returns-in-Moved-clause-text
 returns-in-Moved-clause-text c =
-    rw c.in-Moved.is (said_text c.patterns_fit.ensures _ _ (IsMovedText MAX_LEVEL) (λ text. text.items) c.moved_text.result c.moved_text.ensures.text)
+    rw c.in-Moved.is (said_text c.patterns_fit.ensures _ _ Moved (IsMovedText MAX_LEVEL) (λ text. text.items) c.moved_text.result c.moved_text.ensures.text
+    (small_file c.patterns_fit.ensures _ _ c.moved_text.result c.files_are_unique.ensures c.requires.limit c.moved_text.ensures.small))
 
 pub returns-in-Moved-clause-fault : goal.returns-in-Moved-clause-fault
 returns-in-Moved-clause-fault c =
@@ -17,7 +19,8 @@ returns-in-Moved-clause-fault c =
 
 pub returns-in-Turned-clause-text : goal.returns-in-Turned-clause-text
 returns-in-Turned-clause-text c =
-    rw c.in-Turned.is (said_text c.patterns_fit.ensures _ _ (IsTurnedText MAX_LEVEL) (λ text. text.items) c.turned_text.result c.turned_text.ensures.text)
+    rw c.in-Turned.is (said_text c.patterns_fit.ensures _ _ Turned (IsTurnedText MAX_LEVEL) (λ text. text.items) c.turned_text.result c.turned_text.ensures.text
+    (small_images c.patterns_fit.ensures _ _ c.turned_text.result c.files_are_unique.ensures c.requires.limit c.turned_text.ensures.small))
 
 pub returns-in-Turned-clause-fault : goal.returns-in-Turned-clause-fault
 returns-in-Turned-clause-fault c =
