@@ -91,7 +91,7 @@ is-answer false agree = inr (refl, λ p. let e : false ≡ true = agree.1 p in a
 
 -- two files that are compared where they lie
 pub placed-compares : (limit : ℕ) (first second : List ℕ) (it : Compared) → ComparesInForm Placed limit first second it → ComparesWithin limit first second it
-placed-compares limit first second it (in_form.by_answer status line one other answer) = placed.by_answer status line one other answer
+placed-compares limit first second it (in_form.by_answer status line one other small answer) = placed.by_answer status line one other answer
 placed-compares limit first second it (in_form.by_fault fault status line is_same why) = placed.by_fault fault status line is_same why
 
 -- a form that has the number, and none that has

@@ -25,7 +25,7 @@ use Rattle.life_forms.specs.Needed as layer
 use Rattle.life_forms.specs.Turns.{image}
 use Rattle.library_calls.specs.Texts.{NeedsMore, SomeToRead, room_of}
 use Rattle.library_calls.specs.Comparing.{IsTooLowForBoth, SomeToReadBoth}
-use Rattle.library_calls.specs.ComparingInForm.{AreOfOneGeneration, SayRelated, RefusesEitherInForm}
+use Rattle.library_calls.specs.ComparingInForm.{AreOfOneGeneration, HasTooLarge, SayRelated, RefusesEitherInForm}
 use Rattle.library_calls.specs.InForm.{form_room, HasLargeForm, IsTextMoved, IsTextTurned, RefusesInForm}
 use Rattle.library_calls.specs.declared.pattern_form.PatternForm.{PatternForm}
 use Rattle.library_calls.specs.declared.pattern_form.PatternForm.TheVariants.{Placed, Moved, Turned}
@@ -48,21 +48,26 @@ accepted-it bytes store pattern read = (read.universe, read.reads)
 -- ---- texts
 
 -- the text of a moved form is that of the file
-pub moved-text : PatternsFit MAX_LEVEL → (bytes : List ℕ) (store form : Nodes) (pattern moved : Pattern) (text : List ℕ) → IsRead MAX_LEVEL bytes store pattern
-    → IsMoved MAX_LEVEL (universe_in store pattern) (universe_in form moved) → text ≡ canon_text MAX_LEVEL (universe_in form moved) → IsTextMoved bytes text
-moved-text fit bytes store form pattern moved text read is_moved is = record {
+pub moved-text : PatternsFit MAX_LEVEL → (limit : ℕ) (bytes : List ℕ) (store form : Nodes) (pattern moved : Pattern) (text : List ℕ)
+    → store.limit ≡ room_of limit → IsRead MAX_LEVEL bytes store pattern → ¬ layer.HasLargeForm store pattern
+    → IsMoved MAX_LEVEL (universe_in store pattern) (universe_in form moved) → text ≡ canon_text MAX_LEVEL (universe_in form moved)
+    → IsTextMoved limit bytes text
+moved-text fit limit bytes store form pattern moved text room read small is_moved is = record {
   universe = universe_in store pattern;
   reads = reads-it fit bytes store pattern read;
+  small = subst (λ (n : ℕ). ¬ HasLargerForm (min (2 ^ 21) n) (universe_in store pattern)) room small;
   form = universe_in form moved;
   moved = is_moved;
   is = is;
 }
 
-pub turned-text : PatternsFit MAX_LEVEL → (bytes : List ℕ) (store : Nodes) (pattern : Pattern) (text : List ℕ) → IsRead MAX_LEVEL bytes store pattern
-    → IsTurnedText MAX_LEVEL (universe_in store pattern) text → IsTextTurned bytes text
-turned-text fit bytes store pattern text read turned = record {
+pub turned-text : PatternsFit MAX_LEVEL → (limit : ℕ) (bytes : List ℕ) (store : Nodes) (pattern : Pattern) (text : List ℕ)
+    → store.limit ≡ room_of limit → IsRead MAX_LEVEL bytes store pattern → ¬ layer.HasLargeImage store pattern
+    → IsTurnedText MAX_LEVEL (universe_in store pattern) text → IsTextTurned limit bytes text
+turned-text fit limit bytes store pattern text room read small turned = record {
   universe = universe_in store pattern;
   reads = reads-it fit bytes store pattern read;
+  small = λ turn large. small (turn, subst (λ (n : ℕ). HasLargerForm (min (2 ^ 21) n) (image turn (universe_in store pattern))) (sym room) large);
   turned = turned;
 }
 
@@ -82,6 +87,25 @@ large-image fit limit bytes store pattern room read large =
       u,
       reads-it fit bytes store pattern read,
       (large.0, subst (λ (n : ℕ). HasLargerForm (min (2 ^ 21) n) (image large.0 u)) room large.1),
+    )
+
+-- where the file of a pattern has one, the pattern has one
+file-large : FilesAreUnique MAX_LEVEL → PatternsFit MAX_LEVEL → (limit : ℕ) (bytes : List ℕ) (store : Nodes) (pattern : Pattern)
+    → store.limit ≡ room_of limit → IsRead MAX_LEVEL bytes store pattern → HasLargeForm Moved (form_room limit) bytes → layer.HasLargeForm store pattern
+file-large unique fit limit bytes store pattern room read large =
+    let u = universe_in store pattern in
+    let same = unique _ large.0 u large.1 (reads-it fit bytes store pattern read) in
+    subst (λ (n : ℕ). HasLargerForm (min (2 ^ 21) n) u) (sym room) (subst (λ (v : Universe). HasLargerForm (form_room limit) v) same large.2)
+
+image-large : FilesAreUnique MAX_LEVEL → PatternsFit MAX_LEVEL → (limit : ℕ) (bytes : List ℕ) (store : Nodes) (pattern : Pattern)
+    → store.limit ≡ room_of limit → IsRead MAX_LEVEL bytes store pattern → HasLargeForm Turned (form_room limit) bytes → layer.HasLargeImage store pattern
+image-large unique fit limit bytes store pattern room read large =
+    let u = universe_in store pattern in
+    let turn = large.2.0 in
+    let same = unique _ large.0 u large.1 (reads-it fit bytes store pattern read) in (
+      turn,
+      subst (λ (n : ℕ). HasLargerForm (min (2 ^ 21) n) (image turn u)) (sym room)
+          (subst (λ (v : Universe). HasLargerForm (form_room limit) (image turn v)) same large.2.1),
     )
 
 -- a pattern that isn't moved
@@ -199,6 +223,34 @@ of-one-generation fit first second store a b read other is = record {
   reads_second = reads-it fit second store b other;
   related = is;
 }
+
+one-generation : FilesAreUnique MAX_LEVEL → PatternsFit MAX_LEVEL → (first second : List ℕ) (store : Nodes) (a b : Pattern)
+    → IsRead MAX_LEVEL first store a → IsRead MAX_LEVEL second store b → SayRelated AreOfOneGeneration first second → a.generation ≡ b.generation
+one-generation unique fit first second store a b read other are =
+    let u = unique _ are.first (universe_in store a) are.reads_first (reads-it fit first store a read) in
+    let v = unique _ are.second (universe_in store b) are.reads_second (reads-it fit second store b other) in
+    sym (ap (λ (w : Universe). w.generation) u) ∙ are.related ∙ ap (λ (w : Universe). w.generation) v
+
+-- two patterns that were compared, moved, have forms that aren't too large
+pub small-moved : FilesAreUnique MAX_LEVEL → PatternsFit MAX_LEVEL → (limit : ℕ) (first second : List ℕ) (store : Nodes) (a b : Pattern)
+    → store.limit ≡ room_of limit → IsRead MAX_LEVEL first store a → IsRead MAX_LEVEL second store b
+    → (¬ layer.HasLargeForm store a) × (¬ layer.HasLargeForm store b) → ¬ HasTooLarge Moved (form_room limit) first second
+small-moved unique fit limit first second store a b room read other small = λ large. elim large.2 [
+  | inl it ↦ small.0 (file-large unique fit limit first store a room read it)
+  | inr it ↦ small.1 (file-large unique fit limit second store b room other it)
+]
+
+-- two that were compared, turned
+pub small-turned : FilesAreUnique MAX_LEVEL → PatternsFit MAX_LEVEL → (limit : ℕ) (first second : List ℕ) (store : Nodes) (a b : Pattern)
+    → store.limit ≡ room_of limit → IsRead MAX_LEVEL first store a → IsRead MAX_LEVEL second store b
+    → (a.generation ≡ b.generation → (¬ layer.HasLargeImage store a) × (¬ layer.HasLargeImage store b))
+    → ¬ HasTooLarge Turned (form_room limit) first second
+small-turned unique fit limit first second store a b room read other small = λ large.
+    let both = small (one-generation unique fit first second store a b read other large.0) in
+    elim large.1 [
+      | inl it ↦ both.0 (image-large unique fit limit first store a room read it)
+      | inr it ↦ both.1 (image-large unique fit limit second store b room other it)
+    ]
 
 -- two patterns that aren't moved
 pub either-unmoved : PatternsFit MAX_LEVEL → (limit : ℕ) (first second : List ℕ) (store : Nodes) (a b : Pattern) (fault : Fault)

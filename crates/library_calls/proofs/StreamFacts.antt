@@ -55,11 +55,12 @@ feeds-fault piece session feeding fault is why = record {
 }
 
 -- the text of the end
-pub ends-text : (session : Session) (feeding : Piecewise) (text : Vec ℕ) → session ≡ Reading feeding → IsTextOf feeding.output feeding.bytes text.items
+pub ends-text : (session : Session) (feeding : Piecewise) (text : Vec ℕ) → session ≡ Reading feeding
+    → ((limit : ℕ) → feeding.room ≡ room_of limit → IsTextOf feeding.output limit feeding.bytes text.items)
     → ((limit : ℕ) → feeding.room ≡ room_of limit → Fits (SomeToRead feeding.bytes) limit) → Finishes (Some session) (Some (Written text))
 ends-text session feeding text is good fits = record {
   ends = λ output limit bytes fed. let f = subst (IsFed output limit bytes) is fed in
-      by_text text.items refl (subst (λ b. IsTextOf output b text.items) f.2 (subst (λ k. IsTextOf k feeding.bytes text.items) f.0 good))
+      by_text text.items refl (subst (λ b. IsTextOf output limit b text.items) f.2 (subst (λ k. IsTextOf k limit feeding.bytes text.items) f.0 (good limit f.1)))
       (subst (λ b. Fits (SomeToRead b) limit) f.2 (fits limit f.1));
   stays = none-yet session feeding _ is;
 }

@@ -104,10 +104,10 @@ pub of-fault : {X : Type 0} {output that : Output} (store : Nodes) (pattern : Pa
 of-fault store pattern r is why = subst (λ (f : Output). IfErr r (RefusesTextOfRead f store pattern)) (sym is) why
 
 -- the text of a pattern in a form is that of its output
-pub in-form : (output : PatternForm) (bytes text : List ℕ) → IsTextOf (text_in output) bytes text → IsTextInForm output bytes text
-in-form forms.Placed bytes text is = is
-in-form forms.Moved bytes text is = is
-in-form forms.Turned bytes text is = is
+pub in-form : (output : PatternForm) (limit : ℕ) (bytes text : List ℕ) → IsTextOf (text_in output) limit bytes text → IsTextInForm output limit bytes text
+in-form forms.Placed limit bytes text is = is
+in-form forms.Moved limit bytes text is = is
+in-form forms.Turned limit bytes text is = is
 
 -- so is its refusal
 pub refused-in-form : (output : PatternForm) (limit : ℕ) (bytes : List ℕ) (fault : Fault) → RefusesTextOf (text_in output) limit bytes fault
@@ -117,8 +117,8 @@ refused-in-form forms.Moved limit bytes fault why = why
 refused-in-form forms.Turned limit bytes fault why = why
 
 pub answers-in-form : (output : PatternForm) (limit : ℕ) (bytes before after : List ℕ) (it : Told)
-    → Answers (IsTextOf (text_in output) bytes) (RefusesTextOf (text_in output) limit bytes) before after it
-    → Answers (IsTextInForm output bytes) (RefusesInForm output limit bytes) before after it
+    → Answers (IsTextOf (text_in output) limit bytes) (RefusesTextOf (text_in output) limit bytes) before after it
+    → Answers (IsTextInForm output limit bytes) (RefusesInForm output limit bytes) before after it
 answers-in-form forms.Placed limit bytes before after it answers = answers
 answers-in-form forms.Moved limit bytes before after it answers = answers
 answers-in-form forms.Turned limit bytes before after it answers = answers

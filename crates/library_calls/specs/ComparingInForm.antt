@@ -47,9 +47,10 @@ RefusesEitherInForm Moved limit first second fault =
 RefusesEitherInForm Turned limit first second fault =
     RefusesEither limit first second fault ⊎ ((fault ≡ fault_of Full) × HasTooLarge Turned (form_room limit) first second)
 
--- both are files, and the answer is told, 1 or 0; or the fault that keeps it from being found
+-- both are files with forms that aren't too large, and the answer is told, 1 or 0; or the fault that keeps it from being found
 pub data ComparesInForm (form : PatternForm) (limit : ℕ) (first second : List ℕ) (told : Compared) : Type 0 where
   by_answer : told.status ≡ 0 → told.line ≡ 0 → Accepted MAX_LEVEL first → Accepted MAX_LEVEL second
+      → ¬ HasTooLarge form (form_room limit) first second
       → ((told.is_same ≡ 1) × AreOneInForm form first second) ⊎ ((told.is_same ≡ 0) × (¬ AreOneInForm form first second))
       → ComparesInForm form limit first second told
   by_fault : (fault : Fault) → told.status ≡ kind_number fault.kind → told.line ≡ fault.place.line → told.is_same ≡ 0

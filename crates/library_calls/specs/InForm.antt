@@ -21,33 +21,35 @@ use Rattle.library_calls.specs.declared.pattern_form.PatternForm.TheVariants.{Pl
 abbrev pub form_numbered : ℕ → Option PatternForm
 form_numbered number = if number == 0 then Some Placed else (if number == 1 then Some Moved else (if number == 2 then Some Turned else None))
 
--- the bytes are a file, and the text is the canonical text of its pattern, moved
-pub record IsTextMoved (bytes text : List ℕ) : Type 0 where
+-- how many different squares a form has at most, by the limit that is asked for
+abbrev pub form_room : ℕ → ℕ
+form_room limit = min (2 ^ 21) (room_of limit)
+
+-- the bytes are a file whose pattern has no larger form, and the text is the canonical text of this pattern, moved
+pub record IsTextMoved (limit : ℕ) (bytes text : List ℕ) : Type 0 where
   pub universe : Universe
   pub reads : Reads MAX_LEVEL bytes universe
+  pub small : ¬ HasLargerForm (form_room limit) universe
   pub form : Universe
   pub moved : IsMoved MAX_LEVEL universe form
   pub is : text ≡ canon_text MAX_LEVEL form
 
--- the bytes are a file, and the text is that of its pattern, turned
-pub record IsTextTurned (bytes text : List ℕ) : Type 0 where
+-- the bytes are a file, no image of whose pattern has a larger form, and the text is that of this pattern, turned
+pub record IsTextTurned (limit : ℕ) (bytes text : List ℕ) : Type 0 where
   pub universe : Universe
   pub reads : Reads MAX_LEVEL bytes universe
+  pub small : (turn : Turn) → ¬ HasLargerForm (form_room limit) (image turn universe)
   pub turned : IsTurnedText MAX_LEVEL universe text
 
--- the text is the canonical text of the bytes' pattern in this form
-abbrev pub IsTextInForm : PatternForm → List ℕ → List ℕ → Type 0
-IsTextInForm Placed = IsCanonicalText
-IsTextInForm Moved = IsTextMoved
-IsTextInForm Turned = IsTextTurned
+-- the text is the canonical text of the bytes' pattern in this form, which is not too large by the limit that is asked for
+abbrev pub IsTextInForm : PatternForm → ℕ → List ℕ → List ℕ → Type 0
+IsTextInForm Placed limit = IsCanonicalText
+IsTextInForm Moved limit = IsTextMoved limit
+IsTextInForm Turned limit = IsTextTurned limit
 
 -- the key is the SHA-256 of this text
-abbrev pub IsKeyInForm : PatternForm → List ℕ → List ℕ → Type 0
-IsKeyInForm form bytes key = (text : List ℕ) × IsTextInForm form bytes text × (key ≡ sha256 text)
-
--- how many different squares a form has at most, by the limit that is asked for
-abbrev pub form_room : ℕ → ℕ
-form_room limit = min (2 ^ 21) (room_of limit)
+abbrev pub IsKeyInForm : PatternForm → ℕ → List ℕ → List ℕ → Type 0
+IsKeyInForm form limit bytes key = (text : List ℕ) × IsTextInForm form limit bytes text × (key ≡ sha256 text)
 
 -- the bytes are a file, and the moved form of its pattern has more different squares than this; turned, that of one of its eight images
 abbrev pub HasLargeForm : PatternForm → ℕ → List ℕ → Type 0
@@ -69,6 +71,6 @@ pub record TellsNoForm (before after : List ℕ) (it : Told) : Type 0 where
   pub kept : after ≡ before
 
 -- what a call that takes the number of a form answers: such a text of the bytes in that form, or why they have none; or that no form has the number
-abbrev pub AnswersInForm : (IsText : PatternForm → List ℕ → List ℕ → Type 0) → (number limit : ℕ) (bytes before after : List ℕ) → Told → Type 0
+abbrev pub AnswersInForm : (IsText : PatternForm → ℕ → List ℕ → List ℕ → Type 0) → (number limit : ℕ) (bytes before after : List ℕ) → Told → Type 0
 AnswersInForm IsText number limit bytes before after it =
-    MatchOption (form_numbered number) (TellsNoForm before after it) (λ form. Answers (IsText form bytes) (RefusesInForm form limit bytes) before after it)
+    MatchOption (form_numbered number) (TellsNoForm before after it) (λ form. Answers (IsText form limit bytes) (RefusesInForm form limit bytes) before after it)

@@ -20,14 +20,14 @@ use Rattle.library_calls.specs.declared.texts.Output.TheVariants.{Canonical, Rle
 use Rattle.library_calls.specs.declared.pattern_form.PatternForm.{PatternForm}
 use Rattle.library_calls.specs.declared.pattern_form.PatternForm.TheVariants as forms
 
--- the text is this output of the bytes
-abbrev pub IsTextOf : Output → List ℕ → List ℕ → Type 0
-IsTextOf Canonical = IsCanonicalText
-IsTextOf Rle = IsRleText
-IsTextOf Lines = IsShown MAX_LEVEL
-IsTextOf Next = IsStepped
-IsTextOf Moved = IsTextMoved
-IsTextOf Turned = IsTextTurned
+-- the text is this output of the bytes, within a limit of the store
+abbrev pub IsTextOf : Output → ℕ → List ℕ → List ℕ → Type 0
+IsTextOf Canonical limit = IsCanonicalText
+IsTextOf Rle limit = IsRleText
+IsTextOf Lines limit = IsShown MAX_LEVEL
+IsTextOf Next limit = IsStepped
+IsTextOf Moved limit = IsTextMoved limit
+IsTextOf Turned limit = IsTextTurned limit
 
 -- why the bytes have none, within a limit of the store
 abbrev pub RefusesTextOf : Output → ℕ → List ℕ → Fault → Type 0
@@ -38,9 +38,10 @@ RefusesTextOf Next = RefusesStepWithin
 RefusesTextOf Moved = RefusesInForm forms.Moved
 RefusesTextOf Turned = RefusesInForm forms.Turned
 
--- the text is this output of each file that was read as this pattern of the store
+-- the text is this output of each file that was read as this pattern of the store, within its limit
 abbrev pub IsTextOfRead : Output → Nodes → Pattern → List ℕ → Type 0
-IsTextOfRead output store pattern text = (bytes : List ℕ) → IsRead MAX_LEVEL bytes store pattern → IsTextOf output bytes text
+IsTextOfRead output store pattern text =
+    (limit : ℕ) (bytes : List ℕ) → store.limit ≡ room_of limit → IsRead MAX_LEVEL bytes store pattern → IsTextOf output limit bytes text
 
 -- why those files have none whose squares alone the store holds, within its limit
 abbrev pub RefusesTextOfRead : Output → Nodes → Pattern → Fault → Type 0

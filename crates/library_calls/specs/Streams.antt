@@ -53,7 +53,7 @@ pub data Takes (output : Output) (limit : ℕ) (bytes : List ℕ) (session : Ses
 
 -- what the end makes of it: the text of the bytes, which need no more squares than the limit; or their fault
 pub data Ends (output : Output) (limit : ℕ) (bytes : List ℕ) (session : Session) : Type 0 where
-  by_text : (text : List ℕ) → HasText text session → IsTextOf output bytes text → Fits (SomeToRead bytes) limit → Ends output limit bytes session
+  by_text : (text : List ℕ) → HasText text session → IsTextOf output limit bytes text → Fits (SomeToRead bytes) limit → Ends output limit bytes session
   by_fault : (fault : Fault) → HasFault fault session → RefusesTextOf output limit bytes fault → Ends output limit bytes session
 
 -- a session that has a text or a fault keeps it

@@ -1,9 +1,9 @@
 -- The words of the contracts of this crate.
 pub use Rattle.library_calls.specs.Texts.{Fits, IsCanonicalText, IsFresh, IsRleText, NeedsMore, RefusesRleWithin, RefusesWithin, room_of, SomeToRead, TellsText}
 pub use Rattle.library_calls.specs.Comparing.{compared, ComparesWithin, IsTooLowForBoth, SomeToReadBoth}
-pub use Rattle.library_calls.specs.ComparingInForm.{AreOneInForm, ComparesInForm, ComparesInNone, RefusesEitherInForm}
+pub use Rattle.library_calls.specs.ComparingInForm.{AreOneInForm, ComparesInForm, ComparesInNone, HasTooLarge, RefusesEitherInForm}
 pub use Rattle.library_calls.specs.Outputs.{IsTextOf, IsTextOfRead, RefusesPiece, RefusesTextOf, RefusesTextOfRead, text_in}
-pub use Rattle.library_calls.specs.InForm.{form_numbered, IsKeyInForm, IsTextInForm, AnswersInForm}
+pub use Rattle.library_calls.specs.InForm.{form_numbered, form_room, IsKeyInForm, IsTextInForm, AnswersInForm}
 pub use Rattle.library_calls.specs.Stepping.{RefusesStepByWithin, RefusesStepWithin, StepsByTable}
 pub use Rattle.library_calls.specs.Streams.{Feeds, Finishes, IsSpent, key_digits, Opens, session_of, TellsEnd, TellsKey, TellsNothing, TellsPiece}
 pub use Rattle.library_calls.specs.Told.{Answers, Gives, Tells, told}

@@ -1,7 +1,7 @@
 //! The call that compares two files in a form.
 
 ghost use Rattle.std.specs.Prelude.{◌≡◌, ◌↔◌, ◌⊎◌, ℕ, [], Err, IfOk, IfErr, OnOk, IsTrue, MatchOption};
-ghost use Rattle.library_calls.specs.Words.{fault_of, MAX_LEVEL, Full, held, Accepted, Refuses, IsRead, IsWant, IsFresh, AddsOnly, Fits, IsTooLowForBoth, NeedsMore, SomeToReadBoth, form_numbered, AreOneInForm, RefusesEitherInForm, ComparesInForm, ComparesInNone};
+ghost use Rattle.library_calls.specs.Words.{fault_of, MAX_LEVEL, Full, held, Accepted, Refuses, IsRead, IsWant, IsFresh, AddsOnly, Fits, IsTooLowForBoth, NeedsMore, SomeToReadBoth, form_numbered, form_room, AreOneInForm, HasTooLarge, RefusesEitherInForm, ComparesInForm, ComparesInNone};
 
 use crate::compared::Compared;
 use crate::in_form::{NO_FORM, form_of};
@@ -62,6 +62,8 @@ fn are_one(
     ensures accepted { OnOk result (Accepted MAX_LEVEL first.now × Accepted MAX_LEVEL second.now) }
     ensures answer { IfOk result
         (λ answer. IsTrue answer ↔ AreOneInForm form first.now second.now) }
+    ensures small { OnOk result ((limit : ℕ) → IsFresh limit store.old
+        → ¬ HasTooLarge form (form_room limit) first.now second.now) }
     ensures fits { OnOk result ((limit : ℕ) → IsFresh limit store.old
         → Fits (SomeToReadBoth first.now second.now) limit) }
     ensures fault { IfErr result (λ fault. (limit : ℕ) → IsFresh limit store.old

@@ -75,7 +75,8 @@ impl Feeding {
 
     /// The text of the file whose pieces came.
     pub(crate) fn text(self, alloc: Global) -> Result<Vec<u8>, Fault>
-        ensures text { IfOk result (λ text. IsTextOf self.output self.bytes text.items) }
+        ensures text { IfOk result (λ text. (limit : ℕ) → self.room ≡ room_of limit
+            → IsTextOf self.output limit self.bytes text.items) }
         ensures fits { OnOk result ((limit : ℕ) → self.room ≡ room_of limit
             → Fits (SomeToRead self.bytes) limit) }
         ensures fault { IfErr result (λ fault. (limit : ℕ) → self.room ≡ room_of limit

@@ -73,7 +73,8 @@ pub(crate) fn text_of_file(
     output: Output,
     options: Options,
 ) -> Result<Vec<u8>, Fault>
-    ensures text { IfOk result (λ text. IsTextOf output bytes.now text.items) }
+    ensures text { IfOk result
+        (λ text. IsTextOf output options.limit bytes.now text.items) }
     ensures fits { OnOk result (Fits (SomeToRead bytes.now) options.limit) }
     ensures fault { IfErr result (RefusesTextOf output options.limit bytes.now) }
 {
@@ -93,7 +94,7 @@ pub(crate) fn answer(
     options: Options,
     out: &mut [u8],
 ) -> Told
-    ensures answers { Answers (IsTextOf output bytes.now)
+    ensures answers { Answers (IsTextOf output options.limit bytes.now)
         (RefusesTextOf output options.limit bytes.now) out.old out.new result }
     ensures fits { TellsText result → Fits (SomeToRead bytes.now) options.limit }
 {

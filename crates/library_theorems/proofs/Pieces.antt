@@ -59,17 +59,17 @@ of_all stay limit pieces k fault (inr w) = inr (want_below (IsTooLowForFront (jo
 
 module _ (output : Output) (limit : ℕ) (bytes : List ℕ) (before after : List ℕ) (told : Told) where
   end_told : (session : Session) → Ends output limit bytes session → TellsEnd before after told session
-      → Answers (IsTextOf output bytes) (IsEndFault output limit bytes) before after told
+      → Answers (IsTextOf output limit bytes) (IsEndFault output limit bytes) before after told
   end_told (Reading feeding) (streams.by_text text has good fits) tells = absurd has
   end_told (Reading feeding) (streams.by_fault fault has why) tells = absurd has
   end_told (Written written) (streams.by_text text has good fits) tells =
-      by_text written.items (subst (IsTextOf output bytes) (sym has) good) tells.0 tells.1
+      by_text written.items (subst (IsTextOf output limit bytes) (sym has) good) tells.0 tells.1
   end_told (Written written) (streams.by_fault fault has why) tells = absurd has
   end_told (Refused it) (streams.by_text text has good fits) tells = absurd has
   end_told (Refused it) (streams.by_fault fault has why) tells = by_fault it (inr (subst (RefusesTextOf output limit bytes) (sym has) why)) tells
 
   fault_told : (session : Session) (fault : Fault) → HasFault fault session → IsUnreadWithin limit bytes fault → TellsEnd before after told session
-      → Answers (IsTextOf output bytes) (IsEndFault output limit bytes) before after told
+      → Answers (IsTextOf output limit bytes) (IsEndFault output limit bytes) before after told
   fault_told (Reading feeding) fault has why tells = absurd has
   fault_told (Written written) fault has why tells = absurd has
   fault_told (Refused it) fault has why tells = by_fault it (inl (subst (IsUnreadWithin limit bytes) (sym has) why)) tells
@@ -79,18 +79,18 @@ pub told_at_end : FaultsStay 62 → (output : Output) (limit : ℕ) (pieces : Li
     → length pieces ≤ n
     → (IsOpen (IsFed output limit (joined pieces)) old → IsOpen (Ends output limit (joined pieces)) new)
     → ((fault : Fault) → IsOpen (HasFault fault) old → IsOpen (HasFault fault) new) → IfSome new (TellsEnd before after told) → Took output limit pieces n old
-    → Answers (IsTextOf output (joined pieces)) (IsEndFault output limit (joined pieces)) before after told
+    → Answers (IsTextOf output limit (joined pieces)) (IsEndFault output limit (joined pieces)) before after told
 told_at_end stay output limit pieces n old new before after told all ends stays tells (fed whole) =
     by new (ends (subst (λ (bytes : List ℕ). IsOpen (IsFed output limit bytes) old) (joined_all pieces n all) whole)) tells
   where
     by : (it : Option Session) → IsOpen (Ends output limit (joined pieces)) it → IfSome it (TellsEnd before after told)
-        → Answers (IsTextOf output (joined pieces)) (IsEndFault output limit (joined pieces)) before after told
+        → Answers (IsTextOf output limit (joined pieces)) (IsEndFault output limit (joined pieces)) before after told
     by None h t = absurd h
     by (Some session) h t = end_told output limit (joined pieces) before after told session h t
 told_at_end stay output limit pieces n old new before after told all ends stays tells (refused k fault has why) = by new (stays fault has) tells
   where
     by : (it : Option Session) → IsOpen (HasFault fault) it → IfSome it (TellsEnd before after told)
-        → Answers (IsTextOf output (joined pieces)) (IsEndFault output limit (joined pieces)) before after told
+        → Answers (IsTextOf output limit (joined pieces)) (IsEndFault output limit (joined pieces)) before after told
     by None h t = absurd h
     by (Some session) h t = fault_told output limit (joined pieces) before after told session fault h (of_all stay limit pieces k fault why) t
 

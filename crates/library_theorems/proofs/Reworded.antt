@@ -55,18 +55,18 @@ reworded (by_text t is gives none) text fault = by_text t (text t is) gives none
 reworded (by_fault f why tells) text fault = by_fault f (fault f why) tells
 
 -- what is told for this output is told for that one, which it is
-pub of_form : {output that : Output} {IsFault : Fault → Type 0} {before after : List ℕ} {told : Told} → output ≡ that → (file : List ℕ)
-    → Answers (IsTextOf output file) IsFault before after told → Answers (IsTextOf that file) IsFault before after told
-of_form {IsFault = IsFault} {before = before} {after = after} {told = told} is file =
-    subst (λ (f : Output). Answers (IsTextOf f file) IsFault before after told) is
+pub of_form : {output that : Output} {IsFault : Fault → Type 0} {before after : List ℕ} {told : Told} → output ≡ that → (limit : ℕ) (file : List ℕ)
+    → Answers (IsTextOf output limit file) IsFault before after told → Answers (IsTextOf that limit file) IsFault before after told
+of_form {IsFault = IsFault} {before = before} {after = after} {told = told} is limit file =
+    subst (λ (f : Output). Answers (IsTextOf f limit file) IsFault before after told) is
 
 -- the end of a stream for that output tells what its texts and its faults imply
 pub ended_so : {output that : Output} {IsOther : List ℕ → Type 0} {IsOtherFault : Fault → Type 0} {before after : List ℕ} {told : Told} → output ≡ that
-    → (limit : ℕ) (file : List ℕ) → Answers (IsTextOf output file) (IsEndFault output limit file) before after told
-    → ((text : List ℕ) → IsTextOf that file text → IsOther text) → ((fault : Fault) → IsUnreadWithin limit file fault → IsOtherFault fault)
+    → (limit : ℕ) (file : List ℕ) → Answers (IsTextOf output limit file) (IsEndFault output limit file) before after told
+    → ((text : List ℕ) → IsTextOf that limit file text → IsOther text) → ((fault : Fault) → IsUnreadWithin limit file fault → IsOtherFault fault)
     → ((fault : Fault) → RefusesTextOf that limit file fault → IsOtherFault fault) → Answers IsOther IsOtherFault before after told
 ended_so {before = before} {after = after} {told = told} is limit file answers text unread refused =
-    reworded (subst (λ (f : Output). Answers (IsTextOf f file) (IsEndFault f limit file) before after told) is answers) text
+    reworded (subst (λ (f : Output). Answers (IsTextOf f limit file) (IsEndFault f limit file) before after told) is answers) text
     (λ fault why. elim why [ inl u ↦ unread fault u | inr r ↦ refused fault r ])
 
 -- ---- texts

@@ -16,7 +16,7 @@ use std::alloc::Global;
 fn told_of_pieces(alloc: Global, stream: &mut Stream, pieces: &[Vec<u8>], out: &mut [u8]) -> Told
     ensures { (output : OutputValue) (limit : ℕ)
         → IsOpen (IsFed output limit []) (session_of stream.old)
-        → Answers (IsTextOf output (joined pieces.now))
+        → Answers (IsTextOf output limit (joined pieces.now))
         (IsEndFault output limit (joined pieces.now))
         out.old out.new result }
 {

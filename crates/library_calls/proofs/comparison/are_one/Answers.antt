@@ -3,11 +3,12 @@ use Rattle.std.specs.Prelude.{◌↔◌, IsTrue}
 use Rattle.std.proofs.lemmas.Result.{IfOk-weaker, IfErr-weaker, err_from_is_err_and}
 use Rattle.life_forms.specs.Forms.{IsShift, IsTurnedShift}
 use Rattle.library_calls.specs.Comparing.{SomeToReadBoth}
-use Rattle.library_calls.specs.ComparingInForm.{AreOneInForm, RefusesEitherInForm}
+use Rattle.library_calls.specs.ComparingInForm.{AreOneInForm, HasTooLarge, RefusesEitherInForm}
+use Rattle.library_calls.specs.InForm.{form_room}
 use Rattle.library_calls.specs.Texts.{NeedsMore}
 use Rattle.library_calls.specs.declared.pattern_form.PatternForm.{PatternForm}
 use Rattle.library_calls.proofs.Answering.{of-any}
-use Rattle.library_calls.proofs.FormFacts.{accepted-it, reads-it, either-unread, either-unmoved, either-unturned, files-told}
+use Rattle.library_calls.proofs.FormFacts.{accepted-it, reads-it, either-unread, either-unmoved, either-unturned, files-told, small-moved, small-turned}
 use Rattle.library_calls.proofs.NeedFacts.{where-ok}
 use Rattle.library_calls.proofs.comparison.are_one.Goals as goal
 
@@ -57,6 +58,24 @@ returns-in-Moved-clause-answer c =
     (IfOk-weaker c.are_shifts.result _ _ (λ answer told. files-told c.files_are_unique.ensures IsShift c.args.first.now c.args.second.now _ _ answer
     (reads-it c.patterns_fit.ensures _ _ _ c.in_ok-a.ensures.one) (reads-it c.patterns_fit.ensures _ _ _ c.in_ok-a.ensures.other) told)
     c.are_shifts.ensures.answer)
+
+pub returns-in-Placed-clause-small : goal.returns-in-Placed-clause-small
+returns-in-Placed-clause-small c =
+    λ limit fresh. subst (λ (f : PatternForm). ¬ HasTooLarge f (form_room limit) c.args.first.now c.args.second.now) (sym c.in-Placed.is) (λ large. large)
+
+pub returns-in-Moved-clause-small : goal.returns-in-Moved-clause-small
+returns-in-Moved-clause-small c =
+    IfOk-weaker c.are_shifts.result _ _ (λ answer small limit fresh.
+    subst (λ (f : PatternForm). ¬ HasTooLarge f (form_room limit) c.args.first.now c.args.second.now) (sym c.in-Moved.is)
+    (small-moved c.files_are_unique.ensures c.patterns_fit.ensures limit c.args.first.now c.args.second.now c.read_both.new.store _ _
+    (c.read_both.ensures.limit ∙ fresh.most) c.in_ok-a.ensures.one c.in_ok-a.ensures.other small)) c.are_shifts.ensures.small
+
+pub returns-clause-small : goal.returns-clause-small
+returns-clause-small c =
+    IfOk-weaker c.are_turns.result _ _ (λ answer small limit fresh.
+    subst (λ (f : PatternForm). ¬ HasTooLarge f (form_room limit) c.args.first.now c.args.second.now) (sym c.in-Turned.is)
+    (small-turned c.files_are_unique.ensures c.patterns_fit.ensures limit c.args.first.now c.args.second.now c.read_both.new.store _ _
+    (c.read_both.ensures.limit ∙ fresh.most) c.in_ok-a.ensures.one c.in_ok-a.ensures.other small)) c.are_turns.ensures.small
 
 pub returns-in-Placed-clause-fits : goal.returns-in-Placed-clause-fits
 returns-in-Placed-clause-fits c =

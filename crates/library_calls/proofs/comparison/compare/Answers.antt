@@ -6,7 +6,8 @@ use Rattle.library_calls.proofs.comparison.compare.Goals as goal
 pub returns-in-Ok-clause-compares : goal.returns-in-Ok-clause-compares
 returns-in-Ok-clause-compares c =
     subst (ComparesInForm c.args.form c.args.options.limit c.args.first.now c.args.second.now) (sym c.of.ensures)
-    (by_answer refl refl c.in-Ok.ensures.accepted.0 c.in-Ok.ensures.accepted.1 (is-answer c.in-Ok.answer c.in-Ok.ensures.answer))
+    (by_answer refl refl c.in-Ok.ensures.accepted.0 c.in-Ok.ensures.accepted.1
+    (c.in-Ok.ensures.small c.args.options.limit c.new_store-store.ensures) (is-answer c.in-Ok.answer c.in-Ok.ensures.answer))
 
 pub returns-in-Ok-clause-fits : goal.returns-in-Ok-clause-fits
 returns-in-Ok-clause-fits c = λ status. c.in-Ok.ensures.fits c.args.options.limit c.new_store-store.ensures

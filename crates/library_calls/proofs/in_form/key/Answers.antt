@@ -11,8 +11,8 @@ pub returns-in-Ok-clause-answers : goal.returns-in-Ok-clause-answers
 returns-in-Ok-clause-answers c =
     at-form _ _ _ c.in-Some.form (sym c.form_of.ensures ∙ c.in-Some.is) (by_text c.digest.result (
       c.in-Ok.text.items,
-      in-form c.in-Some.form c.args.bytes.now c.in-Ok.text.items
-          (subst (λ (f : Output). IsTextOf f c.args.bytes.now c.in-Ok.text.items) c.text_in.ensures c.in-Ok.ensures.text),
+      in-form c.in-Some.form c.args.options.limit c.args.bytes.now c.in-Ok.text.items
+          (subst (λ (f : Output). IsTextOf f c.args.options.limit c.args.bytes.now c.in-Ok.text.items) c.text_in.ensures c.in-Ok.ensures.text),
       c.digest.ensures ∙ ap sha256 c.as_slice.ensures.value,
     ) c.give.ensures.gives c.give.ensures.line)
 

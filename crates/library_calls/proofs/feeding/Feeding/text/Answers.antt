@@ -30,8 +30,8 @@ returns-in_err-pattern-clause-fault c =
 
 pub returns-clause-text : goal.returns-clause-text
 returns-clause-text c =
-    IfOk-weaker c.text_of_read.result _ _ (λ text is. subst (λ (v : Piecewise). IsTextOf v.output v.bytes text.items) c.self.view_is
-    (is c.self.inside.reader.bytes
+    IfOk-weaker c.text_of_read.result _ _ (λ text is limit room. subst (λ (v : Piecewise). IsTextOf v.output limit v.bytes text.items) c.self.view_is
+    (is limit c.self.inside.reader.bytes (c.finish-found.ensures.ends.keeps.limit ∙ ap (λ (v : Piecewise). v.room) c.self.view_is ∙ room)
     (if-ok (λ pattern. (c.self.inside.reader.spent ≡ false) × IsRead MAX_LEVEL c.self.inside.reader.bytes c.finish-found.new.store pattern)
     c.finish-found.result c.in_ok-pattern.pattern c.in_ok-pattern.was c.finish-found.ensures.pattern).1)) c.text_of_read.ensures.text
 
