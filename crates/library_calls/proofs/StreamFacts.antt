@@ -60,7 +60,8 @@ pub ends-text : (session : Session) (feeding : Piecewise) (text : Vec ℕ) → s
     → ((limit : ℕ) → feeding.room ≡ room_of limit → Fits (SomeToRead feeding.bytes) limit) → Finishes (Some session) (Some (Written text))
 ends-text session feeding text is good fits = record {
   ends = λ output limit bytes fed. let f = subst (IsFed output limit bytes) is fed in
-      by_text text.items refl (subst (λ b. IsTextOf output limit b text.items) f.2 (subst (λ k. IsTextOf k limit feeding.bytes text.items) f.0 (good limit f.1)))
+      by_text text.items refl (subst (λ b. IsTextOf output limit b text.items) f.2
+      (subst (λ k. IsTextOf k limit feeding.bytes text.items) f.0 (good limit f.1)))
       (subst (λ b. Fits (SomeToRead b) limit) f.2 (fits limit f.1));
   stays = none-yet session feeding _ is;
 }

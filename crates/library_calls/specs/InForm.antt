@@ -73,4 +73,5 @@ pub record TellsNoForm (before after : List ℕ) (it : Told) : Type 0 where
 -- what a call that takes the number of a form answers: such a text of the bytes in that form, or why they have none; or that no form has the number
 abbrev pub AnswersInForm : (IsText : PatternForm → ℕ → List ℕ → List ℕ → Type 0) → (number limit : ℕ) (bytes before after : List ℕ) → Told → Type 0
 AnswersInForm IsText number limit bytes before after it =
-    MatchOption (form_numbered number) (TellsNoForm before after it) (λ form. Answers (IsText form limit bytes) (RefusesInForm form limit bytes) before after it)
+    MatchOption (form_numbered number) (TellsNoForm before after it)
+    (λ form. Answers (IsText form limit bytes) (RefusesInForm form limit bytes) before after it)

@@ -10,5 +10,6 @@ pub returns-clause-answers : goal.returns-clause-answers
 returns-clause-answers c =
     at-form _ _ _ c.in-Some.form (sym c.form_of.ensures ∙ c.in-Some.is)
     (answers-in-form c.in-Some.form c.args.options.limit c.args.bytes.now _ _ _
-    (subst (λ (f : Output). Answers (IsTextOf f c.args.options.limit c.args.bytes.now) (RefusesTextOf f c.args.options.limit c.args.bytes.now) c.args.out.now c.answer.new.out
+    (subst (λ (f : Output). Answers (IsTextOf f c.args.options.limit c.args.bytes.now)
+    (RefusesTextOf f c.args.options.limit c.args.bytes.now) c.args.out.now c.answer.new.out
     c.answer.result) c.text_in.ensures c.answer.ensures.answers))

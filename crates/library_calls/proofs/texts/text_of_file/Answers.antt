@@ -27,7 +27,8 @@ returns-in_err-pattern-clause-fault c =
 
 pub returns-clause-text : goal.returns-clause-text
 returns-clause-text c =
-    IfOk-weaker c.text_of_read.result _ _ (λ text is. is c.args.options.limit c.args.bytes.now (c.read-found.ensures.reads.keeps.limit ∙ c.new_store-store.ensures.most)
+    IfOk-weaker c.text_of_read.result _ _ (λ text is. is c.args.options.limit c.args.bytes.now
+    (c.read-found.ensures.reads.keeps.limit ∙ c.new_store-store.ensures.most)
     (if-ok (IsRead MAX_LEVEL c.args.bytes.now c.read-found.new.store) c.read-found.result c.in_ok-pattern.pattern c.in_ok-pattern.was
     c.read-found.ensures.pattern)) c.text_of_read.ensures.text
 

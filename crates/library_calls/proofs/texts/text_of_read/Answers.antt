@@ -19,7 +19,8 @@ turned_text-requires c = (c.patterns_fit.ensures _ c.args.store.now c.args.patte
 pub returns-in-Canonical-clause-text : goal.returns-in-Canonical-clause-text
 returns-in-Canonical-clause-text c =
     of-form c.args.store.now c.args.pattern (λ text. text.items) c.text_of.result c.in-Canonical.is
-    (IfOk-weaker c.text_of.result _ _ (λ text is limit bytes room read. canonical c.patterns_fit.ensures c.files_are_on_plane.ensures c.texts_tell_universes.ensures
+    (IfOk-weaker c.text_of.result _ _ (λ text is limit bytes room read.
+    canonical c.patterns_fit.ensures c.files_are_on_plane.ensures c.texts_tell_universes.ensures
     c.texts_are_files.ensures c.canonical_is_least.ensures bytes c.args.store.now c.args.pattern text.items is read) c.text_of.ensures.text)
 
 pub returns-in-Canonical-clause-fault : goal.returns-in-Canonical-clause-fault
