@@ -1,5 +1,5 @@
 -- From patterns in a store that are compared in a form to their files.
-use Rattle.std.proofs.Common.{◌≡◌, ◌↔◌, ◌∙◌, ℕ, ◌^◌, ◌⊎◌, inl, inr, ap, sym, subst, Bool, List, Result, Ok, Err, IfOk, IfErr, IsTrue}
+use Rattle.std.proofs.Common.{◌≡◌, ◌↔◌, ◌∙◌, ℕ, ◌^◌, ◌⊎◌, inl, inr, ap, sym, subst, Bool, List, Result, Ok, Err, IfOk, IfErr, OnOk, IsTrue}
 use Rattle.life_base.specs.Refusal.{OrMemory, fault_of}
 use Rattle.life_base.specs.Rules.{IsRule}
 use Rattle.life_base.specs.Text.{lines_of}
@@ -12,11 +12,11 @@ use Rattle.life_canon.specs.Store.{IsRead, universe_in}
 use Rattle.life_canon.specs.Universe.{Universe}
 use Rattle.life_canon.specs.declared.pattern.Pattern.{Pattern}
 use Rattle.life_forms.specs.Needed.{HasLargeForm, HasLargeImage}
-use Rattle.life_cli.specs.Forms.{AreOfOneGeneration, SayRelated}
+use Rattle.life_cli.specs.Forms.{AreOfOneGeneration, HasTooLarge, SayRelated}
 use Rattle.life_cli.specs.Jobs.{RefusesSame}
 use Rattle.pattern_sources.specs.Forms as files
 use Rattle.command_line.specs.declared.plans.Form.TheVariants.{Moved, Turned}
-use Rattle.pattern_sources.proofs.FormLemmas.{large_file, large_image, said}
+use Rattle.pattern_sources.proofs.FormLemmas.{large_file, large_image, large_pattern, large_turn, said}
 
 -- what two patterns are to each other, their files are
 module _ (fit : PatternsFit MAX_LEVEL) (unique : FilesAreUnique MAX_LEVEL) (store : Nodes) (p q : Pattern) where
@@ -50,6 +50,40 @@ module _ (fit : PatternsFit MAX_LEVEL) (unique : FilesAreUnique MAX_LEVEL) (stor
     reads_second = b.reads;
     related = ap (λ (u : Universe). u.generation) (said fit store p first a) ∙ is ∙ sym (ap (λ (u : Universe). u.generation) (said fit store q second b));
   }
+
+  -- two patterns are of one generation if their files are
+  one_generation : (first second : List ℕ) → IsRead MAX_LEVEL first store p → IsRead MAX_LEVEL second store q
+      → SayRelated AreOfOneGeneration MAX_LEVEL first second → p.generation ≡ q.generation
+  one_generation first second a b s =
+      let one = unique (lines_of first) s.first a.universe s.reads_first a.reads ∙ said fit store p first a in
+      let two = unique (lines_of second) s.second b.universe s.reads_second b.reads ∙ said fit store q second b in
+      sym (ap (λ (u : Universe). u.generation) one) ∙ s.related ∙ ap (λ (u : Universe). u.generation) two
+
+  -- where they were compared, neither file has too large a form
+  pub small_shifted : (r : Result Bool Fault) → store.limit ≡ 2 ^ 31 → OnOk r (¬ HasLargeForm store p × ¬ HasLargeForm store q)
+      → OnOk r ((first second : List ℕ) → IsRead MAX_LEVEL first store p → IsRead MAX_LEVEL second store q
+      → ¬ HasTooLarge Moved MAX_LEVEL first second)
+  small_shifted (Ok answer) limit small = λ first second a b large. neither first second a b large
+    where
+      neither : (first second : List ℕ) → IsRead MAX_LEVEL first store p → IsRead MAX_LEVEL second store q
+          → files.HasLargeForm Moved MAX_LEVEL first ⊎ files.HasLargeForm Moved MAX_LEVEL second → ⊥
+      neither first second a b (inl it) = small.0 (large_pattern fit store p unique limit first a it)
+      neither first second a b (inr it) = small.1 (large_pattern fit store q unique limit second b it)
+  small_shifted (Err fault) limit small = tt
+
+  pub small_turned : (r : Result Bool Fault) → store.limit ≡ 2 ^ 31
+      → OnOk r (p.generation ≡ q.generation → ¬ HasLargeImage store p × ¬ HasLargeImage store q)
+      → OnOk r ((first second : List ℕ) → IsRead MAX_LEVEL first store p → IsRead MAX_LEVEL second store q
+      → ¬ HasTooLarge Turned MAX_LEVEL first second)
+  small_turned (Ok answer) limit small =
+      λ first second a b large. neither first second a b (small (one_generation first second a b large.0)) large.1
+    where
+      neither : (first second : List ℕ) → IsRead MAX_LEVEL first store p → IsRead MAX_LEVEL second store q
+          → ¬ HasLargeImage store p × ¬ HasLargeImage store q
+          → files.HasLargeForm Turned MAX_LEVEL first ⊎ files.HasLargeForm Turned MAX_LEVEL second → ⊥
+      neither first second a b none (inl it) = none.0 (large_turn fit store p unique limit first a it)
+      neither first second a b none (inr it) = none.1 (large_turn fit store q unique limit second b it)
+  small_turned (Err fault) limit small = tt
 
   -- why two files aren't compared
   pub unshifted : (r : Result Bool Fault) → store.limit ≡ 2 ^ 31

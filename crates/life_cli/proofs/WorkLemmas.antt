@@ -37,7 +37,7 @@ use Rattle.pattern_sources.specs.declared.refusals.Refusal.{Refusal}
 use Rattle.life_cli.specs.declared.jobs.Made.{Made}
 use Rattle.life_cli.specs.declared.jobs.Made.TheVariants.{Comparison, Text}
 use Rattle.pattern_sources.specs.Faults.{refusal_of}
-use Rattle.life_cli.specs.Forms.{AreSameIn}
+use Rattle.life_cli.specs.Forms.{AreSameIn, HasTooLarge}
 use Rattle.pattern_sources.specs.Forms.{IsTextIn}
 use Rattle.command_line.specs.Plans.{HasSecond}
 use Rattle.life_cli.specs.Jobs.{WritesPlacedText}
@@ -122,14 +122,14 @@ answers form a b true is = inl (refl, is.0 refl, refl)
 answers form a b false is = inr (refl, (λ same. let bad : false ≡ true = is.1 same in absurd cc), refl)
 
 compared_files : (form : Form) (first second : SourceRun) (a b : List ℕ) (answer : Bool) → ReadAll (2 ^ 30) first.before first.after a
-    → ReadAll (2 ^ 30) second.before second.after b → Accepted MAX_LEVEL a → Accepted MAX_LEVEL b
+    → ReadAll (2 ^ 30) second.before second.after b → Accepted MAX_LEVEL a → Accepted MAX_LEVEL b → ¬ HasTooLarge form MAX_LEVEL a b
     → IsTrue answer ↔ AreSameIn form MAX_LEVEL a b → TaskMakes (Same form) first second (Comparison answer)
-compared_files form first second a b answer one two first_is second_is is = record {
+compared_files form first second a b answer one two first_is second_is small is = record {
   first_bytes = a;
   second_bytes = b;
   first_read = one;
   second_read = λ _. two;
-  writes = (first_is, second_is, answers form a b answer is);
+  writes = (first_is, second_is, small, answers form a b answer is);
 }
 
 -- two files were read into one store, and their patterns compared in a form, or not
@@ -137,15 +137,18 @@ module _ (form : Form) (first second : SourceRun) (store : Nodes) (a b : List �
     (one : ReadAll (2 ^ 30) first.before first.after a) (two : ReadAll (2 ^ 30) second.before second.after b) (reads : IsRead MAX_LEVEL a store p)
     (others : IsRead MAX_LEVEL b store q) where
   pub compared_in : IfOk r (λ answer. (f s : List ℕ) → IsRead MAX_LEVEL f store p → IsRead MAX_LEVEL s store q → IsTrue answer ↔ AreSameIn form MAX_LEVEL f s)
+      → OnOk r ((f s : List ℕ) → IsRead MAX_LEVEL f store p → IsRead MAX_LEVEL s store q → ¬ HasTooLarge form MAX_LEVEL f s)
       → IfOk r (λ answer. TaskMakes (Same form) first second (Comparison answer))
-  compared_in h = go r h
+  compared_in h small = go r h small
     where
       go : (r : Result Bool Fault)
           → IfOk r (λ answer. (f s : List ℕ) → IsRead MAX_LEVEL f store p → IsRead MAX_LEVEL s store q → IsTrue answer ↔ AreSameIn form MAX_LEVEL f s)
+          → OnOk r ((f s : List ℕ) → IsRead MAX_LEVEL f store p → IsRead MAX_LEVEL s store q → ¬ HasTooLarge form MAX_LEVEL f s)
           → IfOk r (λ answer. TaskMakes (Same form) first second (Comparison answer))
-      go (Ok answer) h =
-          compared_files form first second a b answer one two (reads.universe, reads.reads) (others.universe, others.reads) (h a b reads others)
-      go (Err fault) h = tt
+      go (Ok answer) h small =
+          compared_files form first second a b answer one two (reads.universe, reads.reads) (others.universe, others.reads) (small a b reads others)
+          (h a b reads others)
+      go (Err fault) h small = tt
 
   pub uncompared_in : IfErr r (λ fault. (fault ≡ fault_of Memory)
       ⊎ ((f s : List ℕ) → IsRead MAX_LEVEL f store p → IsRead MAX_LEVEL s store q → RefusesSame form f s fault))

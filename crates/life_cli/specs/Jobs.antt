@@ -54,7 +54,7 @@ Writes (Canon form) first second status text = (status ≡ 0) × IsTextIn form M
 Writes (Convert Rle) first second status text = (status ≡ 0) × IsRleOf MAX_LEVEL (2 ^ 20) first text
 Writes (Convert Mc) first second status text = (status ≡ 0) × IsCanonical MAX_LEVEL first text
 Writes (Same form) first second status text =
-    Accepted MAX_LEVEL first × Accepted MAX_LEVEL second × Compares form first second status text
+    Accepted MAX_LEVEL first × Accepted MAX_LEVEL second × (¬ HasTooLarge form MAX_LEVEL first second) × Compares form first second status text
 Writes Show first second status text = (status ≡ 0) × IsShown MAX_LEVEL first text
 Writes Step first second status text = (status ≡ 0) × IsStepped first text
 Writes StepTable first second status text = (status ≡ 0) × ((table : Table) × IsFile (lines_of second) table × IsSteppedBy table first text)

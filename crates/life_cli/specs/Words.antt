@@ -9,7 +9,7 @@ pub use Rattle.life_canon.specs.ReadWhole.{ReadsWhole}
 pub use Rattle.life_canon.specs.Running.{AreWorking, ReadsPattern, RunsCanon}
 pub use Rattle.life_canon.specs.Store.{content, IsOfFile, IsRead, IsTrimmed, IsWant, Keeps, universe_in}
 pub use Rattle.life_canon.specs.Texts.{IsRleOf, IsShown}
-pub use Rattle.life_cli.specs.Forms.{AreSameIn}
+pub use Rattle.life_cli.specs.Forms.{AreSameIn, HasTooLarge}
 pub use Rattle.life_cli.specs.Jobs.{AreUncompared, BreaksOff, CanonRefuses, HasNoTable, HasNoTextByTable, HasTable, HasTextByTable, HoldsTwoFiles, IsPatternIn}
 pub use Rattle.life_cli.specs.Jobs.{made_status, made_text, MadeOf, OfFile, OfTable, RefusesSame, RefusesStep, RefusesStepBy, TaskMakes, TaskRan, TaskRefuses}
 pub use Rattle.life_cli.specs.Jobs.{Worked, WritesPlacedText}

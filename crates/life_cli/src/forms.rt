@@ -1,7 +1,7 @@
 //! The work of the jobs that take a pattern in a form.
 
-ghost use Rattle.std.specs.Prelude.{◌≡◌, ◌↔◌, ◌^◌, IfOk, IfErr, IsTrue, List, ℕ};
-ghost use Rattle.life_cli.specs.Words.{OrMemory, IsOfFile, IsRead, AreSameIn, RefusesSame};
+ghost use Rattle.std.specs.Prelude.{◌≡◌, ◌↔◌, ◌^◌, IfOk, IfErr, OnOk, IsTrue, List, ℕ};
+ghost use Rattle.life_cli.specs.Words.{OrMemory, IsOfFile, IsRead, AreSameIn, HasTooLarge, RefusesSame};
 
 use command_line::Form;
 use life_base::{Fault, MAX_LEVEL};
@@ -25,6 +25,8 @@ pub(crate) fn are_same_in(
     ensures answer { IfOk result (λ answer. (first second : List ℕ)
         → IsRead MAX_LEVEL first store.now a.now → IsRead MAX_LEVEL second store.now b.now
         → IsTrue answer ↔ AreSameIn form MAX_LEVEL first second) }
+    ensures small { OnOk result ((first second : List ℕ) → IsRead MAX_LEVEL first store.now a.now
+        → IsRead MAX_LEVEL second store.now b.now → ¬ HasTooLarge form MAX_LEVEL first second) }
     ensures fault { IfErr result (λ fault. OrMemory fault ((first second : List ℕ)
         → IsRead MAX_LEVEL first store.now a.now → IsRead MAX_LEVEL second store.now b.now
         → RefusesSame form first second fault)) }

@@ -1,5 +1,5 @@
 use Rattle.life_forms.specs.Forms.{IsShift, IsTurnedShift}
-use Rattle.life_cli.proofs.FormLemmas.{related, rule_of_file, unshifted, unturned_two}
+use Rattle.life_cli.proofs.FormLemmas.{related, rule_of_file, small_shifted, small_turned, unshifted, unturned_two}
 use Rattle.life_cli.proofs.forms.are_same_in.Goals as goal
 
 pub returns-in-Placed-clause-answer : goal.returns-in-Placed-clause-answer
@@ -12,6 +12,13 @@ pub returns-in-Moved-clause-answer : goal.returns-in-Moved-clause-answer
 returns-in-Moved-clause-answer c =
     rw c.in-Moved.is (related c.patterns_fit.ensures c.files_are_unique.ensures _ _ _ IsShift c.are_shifts.result c.are_shifts.ensures.answer)
 
+pub returns-in-Placed-clause-small : goal.returns-in-Placed-clause-small
+returns-in-Placed-clause-small c = rw c.in-Placed.is (λ first second p q large. large)
+
+pub returns-in-Moved-clause-small : goal.returns-in-Moved-clause-small
+returns-in-Moved-clause-small c =
+    rw c.in-Moved.is (small_shifted c.patterns_fit.ensures c.files_are_unique.ensures _ _ _ c.are_shifts.result c.requires.limit c.are_shifts.ensures.small)
+
 pub returns-in-Moved-clause-fault : goal.returns-in-Moved-clause-fault
 returns-in-Moved-clause-fault c =
     rw c.in-Moved.is (unshifted c.patterns_fit.ensures c.files_are_unique.ensures _ _ _ c.are_shifts.result c.requires.limit c.are_shifts.ensures.fault)
@@ -19,6 +26,10 @@ returns-in-Moved-clause-fault c =
 pub returns-in-Turned-clause-answer : goal.returns-in-Turned-clause-answer
 returns-in-Turned-clause-answer c =
     rw c.in-Turned.is (related c.patterns_fit.ensures c.files_are_unique.ensures _ _ _ IsTurnedShift c.are_turns.result c.are_turns.ensures.answer)
+
+pub returns-in-Turned-clause-small : goal.returns-in-Turned-clause-small
+returns-in-Turned-clause-small c =
+    rw c.in-Turned.is (small_turned c.patterns_fit.ensures c.files_are_unique.ensures _ _ _ c.are_turns.result c.requires.limit c.are_turns.ensures.small)
 
 pub returns-in-Turned-clause-fault : goal.returns-in-Turned-clause-fault
 returns-in-Turned-clause-fault c =

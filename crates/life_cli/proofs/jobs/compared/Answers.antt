@@ -52,7 +52,7 @@ pub returns-clause-ok : goal.returns-clause-ok
 returns-clause-ok g c =
     compared_in c.args.form _ _ c.pattern_in-2.new.store _ _ _ _ c.are_same_in.result c.in_ok-a.ensures.pattern.read c.in_ok-b.ensures.pattern.read
     (c.patterns_stay.ensures _ _ _ _ c.pattern_in-2.ensures.keeps (rw c.in_ok-a-2.was at c.in_ok-a.ensures.pattern.pattern))
-    (rw c.in_ok-b-2.was at c.in_ok-b.ensures.pattern.pattern) c.are_same_in.ensures.answer
+    (rw c.in_ok-b-2.was at c.in_ok-b.ensures.pattern.pattern) c.are_same_in.ensures.answer c.are_same_in.ensures.small
 
 pub returns-clause-err : goal.returns-clause-err
 returns-clause-err g c =
