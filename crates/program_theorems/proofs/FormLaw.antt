@@ -125,22 +125,22 @@ own_text_of laws u text h is =
     record { universe = v; reads = subst (λ (t : List ℕ). Reads 62 t v) (sym is) reads; is = is ∙ sym (laws.fixed u v h reads) }
 
 module _ (laws : LayersAgree) (file text : List ℕ) where
-  pub own_moved : SaysText (IsMovedText 62) 62 file text → IsCanonical 62 text text
+  pub own_moved : SaysText Moved (IsMovedText 62) 62 file text → IsCanonical 62 text text
   own_moved h =
       own_text_of laws h.is.form text (laws.moved_on_plane h.universe h.is.form (laws.on_plane file h.universe h.reads) h.is.moved) h.is.is
 
-  pub own_turned : SaysText (IsTurnedText 62) 62 file text → IsCanonical 62 text text
+  pub own_turned : SaysText Turned (IsTurnedText 62) 62 file text → IsCanonical 62 text text
   own_turned h =
       own_text_of laws h.is.form text
       (laws.turned_on_plane (omega arith) h.universe h.is.form (laws.on_plane file h.universe h.reads) h.is.turned) h.is.is
 
-  pub moved_text_is : SaysText (IsMovedText 62) 62 file text → SameIn Moved file text
+  pub moved_text_is : SaysText Moved (IsMovedText 62) 62 file text → SameIn Moved file text
   moved_text_is h =
       let f = laws.moved_files file h.universe h.is.form h.reads h.is.moved in
       let reads = subst (λ (t : List ℕ). Reads 62 t f.file) (sym h.is.is) f.reads in
       same_in_to Moved file text (say_related h.universe f.file h.reads reads f.shift)
 
-  pub turned_text_is : SaysText (IsTurnedText 62) 62 file text → SameIn Turned file text
+  pub turned_text_is : SaysText Turned (IsTurnedText 62) 62 file text → SameIn Turned file text
   turned_text_is h =
       let f = laws.turned_files file h.universe h.is.form h.reads h.is.turned in
       let reads = subst (λ (t : List ℕ). Reads 62 t f.file) (sym h.is.is) f.reads in

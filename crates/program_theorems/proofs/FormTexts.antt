@@ -11,6 +11,7 @@ use Rattle.life_forms.specs.Images.{IsTurnedText as LayerTurnedText}
 use Rattle.life_forms.specs.Turns.{turn_of}
 use Rattle.life_forms.specs.Turns as layer
 use Rattle.life_quad.specs.declared.turning.Turn.{Turn}
+use Rattle.command_line.specs.declared.plans.Form.TheVariants.{Moved, Turned}
 use Rattle.pattern_sources.specs.Forms.{SaysText, IsMovedText as LayerMovedText}
 use Rattle.claims.specs.Pattern.{Pattern}
 use Rattle.claims.specs.Shown.{IsLeastBox}
@@ -88,13 +89,13 @@ moved_is laws p u text says on m =
     (text_of_pattern w m.moved (canon_text 62 w) there (sym m.shift.0 ∙ says.rule) (sym m.shift.1 ∙ says.generation) (λ x y. refl) refl)
 
 module _ (laws : LayersAgree) (file text : List ℕ) where
-  pub moved_exact : (h : SaysText (LayerMovedText 62) 62 file text) → IsMovedText (files_agree file h.universe h.reads).pattern text
+  pub moved_exact : (h : SaysText Moved (LayerMovedText 62) 62 file text) → IsMovedText (files_agree file h.universe h.reads).pattern text
   moved_exact h =
       let p = files_agree file h.universe h.reads in
       let on = laws.on_plane file h.universe h.reads in
       moved_to p.pattern h.universe h.is.form text (said file h.universe p) (laws.moved_on_plane h.universe h.is.form on h.is.moved) h.is.moved h.is.is
 
-  pub turned_exact : (h : SaysText (LayerTurnedText 62) 62 file text) → IsTurnedText (files_agree file h.universe h.reads).pattern text
+  pub turned_exact : (h : SaysText Turned (LayerTurnedText 62) 62 file text) → IsTurnedText (files_agree file h.universe h.reads).pattern text
   turned_exact h =
       let p = files_agree file h.universe h.reads in
       let u = h.universe in
