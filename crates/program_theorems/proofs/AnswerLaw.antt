@@ -106,7 +106,7 @@ answers laws (tasks.Convert Rle) file second status text h =
     (h.0, same_to file text (laws.rle (2 ^ 20) file text h.1), rle_format file text h.1, few_cells file text h.1, rle_of_file file text h.1)
 answers laws (tasks.Convert Mc) file second status text h = (h.0, canonical laws file text h.1)
 answers laws (tasks.Same form) file second status text h =
-    (accepted_is_ok file h.0, accepted_is_ok second h.1, compares laws form file second status text h.0 h.1 h.2)
+    (accepted_is_ok file h.0, accepted_is_ok second h.1, compares laws form file second status text h.0 h.1 h.3)
 answers laws tasks.Show file second status text h =
     let told = canon_text 62 h.1.universe in
     let c : IsCanonical 62 file told = record { universe = h.1.universe; reads = h.1.reads; is = refl } in
