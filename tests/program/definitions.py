@@ -418,11 +418,12 @@ class Judge:
     def in_form(self, form):
         words = ["canon", self.name, "--form", form]
         population = 0 if self.read.fault else self.planes.population(self.read.root)
-        if MOST_TURNED < population <= MOST_CELLS:
-            return
-        faults = {line_of(self.read.fault)} if self.read.fault else {"TooManyCells\n"} if population > MOST_CELLS else set()
-        text = self.taken(words, faults)
-        if text is not None:
+        text = self.taken(words, {line_of(self.read.fault)} if self.read.fault else set())
+        if text is not None and population > MOST_TURNED:
+            # The text by the definitions would take too long: it goes over the cells.
+            found = reading(self.planes, text.output)
+            self.note(words, [] if found.fault is None and self.planes.population(found.root) == population else ["the form has other cells"])
+        elif text is not None:
             self.answers[f"{form} and wide" if self.is_wide() else form] += 1
             self.note(words, exact_problems(text_of_form(self.planes, self.read, form), text.output))
             self.same_in(form, reading(self.planes, text.output), "written")
