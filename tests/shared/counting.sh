@@ -22,7 +22,7 @@ counted() { # NAME STATUS
     grep '^FAILED' said
     passed=$((passed + ${good:-0}))
     failed=$((failed + ${bad:-0}))
-    verdict "$1 (${good:-no} checks)" "$([ "$2" = 0 ] && [ "${good:-0}" -gt 0 ] && [ "$bad" = 0 ] || tail -n 5 said)"
+    verdict "$1 (${good:-no} checks)" "$([ "$2" = 0 ] && [ "${good:-0}" -gt 0 ] && [ "$bad" = 0 ] || { echo "status $2"; tail -n 5 said; })"
 }
 
 # Writes the last line. The status is 0 where something passed and nothing failed.
