@@ -114,9 +114,14 @@ def random_case(seed, number):
 # ---- One case
 
 
-def is_slow(file, most=MOST_CELLS):
-    """Whether the reader would take long to list the cells of a file."""
-    return not isinstance(file.reading, commands.Fault) and most < file.reading.plane.population <= commands.MOST_CELLS
+def is_slow(file):
+    """Whether the reader would take long to list the cells of a file. It refuses more than 2^20 without listing them."""
+    return not isinstance(file.reading, commands.Fault) and MOST_CELLS < file.reading.plane.population <= commands.MOST_CELLS
+
+
+def has_slow_form(file):
+    """Whether the reader would take long to make a form of a file. It lists the cells of the form, however many they are."""
+    return not isinstance(file.reading, commands.Fault) and MOST_TURNED < file.reading.plane.population
 
 
 def wanted_answers(case):
@@ -135,10 +140,10 @@ def wanted_answers(case):
     if case.respelling is not None:
         yield ["convert", name, "--to", "mc"], commands.convert_to_mc(file)
         yield ["same", "other", name], commands.same(other, file)
-        if not is_slow(file, MOST_TURNED):
+        if not has_slow_form(file):
             yield ["canon", name, "--form", "moved"], commands.canon(file, "moved")
             yield ["canon", name, "--form", "turned"], commands.canon(file, "turned")
-            if not is_slow(other, MOST_TURNED):
+            if not has_slow_form(other):
                 form = "moved" if len(case.pattern) % 2 else "turned"
                 yield ["same", name, "other", "--form", form], commands.same(file, other, form)
 

@@ -580,7 +580,7 @@ def random_pattern(seed, number):
 def random_outcomes(given):
     """A random file, and its outcome in each form, or None where the reader would take long."""
     data = random_pattern(*given)
-    is_slow = compare.is_slow(commands.File(data), MOST_TURNED)
+    is_slow = compare.has_slow_form(commands.File(data))
     return data, {form: None if is_slow and form != "placed" else outcome_of(data, form) for form in ("placed", "moved", "turned")}
 
 
