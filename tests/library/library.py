@@ -371,6 +371,7 @@ def check_forms():
     gliders = [rle.rle_text(rules.CONWAY, 0, sorted(((x + west, y + north, 1) for x, y, _ in image), key=lambda cell: (cell[1], cell[0])))
                for image in forms.images([(x, y, 1) for x, y in glider]) for west, north in ((0, 0), (-12345, 777), (2**61 - 3, -(2**61) + 3))]
     small = [*small_files.LIFE_FILES.values(), *(file for file, _ in small_files.NAMED_FILES.values()), *(file for file, _, _ in MOVED.values())]
+    small = [file for file in small if has_few_cells(file)]
     chosen = [file for file in map(random_file, range(RANDOM_FILES)) if has_few_cells(file)]
     for what, files in (("gliders", gliders), ("small files", small), ("random files", chosen)):
         wrong = list(wrong_forms(files))
