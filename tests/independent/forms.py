@@ -30,7 +30,7 @@ def images(cells):
 
 
 def listed(pattern):
-    """The cells of a pattern that is to be moved. This reader is asked only for patterns with few squares, so it doesn't count those of a form."""
+    """The cells of a pattern that is to be moved. This reader is asked only for patterns of few cells, so it needs no limit on the squares of a form."""
     return cells_of(pattern.plane)
 
 
