@@ -17,11 +17,13 @@ cat > kit/bin/rattle <<'NOTES'
 while [ $# != 0 ]; do
     case $1 in
         --crate-name) crate=$2 ;;
+        --jobs) jobs=$2 ;;
         -o) made=$2 ;;
     esac
     shift
 done
 echo "begin $crate" >> "$NOTES"
+echo "$crate in $jobs" >> "$JOBS_NOTES"
 echo "logic=proved functions=2 sum=0"
 [ "$crate" != "$FAILS" ] || exit 1
 case $made in *.rlib) mkdir "$made" ;; *) echo "an object" > "$made" ;; esac
@@ -33,7 +35,7 @@ while [ "$1" != -o ]; do shift; done
 echo "the program" > "$2"
 NOTES
 chmod 755 kit/bin/*
-export NOTES="$folder/notes"
+export NOTES="$folder/notes" JOBS_NOTES="$folder/jobs"
 unset MAKEFLAGS
 RT="$folder/kit/bin/rt"
 crates=$(awk -F ': *' '
@@ -49,7 +51,7 @@ crates=$(awk -F ': *' '
 . "$top/tests/shared/counting.sh"
 
 begun() { sed -n 's/^begin //p' notes | sort; }
-FAILS= make -s golly_canon RT="$RT" > said 2>&1
+FAILS= JOBS=4 make -s golly_canon RT="$RT" > said 2>&1
 verdict "make ends well" "$([ $? = 0 ] || cat said)"
 verdict "the program is left" "$([ "$(cat golly_canon)" = "the program" ] || echo "another file")"
 verdict "each crate is proved once" "$([ "$(begun)" = "$crates" ] || begun)"
@@ -62,6 +64,8 @@ verdict "a crate is proved after those below it" "$(awk -F ': *' '
         for (i = 1; i <= count; i++)
             if (libraries[i] in below && !(libraries[i] in proved)) print words[2] " before " libraries[i]
     }' crates.txt notes)"
+verdict "a crate that is proved alone has all processors" "$(grep -qx 'golly_canon in 4' jobs || cat jobs)"
+: > jobs
 count=$(echo "$crates" | wc -l)
 verdict "it says how far it is" "$(grep -q "^golly_canon: $count of $count crates proved, and $((count * 2)) functions" said || cat said)"
 
@@ -69,8 +73,10 @@ verdict "it says how far it is" "$(grep -q "^golly_canon: $count of $count crate
 FAILS= make -s golly_canon RT="$RT" > said 2>&1
 verdict "what is proved is not proved again" "$(cat notes)"
 mkdir -p crates/life_step/src && echo "a change" > crates/life_step/src/changed.rt
-FAILS= make -s golly_canon RT="$RT" > said 2>&1
+FAILS= JOBS=1 make -s golly_canon RT="$RT" > said 2>&1
 verdict "a crate that changed is proved again, and those above it" "$([ "$(begun | tr '\n' ' ')" = "golly_canon life_cli life_step " ] || begun)"
+
+verdict "with one processor each crate is proved in one job" "$(grep -v ' in 1$' jobs)"
 
 rm golly_canon
 mkdir -p crates/life_base/src && echo "a change" > crates/life_base/src/changed.rt
