@@ -59,7 +59,7 @@ function powerOf(k) {
 
 /** What a kind of fault means. The program has another limit of squares than the page. */
 function sentenceOf(kind) {
-  return kind === "Full" ? `The pattern comes to more than ${powerOf(26)} different squares.` : (SENTENCES[kind] ?? "");
+  return kind === "Full" ? `The pattern has more than ${powerOf(26)} different squares.` : (SENTENCES[kind] ?? "");
 }
 
 function showPlace({ x, y, zoom }) {
@@ -230,7 +230,7 @@ async function takeTable(file) {
   const hasTable = /^@TABLE/m.test(new TextDecoder("latin1").decode(bytes));
   const isColoured = colours.get(name).size > 0;
   say(hasTable ? `Step and Run now use the rule table of ${name}${isColoured ? ", and the picture its colours" : ""}.`
-    : `The rule file of ${name} has no @TABLE, so there is no step by it.${isColoured ? " The picture uses its colours." : ""}`);
+    : `The rule file of ${name} has no @TABLE, so it can't be used for a step.${isColoured ? " The picture uses its colours." : ""}`);
   if (shown !== null) {
     picture.show(shown.tree, shown.summary.box, false, colours.get(shown.summary.rule));
   }
@@ -354,7 +354,7 @@ function answerOf(groups) {
 /** Whether files are probably meant otherwise than they are read, in a sentence. */
 function warned() {
   const count = files.filter(it => it.warning).length;
-  return count > 0 ? `Warning: ${counted(count, "file seems", "files seem")} to be meant as another pattern, see the list.` : "";
+  return count > 0 ? `Warning: ${counted(count, "file seems", "files seem")} to be meant as another pattern; see the list.` : "";
 }
 
 /** What two files differ in, or by how much the one is moved; of more files how many were refused, or can't be compared in the form. */
@@ -374,11 +374,11 @@ function whyOf(groups) {
       return `They have other ${names[differing]}: ${one[differing]} and ${other[differing]}.`;
     }
     const boxes = [one, other].map(boxOf);
-    return boxes[0] !== boxes[1] ? `Their boxes are ${boxes.join(" and ")}.` : "They have one rule, one generation and one box, and other cells.";
+    return boxes[0] !== boxes[1] ? `Their boxes are ${boxes.join(" and ")}.` : "They have the same rule, generation and box, but different cells.";
   }
   const found = formOf(groups[0]);
   if (found === "placed") {
-    return "They name one rule and one generation, and give each cell of the plane the same state.";
+    return "They name the same rule and the same generation, and give each cell of the plane the same state.";
   }
   if (found === "moved") {
     const [right, down] = [other.box.left - one.box.left, other.box.top - one.box.top];
@@ -389,7 +389,7 @@ function whyOf(groups) {
     const said = ways.map(([by, unit, units, there, back]) => `${counted(by > 0n ? by : -by, unit, units)} to the ${by > 0n ? there : back}`);
     return `The second one is ${said.join(" and ")} of the first.`;
   }
-  return "They name one rule and one generation.";
+  return "They name the same rule and the same generation.";
 }
 
 /** A colour for a group, apart from those of the groups before it. */
@@ -500,7 +500,7 @@ function showRefused(file) {
   $("refused-name").textContent = `${shownName(file.name)} is refused`;
   if (refused === undefined) {
     $("refused-reason").textContent = unreadable === undefined ? "Fault" : "Unreadable";
-    $("refused-why").textContent = unreadable ?? `The library stopped (${file.failed.fault}); it was loaded anew. Nothing is said of the file.`;
+    $("refused-why").textContent = unreadable ?? `The library stopped (${file.failed.fault}); it was loaded anew. The page can't say what the file is.`;
   } else {
     $("refused-reason").textContent = refused.reason;
     $("refused-why").textContent = sentenceOf(refused.kind);
@@ -627,7 +627,7 @@ function showSteps() {
   $("step-back").disabled = shown.before.length === 0;
   $("no-step").textContent = lacks
     ? `To step this pattern, drop the rule file of ${shown.summary.rule}, a .rule file with a @TABLE.`
-    : isLarge ? `A step and RLE are for up to ${powerOf(20)} cells.` : "";
+    : isLarge ? `Only a pattern of up to ${powerOf(20)} cells can be stepped or written as RLE.` : "";
 }
 
 /** Makes one step. Returns whether there was one. */
