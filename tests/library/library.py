@@ -348,7 +348,7 @@ def wrong_forms(files):
                 yield f"{form} in pieces: {file!r}"
             if outcome_of(in_form(library.golly_canon_key, form), file) != key_of(answer):
                 yield f"the key of {form}: {file!r}"
-            if "TooManyCells" not in told[1] and outcome_of(compared_in(file, form), files[at - 1]) != same:
+            if outcome_of(compared_in(file, form), files[at - 1]) != same:
                 yield f"{form} beside the file before: {file!r}"
 
 
