@@ -41,6 +41,7 @@ mod PieceFacts
 pub mod OrderFacts
 mod LesserFacts
 mod WalkingFacts
+mod SeenFacts
 mod CountingFacts
 mod ShowFacts
 pub mod RoomLists

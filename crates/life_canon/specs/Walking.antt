@@ -15,6 +15,10 @@ use Rattle.life_canon.specs.Listing.{line_of, number_of, with_all, walk}
 use Rattle.life_canon.specs.Universe.{is_life, least_level}
 use Rattle.life_canon.specs.declared.pattern.Pattern.{Pattern}
 
+-- the square of an Id, as it is seen
+abbrev pub seen_in : (Tree → Tree) → (Id → Tree) → Id → Tree
+seen_in seen content id = seen (content id)
+
 -- it took this line too, whatever it took before
 abbrev pub TakesNodeLine : {A : Type 0} → (A → A → List Line → Type 0) → A → A → Line → Type 0
 TakesNodeLine {A} took before after line = (start : A) (lines : List Line) → took start before lines → took start after (lines ++ line ∷ [])

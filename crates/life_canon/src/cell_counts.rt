@@ -5,10 +5,11 @@ ghost use Rattle.life_canon.specs.Words.{Memory, depth, largest_state, HasStates
 
 use crate::line_sink::LineSink;
 use crate::node_walk::walk_pattern;
+use crate::orientation::{Orientation, Upright};
 use crate::pattern::Pattern;
 use life_base::Kind;
 use life_mc::Line;
-use life_quad::{Id, IdNumbers, SharedSquares, Squares, leaf_population};
+use life_quad::{Id, IdNumbers, SharedSquares, Squares};
 use std::alloc::Global;
 
 /// What a walk over a pattern counts.
@@ -99,8 +100,14 @@ impl LineSink<()> for CellCounts {
     }
 
     #[inline(always)]
-    fn take_leaf<S: Squares>(&mut self, _device: &mut (), squares: &S, id: Id) -> Result<(), Kind> {
-        let count = leaf_population(squares, 3, id);
+    fn take_leaf<S: Squares, O: Orientation>(
+        &mut self,
+        _device: &mut (),
+        squares: &S,
+        orientation: &O,
+        id: Id,
+    ) -> Result<(), Kind> {
+        let count = orientation.leaf_population(squares, 3, id);
         self.counts.push(count)?;
         Ok(())
     }
@@ -137,7 +144,7 @@ pub(crate) fn count_all<S: SharedSquares>(
     let mut list = CellCounts {
         counts: Vec::new(alloc),
     };
-    walk_pattern(squares, pattern, numbers, &mut list, &mut ())?;
+    walk_pattern(squares, &Upright, pattern, numbers, &mut list, &mut ())?;
     Ok(Tally {
         lines: list.counts.len() as u64,
         cells: last_count(&list.counts),

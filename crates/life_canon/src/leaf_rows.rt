@@ -3,32 +3,33 @@
 ghost use Rattle.std.specs.Prelude.{◌≡◌, ◌+◌, ◌*◌, ◌<◌, ◌∷◌, [], ℕ, slice_index};
 ghost use Rattle.life_canon.specs.Words.{depth, state_at, HasStatesUpTo, rows_of, four, row_of_two, row_of_four, rows_side_by_side};
 
-use life_quad::{Id, Quarters, Squares, divide};
+use crate::orientation::Orientation;
+use life_quad::{Id, Quarters, Squares};
 
 /// The state of a cell.
-fn bit<S: Squares>(squares: &S, id: Id) -> u8
+fn bit<S: Squares, O: Orientation>(squares: &S, orientation: &O, id: Id) -> u8
     requires known { S.knows squares.now id }
-    requires level { depth (S.content squares.now id) ≡ 0 }
-    requires states { HasStatesUpTo 1 (S.content squares.now id) }
-    ensures state { result ≡ state_at (S.content squares.now id) 0 0 }
+    requires level { depth (O.seen orientation.now (S.content squares.now id)) ≡ 0 }
+    requires states { HasStatesUpTo 1 (O.seen orientation.now (S.content squares.now id)) }
+    ensures state { result ≡ state_at (O.seen orientation.now (S.content squares.now id)) 0 0 }
     ensures bit { result < 2 }
 {
-    squares.state(id).unwrap_or(0)
+    orientation.state(squares, id).unwrap_or(0)
 }
 
 /// The two rows of a square of level 1.
-fn two_rows<S: Squares>(squares: &S, id: Id) -> [u8; 2]
+fn two_rows<S: Squares, O: Orientation>(squares: &S, orientation: &O, id: Id) -> [u8; 2]
     requires known { S.knows squares.now id }
-    requires level { depth (S.content squares.now id) ≡ 1 }
-    requires states { HasStatesUpTo 1 (S.content squares.now id) }
-    ensures rows { result ≡ row_of_two (S.content squares.now id) 0
-        ∷ row_of_two (S.content squares.now id) 1 ∷ [] }
+    requires level { depth (O.seen orientation.now (S.content squares.now id)) ≡ 1 }
+    requires states { HasStatesUpTo 1 (O.seen orientation.now (S.content squares.now id)) }
+    ensures rows { result ≡ row_of_two (O.seen orientation.now (S.content squares.now id)) 0
+        ∷ row_of_two (O.seen orientation.now (S.content squares.now id)) 1 ∷ [] }
     ensures small { (y : ℕ) → slice_index result y < 4 }
 {
-    let Quarters { nw, ne, sw, se } = divide(squares, id);
+    let Quarters { nw, ne, sw, se } = orientation.quarters(squares, id);
     [
-        2 * bit(squares, nw) + bit(squares, ne),
-        2 * bit(squares, sw) + bit(squares, se),
+        2 * bit(squares, orientation, nw) + bit(squares, orientation, ne),
+        2 * bit(squares, orientation, sw) + bit(squares, orientation, se),
     ]
 }
 
@@ -53,23 +54,24 @@ fn rows_of_cells(cells: u16) -> [u8; 4]
 
 /// The four rows of a square of level 2.
 #[inline(never)]
-fn four_rows<S: Squares>(squares: &S, id: Id) -> [u8; 4]
+fn four_rows<S: Squares, O: Orientation>(squares: &S, orientation: &O, id: Id) -> [u8; 4]
     requires known { S.knows squares.now id }
-    requires level { depth (S.content squares.now id) ≡ 2 }
-    requires states { HasStatesUpTo 1 (S.content squares.now id) }
-    ensures rows { result ≡ row_of_four (S.content squares.now id) 0
-        ∷ row_of_four (S.content squares.now id) 1 ∷ row_of_four (S.content squares.now id) 2
-        ∷ row_of_four (S.content squares.now id) 3 ∷ [] }
+    requires level { depth (O.seen orientation.now (S.content squares.now id)) ≡ 2 }
+    requires states { HasStatesUpTo 1 (O.seen orientation.now (S.content squares.now id)) }
+    ensures rows { result ≡ row_of_four (O.seen orientation.now (S.content squares.now id)) 0
+        ∷ row_of_four (O.seen orientation.now (S.content squares.now id)) 1
+        ∷ row_of_four (O.seen orientation.now (S.content squares.now id)) 2
+        ∷ row_of_four (O.seen orientation.now (S.content squares.now id)) 3 ∷ [] }
     ensures small { (y : ℕ) → slice_index result y < 16 }
 {
-    if let Some(cells) = squares.small_cells(id) {
+    if let Some(cells) = orientation.small_cells(squares, id) {
         return rows_of_cells(cells);
     }
-    let Quarters { nw, ne, sw, se } = divide(squares, id);
-    let nw = two_rows(squares, nw);
-    let ne = two_rows(squares, ne);
-    let sw = two_rows(squares, sw);
-    let se = two_rows(squares, se);
+    let Quarters { nw, ne, sw, se } = orientation.quarters(squares, id);
+    let nw = two_rows(squares, orientation, nw);
+    let ne = two_rows(squares, orientation, ne);
+    let sw = two_rows(squares, orientation, sw);
+    let se = two_rows(squares, orientation, se);
     [
         4 * nw[0] + ne[0],
         4 * nw[1] + ne[1],
@@ -98,31 +100,47 @@ fn beside(west: [u8; 4], east: [u8; 4]) -> [u8; 4]
 
 /// The rows of eight cells of two squares of level 2 side by side. If the store gives the cells of both, no square is looked up.
 #[inline(always)]
-fn rows_beside<S: Squares>(squares: &S, west: Id, east: Id) -> [u8; 4]
+fn rows_beside<S: Squares, O: Orientation>(
+    squares: &S,
+    orientation: &O,
+    west: Id,
+    east: Id,
+) -> [u8; 4]
     requires west { S.knows squares.now west }
-    requires west_level { depth (S.content squares.now west) ≡ 2 }
-    requires west_states { HasStatesUpTo 1 (S.content squares.now west) }
+    requires west_level { depth (O.seen orientation.now (S.content squares.now west)) ≡ 2 }
+    requires west_states { HasStatesUpTo 1 (O.seen orientation.now (S.content squares.now west)) }
     requires east { S.knows squares.now east }
-    requires east_level { depth (S.content squares.now east) ≡ 2 }
-    requires east_states { HasStatesUpTo 1 (S.content squares.now east) }
-    ensures { result ≡ rows_side_by_side (S.content squares.now west) (S.content squares.now east) }
+    requires east_level { depth (O.seen orientation.now (S.content squares.now east)) ≡ 2 }
+    requires east_states { HasStatesUpTo 1 (O.seen orientation.now (S.content squares.now east)) }
+    ensures { result ≡ rows_side_by_side (O.seen orientation.now (S.content squares.now west))
+        (O.seen orientation.now (S.content squares.now east)) }
 {
-    match (squares.small_cells(west), squares.small_cells(east)) {
+    match (
+        orientation.small_cells(squares, west),
+        orientation.small_cells(squares, east),
+    ) {
         (Some(west), Some(east)) => beside(rows_of_cells(west), rows_of_cells(east)),
-        _ => beside(four_rows(squares, west), four_rows(squares, east)),
+        _ => beside(
+            four_rows(squares, orientation, west),
+            four_rows(squares, orientation, east),
+        ),
     }
 }
 
 /// The eight rows of a square of level 3 as bytes, the western cell the highest bit.
-pub(crate) fn eight_rows<S: Squares>(squares: &S, id: Id) -> [u8; 8]
+pub(crate) fn eight_rows<S: Squares, O: Orientation>(
+    squares: &S,
+    orientation: &O,
+    id: Id,
+) -> [u8; 8]
     requires known { S.knows squares.now id }
-    requires level { depth (S.content squares.now id) ≡ 3 }
-    requires states { HasStatesUpTo 1 (S.content squares.now id) }
-    ensures { result ≡ rows_of (S.content squares.now id) }
+    requires level { depth (O.seen orientation.now (S.content squares.now id)) ≡ 3 }
+    requires states { HasStatesUpTo 1 (O.seen orientation.now (S.content squares.now id)) }
+    ensures { result ≡ rows_of (O.seen orientation.now (S.content squares.now id)) }
 {
-    let Quarters { nw, ne, sw, se } = divide(squares, id);
-    let north = rows_beside(squares, nw, ne);
-    let south = rows_beside(squares, sw, se);
+    let Quarters { nw, ne, sw, se } = orientation.quarters(squares, id);
+    let north = rows_beside(squares, orientation, nw, ne);
+    let south = rows_beside(squares, orientation, sw, se);
     [
         north[0], north[1], north[2], north[3], south[0], south[1], south[2], south[3],
     ]

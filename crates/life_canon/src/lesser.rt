@@ -1,16 +1,17 @@
 //! The lesser of two texts, of which one comes line by line.
 
 ghost use Rattle.std.specs.Prelude.{◌≡◌, ◌⊎◌, ℕ, List, ◌++◌, ◌≤◌, take, drop, length, OnOk, OnErr, IfOk, IfErr};
-ghost use Rattle.life_canon.specs.Words.{Memory, fault_of, IsTrimmed, universe_in, canon_text, front_text, node_text, IsUpTo, IsLesser, IsLesserText, IsOldHeld, Holds, LinesCome, IsOldLesser, IsWithin, no-lines-come, old-is-lesser, IsMemory};
+ghost use Rattle.life_canon.specs.Words.{Memory, fault_of, IsTrimmed, IsKnown, content, universe_in, canon_text, front_text, node_text, square_text, seen_in, turned_tree, MayWalkPattern, IsUpTo, IsLesser, IsLesserText, IsOldHeld, Holds, LinesCome, IsOldLesser, IsWithin, no-lines-come, old-is-lesser, IsMemory};
 ghost use Rattle.life_canon.specs.declared.lesser.Lesser.TheVariants.{Old};
 
 use crate::line_sink::LineSink;
 use crate::node_walk::walk_pattern;
+use crate::orientation::{Orientation, Upright};
 use crate::pattern::Pattern;
 use crate::writer::begin_numbers;
 use life_base::{Fault, Kind, MAX_LEVEL, begins_with};
 use life_mc::{Line, append_front, append_line};
-use life_quad::{Shared, SharedSquares};
+use life_quad::{Shared, SharedSquares, Turn};
 use std::alloc::Global;
 
 /// What a sink returns that takes no more lines. Nothing reads which kind it is.
@@ -151,6 +152,27 @@ fn begin(mut best: Vec<u8>, pattern: &Pattern) -> Result<LesserText, Kind>
     })
 }
 
+/// The lesser, byte by byte, of a text and of that of a pattern's root, as it is seen.
+fn lesser_seen_text<O: Orientation>(
+    alloc: Global,
+    store: &Shared,
+    orientation: &O,
+    pattern: &Pattern,
+    best: Vec<u8>,
+) -> Result<Vec<u8>, Kind>
+    requires root { MayWalkPattern (IsKnown store.now)
+        (seen_in (O.seen orientation.now) (content store.now)) pattern.now }
+    ensures lesser { IfOk result (λ text. IsLesserText best.items
+        (square_text pattern.now.rule pattern.now.generation
+        (O.seen orientation.now (content store.now pattern.now.root))) text.items) }
+    ensures kind { IfErr result IsMemory }
+{
+    let mut text = begin(best, pattern)?;
+    let numbers = begin_numbers(alloc, store, pattern)?;
+    let walked = walk_pattern(store, orientation, pattern, numbers, &mut text, &mut ());
+    Ok(finish(text, walked)?)
+}
+
 /// The lesser, byte by byte, of a text and of the canonical text of a pattern in its least square. Where one begins with the other, the shorter one is the
 /// lesser. Of the canonical text no more lines are made than it takes to find that it is the greater one, and one text is held.
 ///
@@ -171,8 +193,26 @@ pub fn lesser_text(
         (canon_text MAX_LEVEL (universe_in store.now pattern.now))) }
     ensures memory { IfErr result (λ fault. fault ≡ fault_of Memory) }
 {
-    let mut text = begin(best, pattern)?;
-    let numbers = begin_numbers(alloc, store, pattern)?;
-    let walked = walk_pattern(store, pattern, numbers, &mut text, &mut ());
-    Ok(finish(text, walked)?)
+    Ok(lesser_seen_text(alloc, store, &Upright, pattern, best)?)
+}
+
+/// The same of the text of the pattern's root, turned about its middle. No square is made: the walk visits the quarters in the turn's order.
+///
+/// # Errors
+///
+/// `Memory`, at no line.
+pub fn lesser_turned_text(
+    alloc: Global,
+    store: &Shared,
+    pattern: &Pattern,
+    turn: Turn,
+    best: Vec<u8>,
+) -> Result<Vec<u8>, Fault>
+    requires { IsTrimmed store.now pattern.now }
+    ensures lesser { IfOk result (λ text. IsLesserText best.items
+        (square_text pattern.now.rule pattern.now.generation
+        (turned_tree turn (content store.now pattern.now.root))) text.items) }
+    ensures memory { IfErr result (λ fault. fault ≡ fault_of Memory) }
+{
+    Ok(lesser_seen_text(alloc, store, &turn, pattern, best)?)
 }

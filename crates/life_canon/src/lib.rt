@@ -12,6 +12,7 @@ mod line_sink;
 mod line_squares;
 mod macrocell;
 mod node_walk;
+mod orientation;
 mod pattern;
 mod piece;
 mod progress;
@@ -24,7 +25,7 @@ mod writer;
 
 pub use compare::{are_same, same};
 pub use files::read;
-pub use lesser::lesser_text;
+pub use lesser::{lesser_text, lesser_turned_text};
 pub use macrocell::number;
 pub use pattern::{Pattern, least_level};
 pub use reader::Reader;

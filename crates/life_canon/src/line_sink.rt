@@ -5,6 +5,7 @@ ghost use Rattle.life_canon.specs.Words.{KindValue, LineValue, Leaf, HasStatesUp
 ghost use Rattle.life_canon.specs.Walking.{TakesNodeLine};
 
 use crate::leaf_rows::eight_rows;
+use crate::orientation::Orientation;
 use life_base::Kind;
 use life_mc::Line;
 use life_quad::{Id, Squares};
@@ -33,21 +34,27 @@ pub(crate) trait LineSink<D> {
             (BreaksOff took broke (self.old, device.old) (self.new, device.new)) }
         ensures kind { IfErr result (refuses (self.new, device.new)) };
 
-    /// The same of the leaf line of a square of level 3. A sink that asks for less than its rows may be faster.
+    /// The same of the leaf line of a square of level 3, as it is seen. A sink that asks for less than its rows may be faster.
     #[inline(always)]
-    fn take_leaf<S: Squares>(&mut self, device: &mut D, squares: &S, id: Id) -> Result<(), Kind>
+    fn take_leaf<S: Squares, O: Orientation>(
+        &mut self,
+        device: &mut D,
+        squares: &S,
+        orientation: &O,
+        id: Id,
+    ) -> Result<(), Kind>
         requires ready { ready (self.old, device.old) }
         requires known { S.knows squares.now id }
-        requires level { depth (S.content squares.now id) ≡ 3 }
-        requires states { HasStatesUpTo 1 (S.content squares.now id) }
+        requires level { depth (O.seen orientation.now (S.content squares.now id)) ≡ 3 }
+        requires states { HasStatesUpTo 1 (O.seen orientation.now (S.content squares.now id)) }
         ensures ready { OnOk result (ready (self.new, device.new)) }
         ensures took { OnOk result (TakesNodeLine took (self.old, device.old) (self.new, device.new)
-            (Leaf (rows_of (S.content squares.now id)))) }
+            (Leaf (rows_of (O.seen orientation.now (S.content squares.now id))))) }
         ensures broke { OnErr result
             (BreaksOff took broke (self.old, device.old) (self.new, device.new)) }
         ensures kind { IfErr result (refuses (self.new, device.new)) }
     {
-        self.take(device, &Line::Leaf(eight_rows(squares, id)))
+        self.take(device, &Line::Leaf(eight_rows(squares, orientation, id)))
     }
 
     // At first it took nothing.

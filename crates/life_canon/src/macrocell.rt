@@ -7,6 +7,7 @@ ghost use Rattle.life_canon.specs.Words.{Memory, fault_of, node_lines, square_fi
 
 use crate::line_sink::LineSink;
 use crate::node_walk::walk_pattern;
+use crate::orientation::Upright;
 use crate::pattern::Pattern;
 use crate::writer::begin_numbers;
 use life_base::{Fault, Items, Kind, MAX_LEVEL};
@@ -55,7 +56,7 @@ fn numbered<S: SharedSquares>(
     let mut list = LineList {
         lines: Vec::new(alloc),
     };
-    walk_pattern(squares, pattern, numbers, &mut list, &mut ())?;
+    walk_pattern(squares, &Upright, pattern, numbers, &mut list, &mut ())?;
     Ok(McFile {
         rule: pattern.rule.copy(alloc)?,
         generation: pattern.generation,

@@ -7,6 +7,7 @@ ghost use Rattle.life_canon.specs.Words.{Memory, fault_of, WritesText, LeavesSin
 
 use crate::line_sink::LineSink;
 use crate::node_walk::walk_pattern;
+use crate::orientation::Upright;
 use crate::pattern::{Pattern, least_level};
 use crate::piece::{PIECE, Piece};
 use life_base::{Fault, Kind, MAX_LEVEL, Rule, Sink, deliver};
@@ -62,7 +63,7 @@ pub fn text_of(alloc: Global, store: &Shared, pattern: &Pattern) -> Result<Vec<u
         bytes: front_with_room(alloc, pattern, SHORT_TEXT)?,
     };
     let numbers = begin_numbers(alloc, store, pattern)?;
-    walk_pattern(store, pattern, numbers, &mut text, &mut ())?;
+    walk_pattern(store, &Upright, pattern, numbers, &mut text, &mut ())?;
     Ok(text.bytes)
 }
 
@@ -149,6 +150,6 @@ pub(crate) fn deliver_squares<S: SharedSquares, W: Sink>(
     ensures flushed { OnOk result (W.flushed writer.new ≡ true) }
 {
     let mut piece = Piece { bytes: front };
-    walk_pattern(squares, pattern, numbers, &mut piece, writer)?;
+    walk_pattern(squares, &Upright, pattern, numbers, &mut piece, writer)?;
     deliver(writer, &piece.bytes)
 }

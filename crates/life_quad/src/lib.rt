@@ -31,4 +31,4 @@ pub use runs::{put_run, set_run};
 pub use seed::{Lanes, Seed};
 pub use shared::Shared;
 pub use squares::{SharedSquares, Squares};
-pub use turning::{Turn, turned};
+pub use turning::{Turn, divide_turned, turned, turned_cells};

@@ -1,6 +1,6 @@
 //! Squares, turned about their middle.
-ghost use Rattle.std.specs.Prelude.{◌≡◌, ◌<◌, ◌^◌, ◌*◌, ◌/◌, ◌%◌, ℕ, Some, IfOk};
-ghost use Rattle.life_quad.specs.Words.{depth, value_of, SomePart, two, four};
+ghost use Rattle.std.specs.Prelude.{◌≡◌, ◌<◌, ◌≤◌, ◌^◌, ◌*◌, ◌/◌, ◌%◌, ℕ, Some, IfOk};
+ghost use Rattle.life_quad.specs.Words.{quad, depth, value_of, AreQuarters, IdValue, SomePart, two, four};
 ghost use Rattle.life_quad.specs.Grows.{Grows};
 ghost use Rattle.life_quad.specs.Turning.{turned_tree, id_of_four, digit_in, side_of, end_of, AreImages};
 
@@ -107,8 +107,8 @@ fn turned_quarter(quarters: u64, turn: Turn, cells: u16, east: bool, south: bool
     ((quarters >> shift) % 16) as u16
 }
 
-/// The cells of the image of a square of level 2 of the states 0 and 1, as `Squares::small` takes them.
-fn turned_cells(turn: Turn, cells: u16) -> u16
+/// The cells of the image of a square of level 2 of the states 0 and 1 about its middle, as `Squares::small` takes them.
+pub fn turned_cells(turn: Turn, cells: u16) -> u16
     ensures { four result ≡ turned_tree turn (four cells) }
 {
     let quarters = turned_quarters(turn);
@@ -117,6 +117,27 @@ fn turned_cells(turn: Turn, cells: u16) -> u16
     let sw = turned_quarter(quarters, turn, cells, false, true);
     let se = turned_quarter(quarters, turn, cells, true, true);
     nw * 4096 + ne * 256 + sw * 16 + se
+}
+
+/// Of a square of level 1 or more, the squares whose images are the quarters of its image about its middle, each of the level below. No square is made.
+pub fn divide_turned<S: Squares>(squares: &S, turn: Turn, id: Id) -> Quarters
+    requires known { S.knows squares.now id }
+    requires deep { 1 ≤ depth (S.content squares.now id) }
+    ensures square { turned_tree turn (S.content squares.now id)
+        ≡ quad (turned_tree turn (S.content squares.now result.nw))
+        (turned_tree turn (S.content squares.now result.ne))
+        (turned_tree turn (S.content squares.now result.sw))
+        (turned_tree turn (S.content squares.now result.se)) }
+    ensures quarters { AreQuarters (S.knows squares.now)
+        (λ (q : IdValue). turned_tree turn (S.content squares.now q))
+        (turned_tree turn (S.content squares.now id)) result }
+{
+    let parts = divide(squares, id);
+    let nw = placed(turn, parts, false, false);
+    let ne = placed(turn, parts, true, false);
+    let sw = placed(turn, parts, false, true);
+    let se = placed(turn, parts, true, true);
+    Quarters { nw, ne, sw, se }
 }
 
 /// The image of a square of a level about its middle, in another store. `known` has the images of the squares that were visited.

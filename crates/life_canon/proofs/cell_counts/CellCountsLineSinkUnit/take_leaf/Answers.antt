@@ -5,8 +5,9 @@ use Rattle.life_canon.proofs.cell_counts.CellCountsLineSinkUnit.take_leaf.Goals 
 
 pub returns-clause-took : goal.returns-clause-took
 returns-clause-took g c = λ start lines.
-    let t = g.S.Squares.content c.args.squares.now c.args.id in
+    let t = g.O.Orientation.seen c.args.orientation.now (g.S.Squares.content c.args.squares.now c.args.id) in
     takes-count start.0.counts.items c.args.self.now.counts.items c.push.new.self.items lines (Leaf (rows_of t)) c.leaf_population-count.result
     c.in_ok-push.ensures.items
-    (λ small. leaf-cells t c.leaf_population-count.result (g.met.S.Squares.full _ _ c.requires.known) c.requires.level c.requires.states
+    (λ small. leaf-cells t c.leaf_population-count.result
+    (g.met.O.Orientation.full c.args.orientation.now _ (g.met.S.Squares.full _ _ c.requires.known)) c.requires.level c.requires.states
     c.leaf_population-count.ensures)
