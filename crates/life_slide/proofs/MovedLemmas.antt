@@ -71,7 +71,7 @@ cells-of_root cells r start full high begin piece outside x y = by (is_inside (h
         ∙ (λ z. cells (ex z) (ey z))
     by false e = cell_outside r x y e ∙ sym (outside x y (λ i. true≢false (sym (inside_test (half_side r) x y i) ∙ e)))
 
-less-or-not : (a b : ℕ) → (a < b) ⊎ (b ≤ a)
+pub less-or-not : (a b : ℕ) → (a < b) ⊎ (b ≤ a)
 less-or-not a b = grind arith
 
 zero-unless : (n : ℕ) → (n ≢ 0 → ⊥) → n ≡ 0

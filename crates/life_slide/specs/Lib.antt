@@ -1,3 +1,4 @@
+pub mod Margins
 pub mod Needed
 pub mod Pieces
 pub mod Remembered

@@ -1,5 +1,5 @@
 -- Squares side by side, as pieces of a plane of cells.
-use Rattle.std.specs.Prelude.{◌≡◌, ℕ, ◌+◌, ◌-◌, ◌*◌, ◌%◌, ◌^◌, ◌<◌, ◌&&◌, ℤ, pos, neg_ℤ, ◌+ℤ◌, ◌≤ℤ◌, ◌<ℤ◌, Bool, true, false, if◌then◌else◌}
+use Rattle.std.specs.Prelude.{◌≡◌, ℕ, ◌+◌, ◌-◌, ◌*◌, ◌%◌, ◌^◌, ◌<◌, ℤ, pos, neg_ℤ, ◌+ℤ◌, ◌≤ℤ◌, ◌<ℤ◌, Bool, true, false, if◌then◌else◌}
 use Rattle.std.specs.Int.{bit_at}
 use Rattle.life_base.specs.Tree.{Tree, tree_cell}
 use Rattle.life_base.specs.declared.cell.TheConstants.{MAX_LEVEL}
@@ -94,15 +94,6 @@ module _ (content : Id → Tree) (cells : ℤ → ℤ → ℕ) (side : ℕ) (x :
 -- the word has the states of eight rows of eight cells from the column x and the row y on, the north-western one in the highest bit
 abbrev pub HasRows : (ℤ → ℤ → ℕ) → ℤ → ℤ → ℕ → Type 0
 HasRows cells x y word = (r i : ℕ) → r < 8 → i < 8 → bit_at word (63 - (8 * r + i)) ≡ cells (x +ℤ pos i) (y +ℤ pos r)
-
--- the four squares, with another one in place of the eastern ones, of the southern ones, or of both, unless these are seen
-abbrev pub seen_of : (east south : Bool) → Quarters → Id → Quarters
-seen_of east south q other = record {
-  nw = q.nw;
-  ne = if east then q.ne else other;
-  sw = if south then q.sw else other;
-  se = if east && south then q.se else other;
-}
 
 -- four squares of level k are pieces of the plane, and the square of that level which begins so many columns and rows behind them, as far as their side
 -- length leaves of these numbers, begins at this place

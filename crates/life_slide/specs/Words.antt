@@ -1,6 +1,6 @@
 -- The words of the contracts of this crate.
 pub use Rattle.life_base.specs.declared.cell.TheConstants.{MAX_LEVEL}
-pub use Rattle.life_base.specs.Tree.{depth, is_blank_tree, tree_cell}
+pub use Rattle.life_base.specs.Tree.{depth, is_blank_tree, Tree, tree_cell}
 pub use Rattle.life_block.specs.Bits.{exchanged, HasSquare, place_in}
 pub use Rattle.life_block.specs.Needed.{square_from}
 pub use Rattle.life_block.specs.Pieces.{ahead, IsAt, IsPiece}
@@ -12,8 +12,9 @@ pub use Rattle.life_quad.specs.Refused.{SomePart}
 pub use Rattle.life_quad.specs.Store.{four}
 pub use Rattle.life_quad.specs.declared.id.Id.{Id as IdValue}
 pub use Rattle.life_quad.specs.declared.moves.Quarters.{Quarters as QuartersValue}
+pub use Rattle.life_slide.specs.Margins.{AreMarginsOfFour, AreMargins, AreMarginsOf, IsAlong, IsSeenOrOther, IsSeenAs, Misses}
 pub use Rattle.life_slide.specs.Needed.{own_square_at, SomeOfBlock, SomeOfNine}
-pub use Rattle.life_slide.specs.Pieces.{AreFour, AreNine, AreTwo, eastern, four_of, HasBlockAt, HasRows, in_corner, InBlock, InFour, InNine, InThree, IsBlock, IsNear, plane_from, root_from, seen_of, start, three_from, western}
+pub use Rattle.life_slide.specs.Pieces.{AreFour, AreNine, AreTwo, eastern, four_of, HasBlockAt, HasRows, in_corner, InBlock, InFour, InNine, InThree, IsBlock, IsNear, plane_from, root_from, start, three_from, western}
 pub use Rattle.life_slide.specs.Remembered.{ids_of, IsAnswer, Remembers}
 pub use Rattle.std.specs.Int.{bit_at}
 pub use Rattle.std.specs.Int.Bits.{bit_and}

@@ -1,6 +1,6 @@
 //! Squares of one level side by side.
 ghost use Rattle.std.specs.Prelude.{◌≡◌, ℕ, ℤ, ◌+◌, ◌^◌, true};
-ghost use Rattle.life_slide.specs.Words.{IsAt, InThree, InFour, InNine, InBlock, IsBlock, AreNine, AreFour, AreTwo, ahead, start, four_of, three_from, western, eastern, seen_of, ids_of};
+ghost use Rattle.life_slide.specs.Words.{IsAt, InThree, InFour, InNine, InBlock, IsBlock, AreNine, AreFour, AreTwo, ahead, start, four_of, three_from, western, eastern, ids_of};
 
 use life_quad::{Id, Quarters, Squares, divide};
 
@@ -124,16 +124,9 @@ pub(crate) fn eastern(north: &Three<Id>, south: &Three<Id>) -> Quarters
     }
 }
 
-/// The four squares, with another square in place of the eastern ones, of the southern ones, or of both.
-pub(crate) fn seen_of(east: bool, south: bool, block: &Quarters, other: Id) -> Quarters
-    ensures { result ≡ seen_of east south block.now other }
-{
-    Quarters {
-        nw: block.nw,
-        ne: if east { block.ne } else { other },
-        sw: if south { block.sw } else { other },
-        se: if east && south { block.se } else { other },
-    }
+/// Whether one of four is this square.
+pub(crate) fn has(block: &Quarters, id: Id) -> bool {
+    block.nw == id || block.ne == id || block.sw == id || block.se == id
 }
 
 /// Whether each of four is this square.

@@ -2,21 +2,11 @@
 ghost use Rattle.std.specs.Prelude.{◌≡◌, ◌≢◌, ℕ, ℤ, pos, neg_ℤ, ◌+ℤ◌, ◌<ℤ◌, suc, ◌+◌, ◌-◌, ◌^◌, ◌<◌, ◌≤◌, true, false, IfOk, IfErr, OnErr};
 ghost use Rattle.life_slide.specs.Words.{MAX_LEVEL, SomePart, depth, tree_cell, IsPiece, IsAt, own_square_at, in_corner, IsNear, AddsOnly, Keeps, IsWantOf};
 
+use crate::margins::half_side;
 use crate::slide::{Offset, slid, window};
 use life_base::{Kind, MAX_LEVEL};
 use life_quad::{Id, Quarters, SharedSquares, Squares};
 use std::alloc::Global;
-
-// Half of the side of a square of a level.
-fn half_side(level: u8) -> u64
-    requires low { 1 ≤ level }
-    requires high { level ≤ MAX_LEVEL }
-    ensures half { result ≡ 2 ^ (level - 1) }
-    ensures small { result ≤ 2 ^ 61 }
-    ensures whole { result + result ≡ 2 ^ level }
-{
-    1 << (level - 1)
-}
 
 // Where a coordinate is in two squares side by side, of which one is about the middle of the plane: whether that is the second, and how far the
 // coordinate is from where the first begins.

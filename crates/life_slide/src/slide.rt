@@ -1,10 +1,12 @@
 //! The square that begins at another place.
-ghost use Rattle.std.specs.Prelude.{◌≡◌, ℕ, ℤ, Bool, ◌+◌, ◌^◌, ◌%◌, ◌/◌, ◌==◌, ◌<◌, ◌≤◌, true, false, IfOk, IfErr, OnErr};
-ghost use Rattle.life_slide.specs.Words.{MAX_LEVEL, SomeOfBlock, SomeOfNine, Remembers, IsPiece, IsAt, InBlock, InNine, IsBlock, AreNine, HasBlockAt, ahead, seen_of, AddsOnly, Keeps, IsWantOf};
+ghost use Rattle.std.specs.Prelude.{◌≡◌, ℕ, ℤ, ◌+◌, ◌^◌, ◌%◌, ◌/◌, ◌==◌, ◌<◌, ◌≤◌, IfOk, IfErr, OnErr};
+ghost use Rattle.life_slide.specs.Words.{MAX_LEVEL, SomeOfBlock, SomeOfNine, Remembers, IsPiece, IsAt, InBlock, InNine, IsBlock, AreNine, HasBlockAt, ahead, AreMargins, AddsOnly, Keeps, IsWantOf};
 
-use crate::grid::{Nine, are_all, eastern, quarters, seen_of, western};
+use crate::grid::{Nine, are_all, eastern, quarters, western};
 use crate::leaf::leaf_cells;
+use crate::margins::MarginTable;
 use crate::remembered::{recalled, remember};
+use crate::seen::seen;
 use life_base::{Kind, MAX_LEVEL};
 use life_quad::{Id, NeighbourhoodMemory, Quarters, SharedSquares, Squares};
 use std::alloc::Global;
@@ -18,32 +20,12 @@ pub struct Offset {
     pub rows: u64,
 }
 
-// The lowest digits.
-fn rest(offset: u64, level: u8) -> u64
-    requires { level ≤ MAX_LEVEL }
-    ensures { result ≡ offset % 2 ^ level }
-{
-    offset % (1 << level)
-}
-
-// The digit above them.
+// The digit of an offset that counts squares of this level.
 fn digit(offset: u64, level: u8) -> bool
     requires { level ≤ MAX_LEVEL }
     ensures { result ≡ (offset / 2 ^ level % 2 == 1) }
 {
     (offset >> level) % 2 == 1
-}
-
-// Of four squares those that the square sees which begins so far in, and blank ones for the others.
-fn seen(offset: Offset, level: u8, block: &Quarters, blank: Id) -> Quarters
-    requires { level ≤ MAX_LEVEL }
-    ensures { (east : Bool) × (south : Bool) × (east ≡ false → offset.columns % 2 ^ level ≡ 0)
-        × (south ≡ false → offset.rows % 2 ^ level ≡ 0)
-        × (result ≡ seen_of east south block.now blank) }
-{
-    let east = rest(offset.columns, level) != 0;
-    let south = rest(offset.rows, level) != 0;
-    seen_of(east, south, block, blank)
 }
 
 #[cycle(slide)]
@@ -52,17 +34,20 @@ fn slid_of<S: Squares, T: Squares>(
     from: &S,
     to: &mut T,
     memory: &mut NeighbourhoodMemory,
+    margins: &mut MarginTable,
     offset: Offset,
     level: u8,
     block: &Quarters,
 ) -> Result<Id, Kind>
     requires remembers { Remembers (S.knows from.now) (S.content from.now) (T.knows to.old)
         (T.content to.old) offset.columns offset.rows memory.old }
+    requires right { AreMargins (S.content from.now) margins.old }
     requires known { InBlock (IsAt (S.knows from.now) (S.content from.now) level) block.now }
     requires high { level ≤ MAX_LEVEL }
     ensures at { IfOk result (IsAt (T.knows to.new) (T.content to.new) level) }
     ensures remembers { IfOk result (λ _. Remembers (S.knows from.now) (S.content from.now)
         (T.knows to.new) (T.content to.new) offset.columns offset.rows memory.new) }
+    ensures right { IfOk result (λ _. AreMargins (S.content from.now) margins.new) }
     ensures slid { IfOk result (λ r. (cells : ℤ → ℤ → ℕ) (x y : ℤ)
         → IsBlock (S.content from.now) cells (2 ^ level) x y block.now
         → IsPiece cells (ahead x (offset.columns % 2 ^ level)) (ahead y (offset.rows % 2 ^ level))
@@ -75,9 +60,11 @@ fn slid_of<S: Squares, T: Squares>(
         (λ P. SomeOfBlock P (S.content from.now) offset.columns offset.rows level block.now)
         to.old to.new }
 {
-    let blank = from.empty(level);
-    let inside = seen(offset, level, block, blank);
-    slid_of_seen(from, to, memory, offset, level, &inside)
+    if are_all(block, from.empty(level)) {
+        return Ok(to.empty(level));
+    }
+    let inside = seen(from, margins, offset, level, block);
+    slid_of_seen(from, to, memory, margins, offset, level, &inside)
 }
 
 #[cycle(slide)]
@@ -86,17 +73,20 @@ fn slid_of_seen<S: Squares, T: Squares>(
     from: &S,
     to: &mut T,
     memory: &mut NeighbourhoodMemory,
+    margins: &mut MarginTable,
     offset: Offset,
     level: u8,
     block: &Quarters,
 ) -> Result<Id, Kind>
     requires remembers { Remembers (S.knows from.now) (S.content from.now) (T.knows to.old)
         (T.content to.old) offset.columns offset.rows memory.old }
+    requires right { AreMargins (S.content from.now) margins.old }
     requires known { InBlock (IsAt (S.knows from.now) (S.content from.now) level) block.now }
     requires high { level ≤ MAX_LEVEL }
     ensures at { IfOk result (IsAt (T.knows to.new) (T.content to.new) level) }
     ensures remembers { IfOk result (λ _. Remembers (S.knows from.now) (S.content from.now)
         (T.knows to.new) (T.content to.new) offset.columns offset.rows memory.new) }
+    ensures right { IfOk result (λ _. AreMargins (S.content from.now) margins.new) }
     ensures slid { IfOk result (λ r. (cells : ℤ → ℤ → ℕ) (x y : ℤ)
         → IsBlock (S.content from.now) cells (2 ^ level) x y block.now
         → IsPiece cells (ahead x (offset.columns % 2 ^ level)) (ahead y (offset.rows % 2 ^ level))
@@ -118,7 +108,7 @@ fn slid_of_seen<S: Squares, T: Squares>(
     if let Some(cells) = leaf_cells(from, offset, level, block) {
         return to.small(cells);
     }
-    slid_by_quarters(from, to, memory, offset, level, block)
+    slid_by_quarters(from, to, memory, margins, offset, level, block)
 }
 
 #[cycle(slide)]
@@ -127,18 +117,21 @@ fn slid_by_quarters<S: Squares, T: Squares>(
     from: &S,
     to: &mut T,
     memory: &mut NeighbourhoodMemory,
+    margins: &mut MarginTable,
     offset: Offset,
     level: u8,
     block: &Quarters,
 ) -> Result<Id, Kind>
     requires remembers { Remembers (S.knows from.now) (S.content from.now) (T.knows to.old)
         (T.content to.old) offset.columns offset.rows memory.old }
+    requires right { AreMargins (S.content from.now) margins.old }
     requires known { InBlock (IsAt (S.knows from.now) (S.content from.now) level) block.now }
     requires high { level ≤ MAX_LEVEL }
     requires low { 1 ≤ level }
     ensures at { IfOk result (IsAt (T.knows to.new) (T.content to.new) level) }
     ensures remembers { IfOk result (λ _. Remembers (S.knows from.now) (S.content from.now)
         (T.knows to.new) (T.content to.new) offset.columns offset.rows memory.new) }
+    ensures right { IfOk result (λ _. AreMargins (S.content from.now) margins.new) }
     ensures slid { IfOk result (λ r. (cells : ℤ → ℤ → ℕ) (x y : ℤ)
         → IsBlock (S.content from.now) cells (2 ^ level) x y block.now
         → IsPiece cells (ahead x (offset.columns % 2 ^ level)) (ahead y (offset.rows % 2 ^ level))
@@ -162,7 +155,7 @@ fn slid_by_quarters<S: Squares, T: Squares>(
         digit(offset.columns, below),
         digit(offset.rows, below),
     );
-    let answer = slid_of_nine(from, to, memory, offset, below, &nine)?;
+    let answer = slid_of_nine(from, to, memory, margins, offset, below, &nine)?;
     remember(memory, level, block, answer);
     Ok(answer)
 }
@@ -173,17 +166,20 @@ fn slid_of_nine<S: Squares, T: Squares>(
     from: &S,
     to: &mut T,
     memory: &mut NeighbourhoodMemory,
+    margins: &mut MarginTable,
     offset: Offset,
     level: u8,
     nine: &Nine,
 ) -> Result<Id, Kind>
     requires remembers { Remembers (S.knows from.now) (S.content from.now) (T.knows to.old)
         (T.content to.old) offset.columns offset.rows memory.old }
+    requires right { AreMargins (S.content from.now) margins.old }
     requires known { InNine (IsAt (S.knows from.now) (S.content from.now) level) nine.now }
     requires high { level < MAX_LEVEL }
     ensures at { IfOk result (IsAt (T.knows to.new) (T.content to.new) (level + 1)) }
     ensures remembers { IfOk result (λ _. Remembers (S.knows from.now) (S.content from.now)
         (T.knows to.new) (T.content to.new) offset.columns offset.rows memory.new) }
+    ensures right { IfOk result (λ _. AreMargins (S.content from.now) margins.new) }
     ensures slid { IfOk result (λ r. (cells : ℤ → ℤ → ℕ) (x y : ℤ)
         → AreNine (S.content from.now) cells (2 ^ level) x y nine.now
         → IsPiece cells (ahead x (offset.columns % 2 ^ level)) (ahead y (offset.rows % 2 ^ level))
@@ -200,6 +196,7 @@ fn slid_of_nine<S: Squares, T: Squares>(
         from,
         to,
         memory,
+        margins,
         offset,
         level,
         &western(&nine.first, &nine.second),
@@ -208,6 +205,7 @@ fn slid_of_nine<S: Squares, T: Squares>(
         from,
         to,
         memory,
+        margins,
         offset,
         level,
         &eastern(&nine.first, &nine.second),
@@ -216,6 +214,7 @@ fn slid_of_nine<S: Squares, T: Squares>(
         from,
         to,
         memory,
+        margins,
         offset,
         level,
         &western(&nine.second, &nine.third),
@@ -224,6 +223,7 @@ fn slid_of_nine<S: Squares, T: Squares>(
         from,
         to,
         memory,
+        margins,
         offset,
         level,
         &eastern(&nine.second, &nine.third),
@@ -299,5 +299,6 @@ pub fn slid<S: SharedSquares, T: Squares>(
         to.old to.new }
 {
     let mut memory = NeighbourhoodMemory::new(alloc, from.seed());
-    slid_of(from, to, &mut memory, offset, level, block)
+    let mut margins = MarginTable::new(alloc);
+    slid_of(from, to, &mut memory, &mut margins, offset, level, block)
 }

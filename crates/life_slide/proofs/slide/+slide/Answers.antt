@@ -1,6 +1,6 @@
 use Rattle.std.proofs.Common.{◌≡◌, ℤ, ℕ, ◌+◌, ◌-◌, ◌%◌, ◌^◌, Result, Ok, Err, IfOk, refl, sym, ◌∙◌, ap, subst, arith}
 use Rattle.std.proofs.lemmas.Result.{IfOk-weaker}
-use Rattle.life_base.specs.Tree.{Tree, point, depth, IsFull}
+use Rattle.life_base.specs.Tree.{Tree, point, depth}
 use Rattle.life_base.proofs.Results.{on_err_any, on_err_both}
 use Rattle.life_quad.specs.Refused.{SomePart}
 use Rattle.life_quad.specs.Store.{four}
@@ -12,13 +12,12 @@ use Rattle.life_block.proofs.NeedLemmas.{AreParts, is-piece, joined-is, parts-of
 use Rattle.life_block.proofs.PieceLemmas.{IsPiece-moved}
 use Rattle.life_block.proofs.SquareLemmas.{square-is}
 use Rattle.life_slide.specs.Needed.{SomeOfBlock, SomeOfNine}
-use Rattle.life_slide.specs.Pieces.{AreNine, InBlock, IsBlock}
+use Rattle.life_slide.specs.Pieces.{AreNine, IsBlock}
 use Rattle.life_slide.proofs.NeedLemmas.{nine-of, of_north_east, of_north_west, of_quarters, of_south_east, of_south_west, swapped}
 use Rattle.life_slide.proofs.SlideLemmas.{ahead-none, begins, block-eastern, block-western, recalled-at, recalled-slid, rest-less, Remembers-kept, Remembers-more, slid-blank}
-use Rattle.life_slide.proofs.SeenLemmas.{seen-block, seen_cells, window-same}
 use Rattle.life_slide.proofs.slide.+slide.Given.{Over}
 use Rattle.life_slide.proofs.slide.+slide.Goals as goal
-use Rattle.life_slide.proofs.slide.+slide.Goals.{slid_of-After-slid_of_seen, slid_of_seen-After-small, slid_by_quarters-After-quarters-nine, slid_by_quarters-After-remember, slid_of_nine-After-join}
+use Rattle.life_slide.proofs.slide.+slide.Goals.{slid_of_seen-After-small, slid_by_quarters-After-quarters-nine, slid_by_quarters-After-remember, slid_of_nine-After-join}
 
 both : {T E : Type 0} {P Q R : T → Type 0} (r : Result T E) → ((x : T) → P x → Q x → R x) → IfOk r P → IfOk r Q → IfOk r R
 both (Ok x) f p q = f x p q
@@ -26,51 +25,35 @@ both (Err e) f p q = tt
 
 -- ---- without the squares that aren't seen
 
--- the four squares that are seen, on a plane without the others
-inside : (g : Over) (m : ℕ) (c : slid_of-After-slid_of_seen g m) (cells : ℤ → ℤ → ℕ) (x y : ℤ)
-    → IsBlock (g.S.Squares.content c.args.from.now) cells (2 ^ c.args.level) x y c.args.block.now
-    → (other : ℤ → ℤ → ℕ) × IsBlock (g.S.Squares.content c.args.from.now) other (2 ^ c.args.level) x y c.seen-inside.result
-    × (square_from other c.args.level (ahead x (c.args.offset.columns % 2 ^ c.args.level)) (ahead y (c.args.offset.rows % 2 ^ c.args.level))
-    ≡ square_from cells c.args.level (ahead x (c.args.offset.columns % 2 ^ c.args.level)) (ahead y (c.args.offset.rows % 2 ^ c.args.level)))
-inside g m c cells x y h =
-    let s = c.seen-inside.ensures in
+pub slid_of-returns-then-are_all-clause-slid : goal.slid_of-returns-then-are_all-clause-slid
+slid_of-returns-then-are_all-clause-slid g m c cells x y h =
     let k = c.args.level in
-    let content = g.S.Squares.content c.args.from.now in
-    let full = g.met.S.Squares.full c.args.from.now in
-    let known = c.requires.known in
-    let each : InBlock (λ id. IsFull (content id) × (depth (content id) ≡ k)) c.args.block.now = record {
-      nw = (full _ known.nw.known, known.nw.level);
-      ne = (full _ known.ne.known, known.ne.level);
-      sw = (full _ known.sw.known, known.sw.level);
-      se = (full _ known.se.known, known.se.level);
-    } in (
-      seen_cells cells s.0 s.1 x y k,
-      subst (IsBlock content (seen_cells cells s.0 s.1 x y k) (2 ^ k) x y) (sym s.4)
-          (seen-block content cells k x y c.args.block.now c.empty-blank.result c.empty-blank.ensures.square each h s.0 s.1),
-      sym (window-same cells s.0 s.1 x y k _ _ s.2 s.3),
-    )
+    let columns = c.args.offset.columns % 2 ^ k in
+    let rows = c.args.offset.rows % 2 ^ k in
+    let piece = slid-blank (g.S.Squares.content c.args.from.now) cells k x y columns rows c.empty.result
+    c.args.block.now c.empty.ensures.square (rest-less _ k) (rest-less _ k) (c.are_all.ensures c.if-are_all.true) h in
+    subst (IsPiece cells (ahead x columns) (ahead y rows)) (c.empty.ensures.square ∙ sym c.empty-then-are_all.ensures.square) piece
 
 pub slid_of-returns-clause-slid : goal.slid_of-returns-clause-slid
 slid_of-returns-clause-slid g m c =
-    let d = (goal.at.slid_of-returns-clause-slid g m c).After-slid_of_seen in
     both c.slid_of_seen.result
     (λ r at slid cells x y h.
-    let i = inside g m d cells x y h in
-    is-piece cells c.args.level _ _ _ (piece-is i.0 c.args.level _ _ _ (g.met.T.Squares.full _ _ at.known) at.level (slid i.0 x y i.1) ∙ i.2))
+    let i = c.seen-inside.ensures.seen cells x y h in
+    is-piece cells c.args.level _ _ _
+    (piece-is i.other c.args.level _ _ _ (g.met.T.Squares.full _ _ at.known) at.level (slid i.other x y i.are) ∙ i.same))
     c.slid_of_seen.ensures.at c.slid_of_seen.ensures.slid
 
 pub slid_of-returns-clause-needed : goal.slid_of-returns-clause-needed
 slid_of-returns-clause-needed g m c =
-    let d = (goal.at.slid_of-returns-clause-needed g m c).After-slid_of_seen in
     on_err_map c.slid_of_seen.result
-    (λ some cells x y h. let i = inside g m d cells x y h in subst (SomePart (g.T.Squares.needs_node c.slid_of_seen.new.to)) i.2 (some i.0 x y i.1))
+    (λ some cells x y h.
+    let i = c.seen-inside.ensures.seen cells x y h in subst (SomePart (g.T.Squares.needs_node c.slid_of_seen.new.to)) i.same (some i.other x y i.are))
     c.slid_of_seen.ensures.needed
 
 pub slid_of-returns-clause-adds : goal.slid_of-returns-clause-adds
 slid_of-returns-clause-adds g m c =
-    let d = (goal.at.slid_of-returns-clause-adds g m c).After-slid_of_seen in
     adds-as _ c.slid_of_seen.ensures.adds
-    (λ P some cells x y h. let i = inside g m d cells x y h in subst (SomePart P) i.2 (some i.0 x y i.1))
+    (λ P some cells x y h. let i = c.seen-inside.ensures.seen cells x y h in subst (SomePart P) i.same (some i.other x y i.are))
 
 -- ---- of squares that may be seen
 
