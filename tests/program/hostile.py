@@ -805,6 +805,127 @@ FEW_LINES = [
 ]
 
 
+# ---- forms of many squares
+
+
+def is_leaf_line(line):
+    return not line[:1].isdigit()
+
+
+def exchanged(lines):
+    """Node lines, with columns and rows exchanged."""
+    for line in lines:
+        if is_leaf_line(line):
+            rows = [row.ljust(8, b".") for row in line.rstrip(b"\n").split(b"$")[:8]]
+            yield b"".join(bytes(column).rstrip(b".") + b"$" for column in zip(*rows)) + b"\n"
+        else:
+            level, nw, ne, sw, se = line.split()
+            yield b" ".join((level, nw, sw, ne, se)) + b"\n"
+
+
+def elsewhere(lines):
+    """The node lines of a square of level L, and of one of level L + 2 in which it lies south-west of the middle."""
+    text = b"".join(lines)
+    last, level = text.count(b"\n"), int(text.splitlines()[-1].split()[0])
+    yield text + b"%d 0 %d 0 0\n%d 0 0 %d 0\n" % (level + 1, last, level + 2, last + 1)
+
+
+def chain_to(nodes, text, quarter, level):
+    """A square of this level with a leaf in one of its corners."""
+    square = nodes.join(3, text)
+    for up in range(4, level + 1):
+        square = nodes.join(up, *(square if it == quarter else 0 for it in range(4)))
+    return square
+
+
+def rows_along_a_seam(nodes, northern, southern, columns):
+    """A square of 2^columns northern squares, repeated, at its southern side, and one of as many southern squares at its northern side."""
+    level = nodes.squares[northern[0]][0]
+    for up in range(level + 1, level + columns + 1):
+        above, below = len(northern), len(southern)
+        northern = [nodes.join(up, 0, 0, northern[2 * i % above], northern[(2 * i + 1) % above]) for i in range(above)]
+        southern = [nodes.join(up, southern[2 * i % below], southern[(2 * i + 1) % below], 0, 0) for i in range(below)]
+    return northern[0], southern[0]
+
+
+def seam(above, below, columns, level):
+    """The node lines of two rows of 2^columns squares, in which two sequences are repeated whose lengths have no common divisor. Few squares
+    are different, but most squares across the seam between the rows are."""
+    @once
+    def text():
+        order, nodes = random.Random(3), Nodes()
+
+        def pairs(count, *quarters):
+            chains = [[chain_to(nodes, leaf(1 << order.randrange(64)), it, level - 1) for it in quarters] for _ in range(count)]
+            return [nodes.join(level, *([0, 0, *it] if 2 in quarters else [*it, 0, 0])) for it in chains]
+
+        north, south = rows_along_a_seam(nodes, pairs(above, 2, 3), pairs(below, 0, 1), columns)
+        yield from gathered(nodes.lines(nodes.join(level + columns + 1, 0, north, 0, south)))
+    return text
+
+
+def seam_in_a_margin(count, columns, level):
+    """The same of rows that differ in each square, where each square of the moved form has a square of the northern row and one row of the southern
+    one: the southern squares are alike in that row. So few squares of the form are different, though most of those across the seam are."""
+    @once
+    def text():
+        order, nodes = random.Random(3), Nodes()
+        north, south = rows_along_a_seam(
+            nodes, [chain_to(nodes, leaf(order.getrandbits(64)), 2, level) for _ in range(count)],
+            [chain_to(nodes, leaf(255 << 56 | order.getrandbits(56)), 0, level) for _ in range(count - 1)], columns)
+        first = chain_to(nodes, leaf(1 << 54), 0, level + columns)
+        yield from gathered(nodes.lines(nodes.join(level + columns + 1, first, north, 0, south)))
+    return text
+
+
+SEAM, MARGIN_SEAM = seam(128, 129, 14, 12), seam_in_a_margin(64, 12, 40)
+
+
+def random_rows(side):
+    """So many rows of as many cells, a third of them live."""
+    order, table = random.Random(7), bytes(b"o"[0] if byte < 85 else b"b"[0] for byte in range(256))
+    for _ in range(side):
+        yield order.randbytes(side).translate(table) + b"$\n"
+    yield b"!\n"
+
+
+@functools.cache
+def specks(count):
+    """Single cells anywhere in a square of 2^20 columns."""
+    order = random.Random(6)
+    return [(x, y) for y, x in sorted({(order.randrange(1 << 20), order.randrange(1 << 20)) for _ in range(count)})]
+
+
+def rle_moved(cells, west, north):
+    """The text in RLE of cells that lie so far further east and south."""
+    return rle_of(lambda: [(x + west, y + north) for x, y in cells()])
+
+
+def in_both_forms(name, text, **more):
+    """A pattern beside itself at another place, and turned."""
+    return [Case(f"{name}, {form}", f"same input other --form {form}", output=b"same\n", files={"input": text, "other": [LIFE, other]}, start=1.5, **more)
+            for form, other in (("moved", lambda: elsewhere(text[1]())), ("turned", lambda: exchanged(b"".join(text[1]()).splitlines(keepends=True))))]
+
+
+hundred_thousand = functools.partial(specks, 100_000)
+DUST = rle_moved(hundred_thousand, -777, 12345)
+FORMS = [
+    *(few_lines(f"2^20 single cells in 60 lines, {form}", SPECKS, LIFE + of_the_plane(SPECKS), f"canon input --form {form}", start=1.5)
+      for form in ("moved", "turned")),
+    # What is written of fewer such cells is compared above.
+    *(accepted(f"10^5 single cells in a square of 2^20, {form}", DUST, re.compile(rb"\A%s[.*$]+\n" % re.escape(LIFE)), f"canon input --form {form}",
+               times=400, **more) for form, more in (("moved", {"start": 1.5}), ("turned", {"start": 1.5, "each": 8, "seconds": 20}))),
+    Case("10^5 single cells in a square of 2^20 beside themselves, moved", "same input other --form moved", output=b"same\n",
+         files={"input": DUST, "other": rle_of(hundred_thousand)}, start=1.5, each=1.5, times=400),
+    *in_both_forms("786,432 cells in chains at random", [LIFE, mixed_blocks], little=60 * MEGABYTE),
+    *in_both_forms("a seam of two sequences", [LIFE, SEAM], little=400 * MEGABYTE, each=10),
+    *in_both_forms("a seam in a margin", [LIFE, MARGIN_SEAM], little=60 * MEGABYTE, each=15),
+    # Its form would have 2.2 million squares, and the limit is 2^21.
+    *(refused(f"10^8 cells at random, {form}", [HEADER, functools.partial(random_rows, 10_240)], "Full", f"canon input --form {form}", status=4,
+              little=400 * MEGABYTE, times=0, seconds=20, start=8, each=0) for form in ("moved", "turned")),
+]
+
+
 # ---- files that change while they are read, and slow sources
 
 MOVING = [(b"[M2]\n" + GLIDER, 1), (b"# a comment\n", 2_000_000)]
@@ -1149,7 +1270,7 @@ TABLES = [
 
 CASES = [
     *FIRST_CASES, *LONG_LINES, *MANY_LINES, *RLE, *DEEP_SQUARES, *DEVICES, *JOBS, *STEPS, *SINKS, *SOURCES, *LONG_TEXTS, *CHANGES, *MISUSED, *DASHES, *ASKED,
-    *LISTS, *LARGE_RLE, *FEW_LINES, *CHOSEN_KEYS, *TABLES, *LONGEST_INPUTS,
+    *LISTS, *LARGE_RLE, *FEW_LINES, *FORMS, *CHOSEN_KEYS, *TABLES, *LONGEST_INPUTS,
 ]
 
 

@@ -58,6 +58,7 @@ class Case:
     changes: bool = False  # whether a file changes while the program reads it
     control: object = None  # what says what is wrong where the input isn't what the case means it to be
     seconds: float = SECONDS
+    start: float = SECONDS_AT_START
     each: float = SECONDS_EACH_MEGABYTE
     times: float = TIMES
     little: int = LITTLE
@@ -275,7 +276,7 @@ def too_long(case, run):
     problems = []
     if run.elapsed >= case.seconds:
         problems.append(f"{run.elapsed} seconds")
-    if run.spent > SECONDS_AT_START + case.each * run.size / MEGABYTE:
+    if run.spent > case.start + case.each * run.size / MEGABYTE:
         problems.append(f"{run.spent:.2f} seconds of processor time for {run.size} bytes of input")
     return problems
 
