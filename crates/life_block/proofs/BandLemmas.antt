@@ -3,26 +3,21 @@ use Rattle.std.proofs.Common.{◌≡◌, ℕ, zero, suc, ◌+◌, ◌*◌, ◌-�
 use Rattle.std.specs.Int.{bit_at}
 use Rattle.std.proofs.lemmas.Int.{ints}
 use Rattle.std.proofs.lemmas.Bool.{cases_lt}
-use Rattle.std.proofs.lemmas.Nat.{shr_split}
 use Rattle.std.proofs.lemmas.Nat.Bits.{bit_at-lt, bit_at_cat_low, bit_at_cat_high}
 use Rattle.life_base.specs.Sets.{OuterTotalistic}
 use Rattle.life_base.specs.declared.rule.Near.{Near}
 use Rattle.life_base.specs.declared.rule.Near.TheVariants.{Moore, VonNeumann}
 use Rattle.life_sweep.specs.Generation.{before, after, next_by_count, next_life}
 use Rattle.life_table.specs.Meaning.{count_of}
-use Rattle.life_block.specs.Bits.{RowWords, counted_in, place_in, HasSquare, HasBand}
+use Rattle.life_lanes.specs.Places.{place_in}
+use Rattle.life_lanes.proofs.WordLemmas.{bit-mod, bit-shr, shl-high}
+use Rattle.life_block.specs.Bits.{RowWords, counted_in, HasSquare, HasBand}
 use Rattle.life_block.specs.Pieces.{ahead}
 use Rattle.life_block.proofs.CountLemmas.{four, eight}
-use Rattle.life_block.proofs.PlaceLemmas.{shl-high}
 use Rattle.life_block.proofs.SquareLemmas.{place-small}
-use Rattle.life_block.proofs.WordLemmas.{bit-shr}
 
 pub HasBand-moved : (cells : ℤ → ℤ → ℕ) (x y z : ℤ) (word : ℕ) → y ≡ z → HasBand cells x y word → HasBand cells x z word
 HasBand-moved cells x y z word e h r i lr li = h r i lr li ∙ ap (λ u. cells (x +ℤ pos i) (u +ℤ pos r)) e
-
--- the low bits of a word
-bit-mod : (n k i : ℕ) → i < k → bit_at (n % 2 ^ k) i ≡ bit_at n i
-bit-mod n k i l = sym (bit_at_cat_low (n / 2 ^ k) k (n % 2 ^ k) i l) ∙ ap (λ z. bit_at z i) (shr_split n k)
 
 -- ---- four squares side by side
 

@@ -6,12 +6,13 @@ use Rattle.std.proofs.lemmas.Bool.{cases_lt}
 use Rattle.std.proofs.lemmas.Nat.Bits.{bit_at-zero, bit_at_above}
 use Rattle.life_base.specs.Tree.{Tree, depth, tree_cell, half_side, IsFull}
 use Rattle.life_quad.specs.Store.{four}
-use Rattle.life_block.specs.Bits.{place_in, HasSquare, HasBand, AreBands}
+use Rattle.life_lanes.specs.Places.{place_in}
+use Rattle.life_lanes.proofs.WordLemmas.{bit-shr}
+use Rattle.life_block.specs.Bits.{HasSquare, HasBand, AreBands}
 use Rattle.life_block.specs.Pieces.{IsPiece, back, ahead, four_of}
 use Rattle.life_block.proofs.BandLemmas.{band-of_squares, rows-between}
 use Rattle.life_block.proofs.RootLemmas.{IsAlone, alone-root, piece-of_root}
 use Rattle.life_block.proofs.SquareLemmas.{square-of}
-use Rattle.life_block.proofs.WordLemmas.{bit-shr}
 
 -- the first column and row of the square
 abbrev pub start : ℤ

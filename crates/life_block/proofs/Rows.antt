@@ -1,7 +1,7 @@
 -- Worked examples, computed.
 use Rattle.std.specs.Prelude.{◌≡◌, ℕ, ℤ, pos, negsuc, [], ◌∷◌, refl, ◌&&◌, int_le, if◌then◌else◌}
 use Rattle.life_base.specs.Tree.{point, quad}
-use Rattle.life_block.specs.Bits.{neighbours_in, sides_in, count_at, place_in, exchanged}
+use Rattle.life_block.specs.Bits.{neighbours_in, sides_in, count_at}
 use Rattle.life_block.specs.Pieces.{IsPiece, back, ahead}
 
 -- the cells of a diagonal
@@ -41,23 +41,3 @@ three = refl
 
 four : count_at (record { ones = 1; twos = 1; fours = 2; eights = 0 }) 1 ≡ 4
 four = refl
-
--- of sixteen cells the first four are those of the north-western quarter, and the next two those of its neighbour in the east
-second_row : place_in 1 0 ≡ 2
-second_row = refl
-
-third_column : place_in 0 2 ≡ 4
-third_column = refl
-
-last_cell : place_in 3 3 ≡ 15
-last_cell = refl
-
--- bit 0 exchanged with bit 2
-from_above : exchanged 1 2 0 ≡ 2
-from_above = refl
-
-from_below : exchanged 1 2 2 ≡ 0
-from_below = refl
-
-between : exchanged 1 2 1 ≡ 1
-between = refl

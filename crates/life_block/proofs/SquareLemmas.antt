@@ -4,7 +4,8 @@ use Rattle.std.specs.Int.{bit_at}
 use Rattle.std.proofs.lemmas.Int.{ints}
 use Rattle.life_base.specs.Tree.{Tree, point}
 use Rattle.life_quad.specs.Store.{two, four}
-use Rattle.life_block.specs.Bits.{place_in, HasSquare}
+use Rattle.life_lanes.specs.Places.{place_in}
+use Rattle.life_block.specs.Bits.{HasSquare}
 use Rattle.life_block.specs.Needed.{square_from}
 use Rattle.life_block.specs.Pieces.{IsPiece}
 use Rattle.life_block.proofs.NeedLemmas.{quads}

@@ -4,8 +4,6 @@ use Rattle.std.proofs.Common.{◌≡◌, ◌⊎◌, inl, inr, ℕ, zero, suc, �
 use Rattle.std.specs.Int.{bit_at, bit_not}
 use Rattle.std.specs.Int.Bits.{bit_and, bit_or}
 use Rattle.std.specs.Int.RustNames.{bit_xor}
-use Rattle.std.proofs.lemmas.Nat.{shr-shr}
-use Rattle.std.proofs.Math.Nat.{add_comm}
 use Rattle.std.proofs.lemmas.Nat.Bits.{bit_at_and, bit_at_or, bit_at_xor, bit_at_not, bit_at-lt}
 
 -- the two digits of a sum of three bits
@@ -36,10 +34,6 @@ sum-digits a b c i =
     ap (λ z. z + 2 * bit_at (bit_or (bit_and a b) (bit_and (bit_xor a b) c)) i) one
     ∙ ap (λ z. ((bit_at a i + bit_at b i) % 2 + bit_at c i) % 2 + 2 * z) two
     ∙ digits (bit_at a i) (bit_at b i) (bit_at c i) (bit_at-lt a i) (bit_at-lt b i) (bit_at-lt c i)
-
--- shifted to the right
-pub bit-shr : (n k i : ℕ) → bit_at (n / 2 ^ k) i ≡ bit_at n (i + k)
-bit-shr n k i = ap (λ z. z % 2) (shr-shr n k i) ∙ ap (λ z. bit_at n z) (add_comm k i)
 
 -- the digits of a number below 16, each by its place
 binary : (p q r s n : ℕ) → p < 2 → q < 2 → r < 2 → s < 2 → p + 2 * q + 4 * r + 8 * s ≡ n → (p ≡ n % 2) × (q ≡ n / 2 % 2) × (r ≡ n / 4 % 2) × (s ≡ n / 8)

@@ -1,8 +1,9 @@
 -- Cells as words of 64 bits.
-use Rattle.std.specs.Prelude.{◌≡◌, ℕ, ◌+◌, ◌-◌, ◌*◌, ◌/◌, ◌%◌, ◌^◌, ◌<◌, ◌==◌, if◌then◌else◌, ℤ, pos, ◌+ℤ◌, List, [], ◌∷◌}
+use Rattle.std.specs.Prelude.{◌≡◌, ℕ, ◌+◌, ◌-◌, ◌*◌, ◌<◌, ℤ, pos, ◌+ℤ◌, List, [], ◌∷◌}
 use Rattle.std.specs.Int.{bit_at}
 use Rattle.life_base.specs.declared.rule.Near.{Near}
 use Rattle.life_base.specs.declared.rule.Near.TheVariants.{Moore, VonNeumann}
+use Rattle.life_lanes.specs.Places.{place_in}
 use Rattle.life_block.specs.declared.counts.BitCounts.{BitCounts}
 use Rattle.life_block.specs.declared.grid.Four.{Four}
 use Rattle.life_block.specs.Pieces.{AreFourAt, back}
@@ -30,15 +31,6 @@ counted_in VonNeumann = sides_in
 -- the number that the four words have in column i
 abbrev pub count_at : BitCounts → ℕ → ℕ
 count_at c i = bit_at c.ones i + 2 * bit_at c.twos i + 4 * bit_at c.fours i + 8 * bit_at c.eights i
-
--- the place of a cell among the sixteen of a square of level 2, by its row and its column, where the cells of each quarter stand together
-abbrev pub place_in : ℕ → ℕ → ℕ
-place_in r i = 8 * (r / 2) + 4 * (i / 2) + 2 * (r % 2) + i % 2
-
--- the place from which bit i comes where each bit of a mask is exchanged with the one so far above it
-abbrev pub exchanged : ℕ → ℕ → ℕ → ℕ
-exchanged mask distance i =
-    if bit_at mask i == 1 then i + distance else if bit_at (mask * 2 ^ distance) i == 1 then i - distance else i
 
 -- the number has the states of a square of level 2 from the column x and the row y on, the north-western one in the highest of 16 bits
 abbrev pub HasSquare : (ℤ → ℤ → ℕ) → ℤ → ℤ → ℕ → Type 0

@@ -2,12 +2,13 @@
 pub use Rattle.life_base.specs.Refusal.{fault_of, IsMemory}
 pub use Rattle.life_base.specs.Rules.{has_digit}
 pub use Rattle.life_base.specs.Tree.{depth, point, tree_cell}
-pub use Rattle.life_block.specs.Bits.{AreBands, count_at, counted_in, exchanged, HasBand, neighbours_in, place_in, sides_in}
+pub use Rattle.life_block.specs.Bits.{AreBands, count_at, counted_in, HasBand, neighbours_in, sides_in}
 pub use Rattle.life_block.specs.Laws.{IsNextAt, IsNextOfNine, IsPieceBy, RemembersBy}
 pub use Rattle.life_block.specs.Needed.{HasClearEdge, level_behind, next_plane, next_square, SomeOfBands, SomeOfNext, SomeOfNine, SomeOfSixteen, square_from}
 pub use Rattle.life_block.specs.Pieces.{ahead, AreFour, AreNine, AreSixteen, AreThree, at_corner, back, eastern, four_of, front, in_middle, InFour, InNine}
 pub use Rattle.life_block.specs.Pieces.{InSixteen, InThree, IsAt, IsBinary, IsPiece, IsWhereBinary, Nine as NineValue, rear, western}
 pub use Rattle.life_block.specs.Remembered.{ids_of, Remembers}
+pub use Rattle.life_lanes.specs.Places.{place_in}
 pub use Rattle.life_quad.specs.Grows.{IsWantOf, Keeps}
 pub use Rattle.life_quad.specs.Keeping.{AddsOnly, IsWantFault}
 pub use Rattle.life_quad.specs.Memory.{Recalls}
@@ -18,4 +19,3 @@ pub use Rattle.life_sweep.specs.Generation.{after, before, IsNextLife, LifeAnswe
 pub use Rattle.life_sweep.specs.Refused.{GenerationRefusal, SomeNext}
 pub use Rattle.life_table.specs.Meaning.{Becomes, count_of}
 pub use Rattle.std.specs.Int.{bit_at}
-pub use Rattle.std.specs.Int.Bits.{bit_and}

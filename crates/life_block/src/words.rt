@@ -1,22 +1,12 @@
 //! Words of four rows of sixteen cells, and their next states. The highest bit is the north-western cell, then come the cells east of it, and
 //! then the rows south of it.
-ghost use Rattle.std.specs.Prelude.{◌≡◌, ℕ, ℤ, ◌+◌, ◌-◌, ◌*◌, ◌<◌, ◌^◌};
-ghost use Rattle.life_block.specs.Words.{bit_at, bit_and, four, before, after, next_life, place_in, exchanged, HasBand, square_from, back, ahead};
+ghost use Rattle.std.specs.Prelude.{◌≡◌, ℕ, ℤ, ◌+◌, ◌-◌, ◌*◌, ◌<◌};
+ghost use Rattle.life_block.specs.Words.{bit_at, four, before, after, next_life, place_in, HasBand, square_from, back, ahead};
 
 use crate::counts::next_word;
 use life_base::LifeRule;
+use life_lanes::exchange;
 use life_sweep::Column;
-
-// A word with each bit of a mask exchanged with the one so far above it.
-fn exchange(word: u64, mask: u64, distance: u32) -> u64
-    requires near { distance < 64 }
-    requires within { mask * 2 ^ distance < 2 ^ 64 }
-    requires apart { bit_and mask (mask * 2 ^ distance) ≡ 0 }
-    ensures { (i : ℕ) → bit_at result i ≡ bit_at word (exchanged mask distance i) }
-{
-    let different = (word ^ (word >> distance)) & mask;
-    word ^ different ^ (different << distance)
-}
 
 /// The rows of four squares of level 2 side by side, from their cells as `Squares::small_cells` takes them, the western square the highest.
 pub(crate) fn rows_of_squares(squares: u64) -> u64

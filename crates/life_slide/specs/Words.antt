@@ -1,9 +1,10 @@
 -- The words of the contracts of this crate.
 pub use Rattle.life_base.specs.declared.cell.TheConstants.{MAX_LEVEL}
 pub use Rattle.life_base.specs.Tree.{depth, is_blank_tree, Tree, tree_cell}
-pub use Rattle.life_block.specs.Bits.{exchanged, HasSquare, place_in}
+pub use Rattle.life_block.specs.Bits.{HasSquare}
 pub use Rattle.life_block.specs.Needed.{square_from}
 pub use Rattle.life_block.specs.Pieces.{ahead, IsAt, IsPiece}
+pub use Rattle.life_lanes.specs.Places.{place_in}
 pub use Rattle.life_quad.specs.Cells.{IsLeastBox}
 pub use Rattle.life_quad.specs.Grows.{IsWantOf, Keeps}
 pub use Rattle.life_quad.specs.Keeping.{AddsOnly}
@@ -17,4 +18,3 @@ pub use Rattle.life_slide.specs.Needed.{own_square_at, SomeOfBlock, SomeOfNine}
 pub use Rattle.life_slide.specs.Pieces.{AreFour, AreNine, AreTwo, eastern, four_of, HasBlockAt, HasRows, in_corner, InBlock, InFour, InNine, InThree, IsBlock, IsNear, plane_from, root_from, start, three_from, western}
 pub use Rattle.life_slide.specs.Remembered.{ids_of, IsAnswer, Remembers}
 pub use Rattle.std.specs.Int.{bit_at}
-pub use Rattle.std.specs.Int.Bits.{bit_and}

@@ -1,41 +1,17 @@
 //! Four squares of level 2, two by two, as a word of their 64 cells.
-ghost use Rattle.std.specs.Prelude.{◌≡◌, ℕ, ℤ, ◌+◌, ◌-◌, ◌*◌, ◌/◌, ◌%◌, ◌<◌, ◌^◌, IfSome};
-ghost use Rattle.life_slide.specs.Words.{bit_at, bit_and, place_in, exchanged, HasSquare, HasRows, IsBlock, InBlock, IsAt, ahead, four};
+ghost use Rattle.std.specs.Prelude.{◌≡◌, ℕ, ℤ, ◌+◌, ◌-◌, ◌*◌, ◌%◌, ◌<◌, IfSome};
+ghost use Rattle.life_slide.specs.Words.{bit_at, place_in, HasSquare, HasRows, IsBlock, InBlock, IsAt, ahead, four};
 
 use crate::slide::Offset;
+use life_lanes::{by_quarters, by_rows};
 use life_quad::{Id, Quarters, Squares};
-
-// A word with each bit of a mask exchanged with the one so far above it.
-fn exchange(word: u64, mask: u64, distance: u32) -> u64
-    requires near { distance < 64 }
-    requires within { mask * 2 ^ distance < 2 ^ 64 }
-    requires apart { bit_and mask (mask * 2 ^ distance) ≡ 0 }
-    ensures { (i : ℕ) → bit_at result i ≡ bit_at word (exchanged mask distance i) }
-{
-    let different = (word ^ (word >> distance)) & mask;
-    word ^ different ^ (different << distance)
-}
-
-// The eight rows of four squares of level 2, from their cells as `Squares::small_cells` takes them, the north-western square the highest.
-fn rows_of_squares(squares: u64) -> u64
-    ensures { (r i : ℕ) → r < 8 → i < 8
-        → bit_at result (63 - (8 * r + i))
-        ≡ bit_at squares (63 - (16 * (2 * (r / 4) + i / 4) + place_in (r % 4) (i % 4))) }
-{
-    let a = exchange(squares, 0x0000_FF00_0000_FF00, 8);
-    let b = exchange(a, 0x00CC_00CC_00CC_00CC, 6);
-    exchange(b, 0x0C0C_0C0C_0C0C_0C0C, 2)
-}
 
 // The cells of the north-western square of level 2 of eight rows.
 fn first_square(rows: u64) -> u16
     ensures { (r i : ℕ) → r < 4 → i < 4
         → bit_at result (15 - place_in r i) ≡ bit_at rows (63 - (8 * r + i)) }
 {
-    let b = exchange(rows, 0x0C0C_0C0C_0C0C_0C0C, 2);
-    let a = exchange(b, 0x00CC_00CC_00CC_00CC, 6);
-    let squares = exchange(a, 0x0000_FF00_0000_FF00, 8);
-    (squares >> 48) as u16
+    (by_quarters(rows) >> 48) as u16
 }
 
 // The cells of a square of level 2, where the store gives them.
@@ -58,7 +34,7 @@ fn rows_of<S: Squares>(squares: &S, block: &Quarters) -> Option<u64>
     let b = cells_in(squares, block.ne)?;
     let c = cells_in(squares, block.sw)?;
     let d = cells_in(squares, block.se)?;
-    Some(rows_of_squares(((a * 65_536 + b) * 65_536 + c) * 65_536 + d))
+    Some(by_rows(((a * 65_536 + b) * 65_536 + c) * 65_536 + d))
 }
 
 // The cells of the square of level 2 that begins so many columns east and rows south of the first of eight rows.

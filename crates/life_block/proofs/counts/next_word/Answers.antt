@@ -6,7 +6,8 @@ use Rattle.life_table.specs.Meaning.{count_of}
 use Rattle.life_sweep.specs.Generation.{next_by_count}
 use Rattle.life_block.specs.Bits.{count_at, counted_in}
 use Rattle.life_block.proofs.CountLemmas.{few-counted}
-use Rattle.life_block.proofs.WordLemmas.{bit-shr, bit-chosen, next-of}
+use Rattle.life_lanes.proofs.WordLemmas.{bit-shr}
+use Rattle.life_block.proofs.WordLemmas.{bit-chosen, next-of}
 use Rattle.life_block.proofs.counts.next_word.Goals as goal
 
 pub returns : goal.returns

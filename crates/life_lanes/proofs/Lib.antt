@@ -1,0 +1,3 @@
+pub mod PlaceLemmas
+pub mod Rows
+pub mod WordLemmas
