@@ -1,10 +1,10 @@
 -- Rows and numbers in the room of a node line.
-use Rattle.std.proofs.Common.{◌≡◌, ℕ, ◌+◌, ◌≤◌, ◌<◌, ◌^◌, List, ◌++◌, take, length, decimal, codes, refl, ap, sym, ◌∙◌, arith}
-use Rattle.std.proofs.lemmas.List.{take-take, append_assoc, length-take-le}
+use Rattle.std.proofs.Common.{◌≡◌, ℕ, ◌+◌, ◌-◌, ◌≤◌, ◌<◌, ◌^◌, List, [], ◌∷◌, ◌++◌, take, drop, set, length, length-drop, decimal, codes, refl, ap, sym, ◌∙◌, arith}
+use Rattle.std.proofs.lemmas.List.{take-take, append_assoc, length-take-le, take_more_set}
 use Rattle.std.proofs.lemmas.Slice.{take-put_mid}
 use Rattle.std.proofs.lemmas.Fmt.{length-decimal-le}
 use Rattle.std.proofs.Math.Seq.{take-append-add}
-use borrow.Rule.Slice.PartMut.{put_mid}
+use borrow.Rule.Slice.PartMut.{put_mid, same_len_mid}
 use Rattle.life_mc.specs.Writing.{node_text}
 use Rattle.life_mc.specs.declared.line.Line.TheVariants.{Quad}
 
@@ -17,6 +17,26 @@ within-part room text at n inside fits size e =
     ∙ ap (take (at + n)) (take-put_mid at size room text (at + length text) refl inside)
     ∙ ap (λ k. take (k + n) (take at room ++ text)) (sym front)
     ∙ take-append-add (take at room) text n
+
+-- a part that was put keeps the length
+put-length : (room text : List ℕ) (at size : ℕ) → at ≤ length room → at + size ≤ length room → length text ≡ size → length (put_mid at size room text) ≡ length room
+put-length room text at size inside fits e =
+    same_len_mid at size room text (e ∙ sym (length-take-le size (drop at room) (omega (arith, length-drop at room, inside, fits))))
+
+-- a row that was put up to a place, and its end after it
+pub row-put : (room text row : List ℕ) (at n size : ℕ) → at + 9 ≤ length room → length text ≡ 8 → size ≡ 8 → 1 ≤ n → n ≤ 9
+    → take (n - 1) text ++ 36 ∷ [] ≡ row → take (at + n) (set (put_mid at size room text) (at + n - 1) 36) ≡ take at room ++ row
+row-put room text row at n size inside eight e some most is =
+    let parts = put_mid at size room text in
+    let last : at + n - 1 ≡ at + (n - 1) = omega (arith, some) in
+    let more : at + (n - 1) + 1 ≡ at + n = omega (arith, some) in
+    let within : at + (n - 1) < length parts = omega (arith, put-length room text at size (omega (arith, inside)) (omega (arith, inside, e)) (omega (arith, eight, e)), inside, most) in
+    ap (λ k. take k (set parts (at + n - 1) 36)) (sym more)
+    ∙ ap (λ k. take (at + (n - 1) + 1) (set parts k 36)) last
+    ∙ take_more_set parts (at + (n - 1)) 36 within
+    ∙ ap (λ l. l ++ 36 ∷ []) (within-part room text at (n - 1) (omega (arith, inside)) (omega (arith, eight, most)) size (omega (arith, eight, e)))
+    ∙ append_assoc (take at room) (take (n - 1) text) (36 ∷ [])
+    ∙ ap (λ l. take at room ++ l) is
 
 -- a number has at most 20 digits
 pub digits-fit : (n : ℕ) → n < 2 ^ 64 → length (decimal n) ≤ 20

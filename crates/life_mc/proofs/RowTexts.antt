@@ -1,15 +1,16 @@
 -- The texts of rows: the table is held against their definition at each of the 256 rows, by computing.
-use Rattle.std.proofs.Common.{◌≡◌, ◌∙◌, ◌+◌, ◌*◌, ◌<◌, ℕ, List, [], length, take, drop, map, get_or, refl, ap, sym, arith}
+use Rattle.std.proofs.Common.{◌≡◌, ◌∙◌, ◌+◌, ◌-◌, ◌<◌, ◌≤◌, ◌++◌, ℕ, List, [], ◌∷◌, length, take, map, get_or, codes, w64, refl, ap, sym, arith, slice_index}
 use lib.Count.{count_trailing_zeros}
 use Rattle.std.specs.Prelude.{bit_or}
+use Rattle.std.specs.Int.{to_le_bytes}
 use Rattle.std.specs.List.{range_with_len}
 use Rattle.std.proofs.lemmas.List.FromFn.{get_or-map-range_with_len}
-use Rattle.life_mc.specs.declared.line_writing.TheConstants.{ROW_TEXTS}
+use Rattle.life_mc.specs.declared.line_writing.TheConstants.{ROW_WORDS}
 use Rattle.life_mc.specs.Writing.{row_cells, row_text}
 
--- the bytes of the table that are a row's text
+-- the cells up to the last live one in the table, and the end of the row
 abbrev pub in_table : ℕ → List ℕ
-in_table row = take (length (row_text row)) (take 9 (drop (9 * row) ROW_TEXTS))
+in_table row = take (length (row_text row) - 1) (to_le_bytes w64 (slice_index ROW_WORDS row)) ++ codes "$"
 
 texts : map in_table (range_with_len 0 256) ≡ map row_text (range_with_len 0 256)
 unfolding row_cells
@@ -32,3 +33,11 @@ pub whole_text : (row : ℕ) → row < 256 → count_trailing_zeros 32 (bit_or r
 whole_text row h =
     sym (get_or-map-range_with_len whole 0 256 row row 0 h (omega arith)) ∙ ap (λ (t : List ℕ). get_or t row 0) wholes
     ∙ get_or-map-range_with_len (λ _. 9) 0 256 row row 0 h (omega arith)
+
+ended : (cells : List ℕ) → 1 ≤ length (cells ++ 36 ∷ [])
+ended [] = omega arith
+ended (b ∷ cells) = omega arith
+
+-- it has its end
+pub some_text : (row : ℕ) → 1 ≤ length (row_text row)
+some_text row = ended _

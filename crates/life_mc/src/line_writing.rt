@@ -10,40 +10,265 @@ use life_base::Kind;
 /// The most bytes of a node line: five numbers of 20 digits, the four spaces between them, and a line feed.
 pub const LONGEST_NODE_LINE: usize = 105;
 
-/// The text of each row, one after another, each filled up with spaces to nine bytes.
-static ROW_TEXTS: [u8; 2304] = *b"\
-    $        .......*$......*$ ......**$.....*$  .....*.*$.....**$ .....***$\
-    ....*$   ....*..*$....*.*$ ....*.**$....**$  ....**.*$....***$ ....****$\
-    ...*$    ...*...*$...*..*$ ...*..**$...*.*$  ...*.*.*$...*.**$ ...*.***$\
-    ...**$   ...**..*$...**.*$ ...**.**$...***$  ...***.*$...****$ ...*****$\
-    ..*$     ..*....*$..*...*$ ..*...**$..*..*$  ..*..*.*$..*..**$ ..*..***$\
-    ..*.*$   ..*.*..*$..*.*.*$ ..*.*.**$..*.**$  ..*.**.*$..*.***$ ..*.****$\
-    ..**$    ..**...*$..**..*$ ..**..**$..**.*$  ..**.*.*$..**.**$ ..**.***$\
-    ..***$   ..***..*$..***.*$ ..***.**$..****$  ..****.*$..*****$ ..******$\
-    .*$      .*.....*$.*....*$ .*....**$.*...*$  .*...*.*$.*...**$ .*...***$\
-    .*..*$   .*..*..*$.*..*.*$ .*..*.**$.*..**$  .*..**.*$.*..***$ .*..****$\
-    .*.*$    .*.*...*$.*.*..*$ .*.*..**$.*.*.*$  .*.*.*.*$.*.*.**$ .*.*.***$\
-    .*.**$   .*.**..*$.*.**.*$ .*.**.**$.*.***$  .*.***.*$.*.****$ .*.*****$\
-    .**$     .**....*$.**...*$ .**...**$.**..*$  .**..*.*$.**..**$ .**..***$\
-    .**.*$   .**.*..*$.**.*.*$ .**.*.**$.**.**$  .**.**.*$.**.***$ .**.****$\
-    .***$    .***...*$.***..*$ .***..**$.***.*$  .***.*.*$.***.**$ .***.***$\
-    .****$   .****..*$.****.*$ .****.**$.*****$  .*****.*$.******$ .*******$\
-    *$       *......*$*.....*$ *.....**$*....*$  *....*.*$*....**$ *....***$\
-    *...*$   *...*..*$*...*.*$ *...*.**$*...**$  *...**.*$*...***$ *...****$\
-    *..*$    *..*...*$*..*..*$ *..*..**$*..*.*$  *..*.*.*$*..*.**$ *..*.***$\
-    *..**$   *..**..*$*..**.*$ *..**.**$*..***$  *..***.*$*..****$ *..*****$\
-    *.*$     *.*....*$*.*...*$ *.*...**$*.*..*$  *.*..*.*$*.*..**$ *.*..***$\
-    *.*.*$   *.*.*..*$*.*.*.*$ *.*.*.**$*.*.**$  *.*.**.*$*.*.***$ *.*.****$\
-    *.**$    *.**...*$*.**..*$ *.**..**$*.**.*$  *.**.*.*$*.**.**$ *.**.***$\
-    *.***$   *.***..*$*.***.*$ *.***.**$*.****$  *.****.*$*.*****$ *.******$\
-    **$      **.....*$**....*$ **....**$**...*$  **...*.*$**...**$ **...***$\
-    **..*$   **..*..*$**..*.*$ **..*.**$**..**$  **..**.*$**..***$ **..****$\
-    **.*$    **.*...*$**.*..*$ **.*..**$**.*.*$  **.*.*.*$**.*.**$ **.*.***$\
-    **.**$   **.**..*$**.**.*$ **.**.**$**.***$  **.***.*$**.****$ **.*****$\
-    ***$     ***....*$***...*$ ***...**$***..*$  ***..*.*$***..**$ ***..***$\
-    ***.*$   ***.*..*$***.*.*$ ***.*.**$***.**$  ***.**.*$***.***$ ***.****$\
-    ****$    ****...*$****..*$ ****..**$****.*$  ****.*.*$****.**$ ****.***$\
-    *****$   *****..*$*****.*$ *****.**$******$  ******.*$*******$ ********$";
+/// The text of the eight cells of each row, `.` or `*` for each, the western one in the lowest byte.
+static ROW_WORDS: [u64; 256] = [
+    0x2E2E_2E2E_2E2E_2E2E,
+    0x2A2E_2E2E_2E2E_2E2E,
+    0x2E2A_2E2E_2E2E_2E2E,
+    0x2A2A_2E2E_2E2E_2E2E,
+    0x2E2E_2A2E_2E2E_2E2E,
+    0x2A2E_2A2E_2E2E_2E2E,
+    0x2E2A_2A2E_2E2E_2E2E,
+    0x2A2A_2A2E_2E2E_2E2E,
+    0x2E2E_2E2A_2E2E_2E2E,
+    0x2A2E_2E2A_2E2E_2E2E,
+    0x2E2A_2E2A_2E2E_2E2E,
+    0x2A2A_2E2A_2E2E_2E2E,
+    0x2E2E_2A2A_2E2E_2E2E,
+    0x2A2E_2A2A_2E2E_2E2E,
+    0x2E2A_2A2A_2E2E_2E2E,
+    0x2A2A_2A2A_2E2E_2E2E,
+    0x2E2E_2E2E_2A2E_2E2E,
+    0x2A2E_2E2E_2A2E_2E2E,
+    0x2E2A_2E2E_2A2E_2E2E,
+    0x2A2A_2E2E_2A2E_2E2E,
+    0x2E2E_2A2E_2A2E_2E2E,
+    0x2A2E_2A2E_2A2E_2E2E,
+    0x2E2A_2A2E_2A2E_2E2E,
+    0x2A2A_2A2E_2A2E_2E2E,
+    0x2E2E_2E2A_2A2E_2E2E,
+    0x2A2E_2E2A_2A2E_2E2E,
+    0x2E2A_2E2A_2A2E_2E2E,
+    0x2A2A_2E2A_2A2E_2E2E,
+    0x2E2E_2A2A_2A2E_2E2E,
+    0x2A2E_2A2A_2A2E_2E2E,
+    0x2E2A_2A2A_2A2E_2E2E,
+    0x2A2A_2A2A_2A2E_2E2E,
+    0x2E2E_2E2E_2E2A_2E2E,
+    0x2A2E_2E2E_2E2A_2E2E,
+    0x2E2A_2E2E_2E2A_2E2E,
+    0x2A2A_2E2E_2E2A_2E2E,
+    0x2E2E_2A2E_2E2A_2E2E,
+    0x2A2E_2A2E_2E2A_2E2E,
+    0x2E2A_2A2E_2E2A_2E2E,
+    0x2A2A_2A2E_2E2A_2E2E,
+    0x2E2E_2E2A_2E2A_2E2E,
+    0x2A2E_2E2A_2E2A_2E2E,
+    0x2E2A_2E2A_2E2A_2E2E,
+    0x2A2A_2E2A_2E2A_2E2E,
+    0x2E2E_2A2A_2E2A_2E2E,
+    0x2A2E_2A2A_2E2A_2E2E,
+    0x2E2A_2A2A_2E2A_2E2E,
+    0x2A2A_2A2A_2E2A_2E2E,
+    0x2E2E_2E2E_2A2A_2E2E,
+    0x2A2E_2E2E_2A2A_2E2E,
+    0x2E2A_2E2E_2A2A_2E2E,
+    0x2A2A_2E2E_2A2A_2E2E,
+    0x2E2E_2A2E_2A2A_2E2E,
+    0x2A2E_2A2E_2A2A_2E2E,
+    0x2E2A_2A2E_2A2A_2E2E,
+    0x2A2A_2A2E_2A2A_2E2E,
+    0x2E2E_2E2A_2A2A_2E2E,
+    0x2A2E_2E2A_2A2A_2E2E,
+    0x2E2A_2E2A_2A2A_2E2E,
+    0x2A2A_2E2A_2A2A_2E2E,
+    0x2E2E_2A2A_2A2A_2E2E,
+    0x2A2E_2A2A_2A2A_2E2E,
+    0x2E2A_2A2A_2A2A_2E2E,
+    0x2A2A_2A2A_2A2A_2E2E,
+    0x2E2E_2E2E_2E2E_2A2E,
+    0x2A2E_2E2E_2E2E_2A2E,
+    0x2E2A_2E2E_2E2E_2A2E,
+    0x2A2A_2E2E_2E2E_2A2E,
+    0x2E2E_2A2E_2E2E_2A2E,
+    0x2A2E_2A2E_2E2E_2A2E,
+    0x2E2A_2A2E_2E2E_2A2E,
+    0x2A2A_2A2E_2E2E_2A2E,
+    0x2E2E_2E2A_2E2E_2A2E,
+    0x2A2E_2E2A_2E2E_2A2E,
+    0x2E2A_2E2A_2E2E_2A2E,
+    0x2A2A_2E2A_2E2E_2A2E,
+    0x2E2E_2A2A_2E2E_2A2E,
+    0x2A2E_2A2A_2E2E_2A2E,
+    0x2E2A_2A2A_2E2E_2A2E,
+    0x2A2A_2A2A_2E2E_2A2E,
+    0x2E2E_2E2E_2A2E_2A2E,
+    0x2A2E_2E2E_2A2E_2A2E,
+    0x2E2A_2E2E_2A2E_2A2E,
+    0x2A2A_2E2E_2A2E_2A2E,
+    0x2E2E_2A2E_2A2E_2A2E,
+    0x2A2E_2A2E_2A2E_2A2E,
+    0x2E2A_2A2E_2A2E_2A2E,
+    0x2A2A_2A2E_2A2E_2A2E,
+    0x2E2E_2E2A_2A2E_2A2E,
+    0x2A2E_2E2A_2A2E_2A2E,
+    0x2E2A_2E2A_2A2E_2A2E,
+    0x2A2A_2E2A_2A2E_2A2E,
+    0x2E2E_2A2A_2A2E_2A2E,
+    0x2A2E_2A2A_2A2E_2A2E,
+    0x2E2A_2A2A_2A2E_2A2E,
+    0x2A2A_2A2A_2A2E_2A2E,
+    0x2E2E_2E2E_2E2A_2A2E,
+    0x2A2E_2E2E_2E2A_2A2E,
+    0x2E2A_2E2E_2E2A_2A2E,
+    0x2A2A_2E2E_2E2A_2A2E,
+    0x2E2E_2A2E_2E2A_2A2E,
+    0x2A2E_2A2E_2E2A_2A2E,
+    0x2E2A_2A2E_2E2A_2A2E,
+    0x2A2A_2A2E_2E2A_2A2E,
+    0x2E2E_2E2A_2E2A_2A2E,
+    0x2A2E_2E2A_2E2A_2A2E,
+    0x2E2A_2E2A_2E2A_2A2E,
+    0x2A2A_2E2A_2E2A_2A2E,
+    0x2E2E_2A2A_2E2A_2A2E,
+    0x2A2E_2A2A_2E2A_2A2E,
+    0x2E2A_2A2A_2E2A_2A2E,
+    0x2A2A_2A2A_2E2A_2A2E,
+    0x2E2E_2E2E_2A2A_2A2E,
+    0x2A2E_2E2E_2A2A_2A2E,
+    0x2E2A_2E2E_2A2A_2A2E,
+    0x2A2A_2E2E_2A2A_2A2E,
+    0x2E2E_2A2E_2A2A_2A2E,
+    0x2A2E_2A2E_2A2A_2A2E,
+    0x2E2A_2A2E_2A2A_2A2E,
+    0x2A2A_2A2E_2A2A_2A2E,
+    0x2E2E_2E2A_2A2A_2A2E,
+    0x2A2E_2E2A_2A2A_2A2E,
+    0x2E2A_2E2A_2A2A_2A2E,
+    0x2A2A_2E2A_2A2A_2A2E,
+    0x2E2E_2A2A_2A2A_2A2E,
+    0x2A2E_2A2A_2A2A_2A2E,
+    0x2E2A_2A2A_2A2A_2A2E,
+    0x2A2A_2A2A_2A2A_2A2E,
+    0x2E2E_2E2E_2E2E_2E2A,
+    0x2A2E_2E2E_2E2E_2E2A,
+    0x2E2A_2E2E_2E2E_2E2A,
+    0x2A2A_2E2E_2E2E_2E2A,
+    0x2E2E_2A2E_2E2E_2E2A,
+    0x2A2E_2A2E_2E2E_2E2A,
+    0x2E2A_2A2E_2E2E_2E2A,
+    0x2A2A_2A2E_2E2E_2E2A,
+    0x2E2E_2E2A_2E2E_2E2A,
+    0x2A2E_2E2A_2E2E_2E2A,
+    0x2E2A_2E2A_2E2E_2E2A,
+    0x2A2A_2E2A_2E2E_2E2A,
+    0x2E2E_2A2A_2E2E_2E2A,
+    0x2A2E_2A2A_2E2E_2E2A,
+    0x2E2A_2A2A_2E2E_2E2A,
+    0x2A2A_2A2A_2E2E_2E2A,
+    0x2E2E_2E2E_2A2E_2E2A,
+    0x2A2E_2E2E_2A2E_2E2A,
+    0x2E2A_2E2E_2A2E_2E2A,
+    0x2A2A_2E2E_2A2E_2E2A,
+    0x2E2E_2A2E_2A2E_2E2A,
+    0x2A2E_2A2E_2A2E_2E2A,
+    0x2E2A_2A2E_2A2E_2E2A,
+    0x2A2A_2A2E_2A2E_2E2A,
+    0x2E2E_2E2A_2A2E_2E2A,
+    0x2A2E_2E2A_2A2E_2E2A,
+    0x2E2A_2E2A_2A2E_2E2A,
+    0x2A2A_2E2A_2A2E_2E2A,
+    0x2E2E_2A2A_2A2E_2E2A,
+    0x2A2E_2A2A_2A2E_2E2A,
+    0x2E2A_2A2A_2A2E_2E2A,
+    0x2A2A_2A2A_2A2E_2E2A,
+    0x2E2E_2E2E_2E2A_2E2A,
+    0x2A2E_2E2E_2E2A_2E2A,
+    0x2E2A_2E2E_2E2A_2E2A,
+    0x2A2A_2E2E_2E2A_2E2A,
+    0x2E2E_2A2E_2E2A_2E2A,
+    0x2A2E_2A2E_2E2A_2E2A,
+    0x2E2A_2A2E_2E2A_2E2A,
+    0x2A2A_2A2E_2E2A_2E2A,
+    0x2E2E_2E2A_2E2A_2E2A,
+    0x2A2E_2E2A_2E2A_2E2A,
+    0x2E2A_2E2A_2E2A_2E2A,
+    0x2A2A_2E2A_2E2A_2E2A,
+    0x2E2E_2A2A_2E2A_2E2A,
+    0x2A2E_2A2A_2E2A_2E2A,
+    0x2E2A_2A2A_2E2A_2E2A,
+    0x2A2A_2A2A_2E2A_2E2A,
+    0x2E2E_2E2E_2A2A_2E2A,
+    0x2A2E_2E2E_2A2A_2E2A,
+    0x2E2A_2E2E_2A2A_2E2A,
+    0x2A2A_2E2E_2A2A_2E2A,
+    0x2E2E_2A2E_2A2A_2E2A,
+    0x2A2E_2A2E_2A2A_2E2A,
+    0x2E2A_2A2E_2A2A_2E2A,
+    0x2A2A_2A2E_2A2A_2E2A,
+    0x2E2E_2E2A_2A2A_2E2A,
+    0x2A2E_2E2A_2A2A_2E2A,
+    0x2E2A_2E2A_2A2A_2E2A,
+    0x2A2A_2E2A_2A2A_2E2A,
+    0x2E2E_2A2A_2A2A_2E2A,
+    0x2A2E_2A2A_2A2A_2E2A,
+    0x2E2A_2A2A_2A2A_2E2A,
+    0x2A2A_2A2A_2A2A_2E2A,
+    0x2E2E_2E2E_2E2E_2A2A,
+    0x2A2E_2E2E_2E2E_2A2A,
+    0x2E2A_2E2E_2E2E_2A2A,
+    0x2A2A_2E2E_2E2E_2A2A,
+    0x2E2E_2A2E_2E2E_2A2A,
+    0x2A2E_2A2E_2E2E_2A2A,
+    0x2E2A_2A2E_2E2E_2A2A,
+    0x2A2A_2A2E_2E2E_2A2A,
+    0x2E2E_2E2A_2E2E_2A2A,
+    0x2A2E_2E2A_2E2E_2A2A,
+    0x2E2A_2E2A_2E2E_2A2A,
+    0x2A2A_2E2A_2E2E_2A2A,
+    0x2E2E_2A2A_2E2E_2A2A,
+    0x2A2E_2A2A_2E2E_2A2A,
+    0x2E2A_2A2A_2E2E_2A2A,
+    0x2A2A_2A2A_2E2E_2A2A,
+    0x2E2E_2E2E_2A2E_2A2A,
+    0x2A2E_2E2E_2A2E_2A2A,
+    0x2E2A_2E2E_2A2E_2A2A,
+    0x2A2A_2E2E_2A2E_2A2A,
+    0x2E2E_2A2E_2A2E_2A2A,
+    0x2A2E_2A2E_2A2E_2A2A,
+    0x2E2A_2A2E_2A2E_2A2A,
+    0x2A2A_2A2E_2A2E_2A2A,
+    0x2E2E_2E2A_2A2E_2A2A,
+    0x2A2E_2E2A_2A2E_2A2A,
+    0x2E2A_2E2A_2A2E_2A2A,
+    0x2A2A_2E2A_2A2E_2A2A,
+    0x2E2E_2A2A_2A2E_2A2A,
+    0x2A2E_2A2A_2A2E_2A2A,
+    0x2E2A_2A2A_2A2E_2A2A,
+    0x2A2A_2A2A_2A2E_2A2A,
+    0x2E2E_2E2E_2E2A_2A2A,
+    0x2A2E_2E2E_2E2A_2A2A,
+    0x2E2A_2E2E_2E2A_2A2A,
+    0x2A2A_2E2E_2E2A_2A2A,
+    0x2E2E_2A2E_2E2A_2A2A,
+    0x2A2E_2A2E_2E2A_2A2A,
+    0x2E2A_2A2E_2E2A_2A2A,
+    0x2A2A_2A2E_2E2A_2A2A,
+    0x2E2E_2E2A_2E2A_2A2A,
+    0x2A2E_2E2A_2E2A_2A2A,
+    0x2E2A_2E2A_2E2A_2A2A,
+    0x2A2A_2E2A_2E2A_2A2A,
+    0x2E2E_2A2A_2E2A_2A2A,
+    0x2A2E_2A2A_2E2A_2A2A,
+    0x2E2A_2A2A_2E2A_2A2A,
+    0x2A2A_2A2A_2E2A_2A2A,
+    0x2E2E_2E2E_2A2A_2A2A,
+    0x2A2E_2E2E_2A2A_2A2A,
+    0x2E2A_2E2E_2A2A_2A2A,
+    0x2A2A_2E2E_2A2A_2A2A,
+    0x2E2E_2A2E_2A2A_2A2A,
+    0x2A2E_2A2E_2A2A_2A2A,
+    0x2E2A_2A2E_2A2A_2A2A,
+    0x2A2A_2A2E_2A2A_2A2A,
+    0x2E2E_2E2A_2A2A_2A2A,
+    0x2A2E_2E2A_2A2A_2A2A,
+    0x2E2A_2E2A_2A2A_2A2A,
+    0x2A2A_2E2A_2A2A_2A2A,
+    0x2E2E_2A2A_2A2A_2A2A,
+    0x2A2E_2A2A_2A2A_2A2A,
+    0x2E2A_2A2A_2A2A_2A2A,
+    0x2A2A_2A2A_2A2A_2A2A,
+];
 
 /// How many bytes the text of a row has: one for each cell up to the last live one, and `$`.
 fn row_length(row: u8) -> usize
@@ -53,31 +278,28 @@ fn row_length(row: u8) -> usize
     9 - (u32::from(row) | 256).trailing_zeros() as usize
 }
 
-/// The text of a row, with spaces after it.
-fn row_bytes(row: u8) -> &'static [u8]
-    ensures nine { length result.now ≡ 9 }
-    ensures text { take (length (row_text row)) result.now ≡ row_text row }
-{
-    let start = 9 * usize::from(row);
-    &ROW_TEXTS[start..start + 9]
-}
-
-/// Writes a row of a leaf from a place on, and returns where it ends. Bytes after it are overwritten.
-fn write_row(room: &mut [u8; LONGEST_NODE_LINE], at: usize, row: u8) -> usize
-    requires { at ≤ 96 }
+/// Writes a row of a leaf from a place on, and returns where it ends. Bytes after it are overwritten, up to nine bytes from that place on.
+#[inline(always)]
+fn write_row(room: &mut [u8], at: usize, row: u8) -> usize
+    requires { at + 9 ≤ length room.old }
     ensures written { take result room.new ≡ take at room.old ++ row_text row }
     ensures end { result ≤ at + 9 }
 {
-    room[at..at + 9].copy_from_slice(row_bytes(row));
-    at + row_length(row)
+    room[at..at + 8].copy_from_slice(&ROW_WORDS[usize::from(row)].to_le_bytes());
+    let end = at + row_length(row);
+    room[end - 1] = b'$';
+    end
 }
 
-/// Writes the line of a leaf at the beginning of the space, and returns where it ends.
-fn write_leaf(room: &mut [u8; LONGEST_NODE_LINE], rows: &[u8; 8]) -> usize
-    ensures written { take result room.new ≡ flat_map row_text rows.now ++ codes "\n" }
-    ensures end { result ≤ 105 }
+/// Writes the line of a leaf from a place on, and returns where it ends. Bytes after it are overwritten.
+#[inline(always)]
+fn write_leaf(room: &mut [u8], at: usize, rows: &[u8; 8]) -> usize
+    requires { at + 105 ≤ length room.old }
+    ensures written { take result room.new
+        ≡ take at room.old ++ (flat_map row_text rows.now ++ codes "\n") }
+    ensures end { result ≤ at + 105 }
 {
-    let mut end = 0;
+    let mut end = at;
     for row in rows {
         end = write_row(room, end, *row);
     }
@@ -141,7 +363,7 @@ pub fn append_line(out: &mut Vec<u8>, line: &Line) -> Result<(), Kind>
     let mut room = [0; LONGEST_NODE_LINE];
     match line {
         Line::Leaf(rows) => {
-            let end = write_leaf(&mut room, rows);
+            let end = write_leaf(&mut room, 0, rows);
             out.extend_from_slice(&room[..end])?;
         }
         Line::Quad {

@@ -1,10 +1,10 @@
-use Rattle.std.proofs.Common.{◌≡◌, ◌≤◌, ◌*◌, take}
+use Rattle.std.proofs.Common.{◌≡◌, ◌≤◌, ◌+◌, ◌*◌, ◌++◌, take}
 use Rattle.std.specs.Prelude.{flat_map}
 use Rattle.life_mc.specs.Writing.{row_text}
 use Rattle.life_mc.proofs.line_writing.write_leaf.Given as goal
 
 abbrev pub invariant-loop-row : goal.invariant-loop-row
 invariant-loop-row l = record {
-  within : l.end ≤ 9 * l.row-index;
-  written : take l.end l.room ≡ flat_map row_text (take l.row-index l.rows);
+  within : l.end ≤ l.at + 9 * l.row-index;
+  written : take l.end l.room ≡ take l.at l.fn.room ++ flat_map row_text (take l.row-index l.rows);
 }
