@@ -21,30 +21,6 @@ and_mix true false false d = refl
 
 -- ---- one row
 
--- the bits of cells, of which the first has this one
-abbrev pub bits_from : ℕ → List ℕ → ℕ
-bits_from bit [] = 0
-bits_from bit (b ∷ row) = cond (b == 42) bit 0 + bits_from (bit / 2) row
-
-no_bits : (row : List ℕ) → bits_from 0 row ≡ 0
-no_bits [] = refl
-no_bits (b ∷ row) = either (b == 42) (no_bits row)
-  where
-    either : (v : Bool) → bits_from 0 row ≡ 0 → cond v 0 0 + bits_from (0 / 2) row ≡ 0
-    either true h = omega (arith, h)
-    either false h = omega (arith, h)
-
-pub row_bits : (row : List ℕ) → row_byte row ≡ bits_from 128 row
-row_bits [] = refl
-row_bits (a ∷ []) = omega arith
-row_bits (a ∷ b ∷ []) = omega arith
-row_bits (a ∷ b ∷ c ∷ []) = omega arith
-row_bits (a ∷ b ∷ c ∷ d ∷ []) = omega arith
-row_bits (a ∷ b ∷ c ∷ d ∷ e ∷ []) = omega arith
-row_bits (a ∷ b ∷ c ∷ d ∷ e ∷ f ∷ []) = omega arith
-row_bits (a ∷ b ∷ c ∷ d ∷ e ∷ f ∷ g ∷ []) = omega arith
-row_bits (a ∷ b ∷ c ∷ d ∷ e ∷ f ∷ g ∷ i ∷ row) = omega (arith, no_bits row)
-
 -- cells that can stand from the column of this bit on
 abbrev pub fits : ℕ → List ℕ → Bool
 fits bit [] = true
@@ -159,29 +135,29 @@ leaf_bytes_are text = pad 8 8 (leaf_rows text) (omega arith)
 
 -- ---- one row of several
 
--- the bit of a column; of those behind the last one 0
-abbrev pub column_bit : ℕ → ℕ
-column_bit zero = 128
-column_bit (suc c) = column_bit c / 2
+-- a row that the end of its text ends is the same where `$` is there
+ends-there : (n : ℕ) → n ≤ 8 → first_row (drop n (replicate 16 36)) ≡ []
+ends-there zero h = refl
+ends-there (suc zero) h = refl
+ends-there (suc (suc zero)) h = refl
+ends-there (suc (suc (suc zero))) h = refl
+ends-there (suc (suc (suc (suc zero)))) h = refl
+ends-there (suc (suc (suc (suc (suc zero))))) h = refl
+ends-there (suc (suc (suc (suc (suc (suc zero)))))) h = refl
+ends-there (suc (suc (suc (suc (suc (suc (suc zero))))))) h = refl
+ends-there (suc (suc (suc (suc (suc (suc (suc (suc zero)))))))) h = refl
+ends-there (suc (suc (suc (suc (suc (suc (suc (suc (suc n))))))))) h = absurd (omega (arith, h))
 
-goes_on : (text : List ℕ) (i : ℕ) → is_empty (first_row (drop i text)) ≡ false → first_row (drop i text) ≡ get_or text i 0 ∷ first_row (drop (suc i) text)
-goes_on [] zero h = cc
-goes_on [] (suc i) h = cc
-goes_on (b ∷ text) zero h = by (b == 36) h
+row-before : (text rest : List ℕ) → first_row rest ≡ [] → first_row (text ++ rest) ≡ first_row text
+row-before [] rest h = h
+row-before (b ∷ text) rest h = by (b == 36) (row-before text rest h)
   where
-    by : (v : Bool) → is_empty (cond v [] (b ∷ first_row text)) ≡ false → cond v [] (b ∷ first_row text) ≡ b ∷ first_row text
-    by true h = cc
-    by false h = refl
-goes_on (b ∷ text) (suc i) h = goes_on text i h
+    by : (v : Bool) → first_row (text ++ rest) ≡ first_row text → cond v [] (b ∷ first_row (text ++ rest)) ≡ cond v [] (b ∷ first_row text)
+    by true ih = refl
+    by false ih = ap (λ (t : List ℕ). b ∷ t) ih
 
--- a row that has not ended goes on with a cell
-pub row_goes_on : (text : List ℕ) (i : ℕ) → is_empty (first_row (drop i text)) ≡ false
-    → first_row (drop i text) ≡ get_or text i 0 ∷ first_row (drop (i + 1) text)
-row_goes_on text i h = rw add-one (goes_on text i h)
-
-pub no_more : (row : List ℕ) → is_empty row ≡ true → row ≡ []
-no_more [] h = refl
-no_more (b ∷ row) h = cc
+pub row-ended : (text : List ℕ) (n : ℕ) → n ≤ 8 → first_row (text ++ drop n (replicate 16 36)) ≡ first_row text
+row-ended text n h = row-before text (drop n (replicate 16 36)) (ends-there n h)
 
 -- ---- all rows of several
 

@@ -1,32 +1,9 @@
 //! The rows of a leaf line.
 
-ghost use Rattle.std.specs.Prelude.{◌≡◌, ◌<◌, ◌≤◌, ◌+◌, ◌-◌, ◌%◌, ◌^◌, ◌==◌, ◌&&◌, take, map, true, false, nat_lt, drop, length, MatchOption, if◌then◌else◌};
-ghost use Rattle.life_mc.specs.Words.{mask_l, byte, is_empty, is_leaf, leaf_bytes, row_byte, is_cell, first_row, front_cells, TellsRow};
+ghost use Rattle.std.specs.Prelude.{◌≡◌, ◌<◌, ◌≤◌, ◌+◌, ◌-◌, ◌%◌, ◌^◌, ◌==◌, take, map, true, false, drop, length, MatchOption};
+ghost use Rattle.life_mc.specs.Words.{mask_l, is_leaf, leaf_bytes, row_byte, first_row, front_cells, TellsRow};
 
 use std::simd::prelude::*;
-
-/// What a cell adds to the byte of its row, where its column has this bit, and 0 is after the last one; nothing, if it can't be there.
-/// It is computed without a branch on the state, which no processor can guess.
-fn cell_bit(cell: u8, bit: u8) -> Option<u8>
-    ensures { MatchOption result ((is_cell cell && nat_lt 0 bit) ≡ false)
-        (λ added. ((is_cell cell && nat_lt 0 bit) ≡ true)
-        × (added ≡ (if cell == byte "*" then bit else 0))) }
-{
-    if bit == 0 || (cell != b'*' && cell != b'.') {
-        return None;
-    }
-    Some(bit * u8::from(cell == b'*'))
-}
-
-/// Whether the first row of a text has ended before this byte.
-fn ends_at(text: &[u8], at: usize) -> bool
-    ensures { result ≡ is_empty (first_row (drop at text.now)) }
-{
-    match text.get(at) {
-        Some(byte) => *byte == b'$',
-        None => true,
-    }
-}
 
 /// Which of the first eight bytes of a text are this one: a bit each, that of the first byte the lowest.
 fn places(text: &[u8], byte: u8) -> u64
@@ -65,7 +42,9 @@ fn first_columns(row: u8, column: usize) -> u8
     row - rest as u8
 }
 
-/// The same as `cells_row`, of a text of more than eight bytes, which are looked at together.
+/// The first row of a text of more than eight bytes, if it is one of a leaf, and how many bytes it has. The first eight bytes are looked at
+/// together.
+#[inline(always)]
 fn whole_row(text: &[u8]) -> Option<(u8, usize)>
     requires { 8 < length text.now }
     ensures { TellsRow (first_row text.now) result }
@@ -77,25 +56,14 @@ fn whole_row(text: &[u8]) -> Option<(u8, usize)>
     Some((first_columns(eight_columns(text), end), end))
 }
 
-/// The first row of a text, if it is one of a leaf, and how many bytes it has. The loop has a fixed number of turns, so that it is laid out
-/// turn by turn.
-fn cells_row(text: &[u8]) -> Option<(u8, usize)>
+/// The same of a shorter text, which is ended as a row is.
+fn short_row(text: &[u8]) -> Option<(u8, usize)>
+    requires { length text.now ≤ 8 }
     ensures { TellsRow (first_row text.now) result }
 {
-    let mut row = 0u8;
-    let mut bit = 128u8;
-    for column in 0..8 {
-        if ends_at(text, column) {
-            return Some((row, column));
-        }
-        row += cell_bit(text[column], bit)?;
-        bit /= 2;
-    }
-    if ends_at(text, 8) {
-        Some((row, 8))
-    } else {
-        None
-    }
+    let mut ended = [b'$'; 16];
+    ended[..text.len()].copy_from_slice(text);
+    whole_row(&ended)
 }
 
 /// The first row of a text, if it is one of a leaf, and how many bytes it has.
@@ -105,7 +73,7 @@ fn read_row(text: &[u8]) -> Option<(u8, usize)>
     if text.len() > 8 {
         whole_row(text)
     } else {
-        cells_row(text)
+        short_row(text)
     }
 }
 
