@@ -5,7 +5,7 @@ mod Walk
 mod LineWords
 mod LineFacts
 mod Leaves
-mod LeafDigits
+mod LeafWords
 mod Content
 mod Planes
 mod Canonical

@@ -30,7 +30,7 @@ pub use Rattle.life_canon.specs.Needs.{LacksForFront, SomeAtEnd, SomeGrown, Some
 pub use Rattle.life_canon.specs.PieceLaws.{piece-begins, piece-stops, unfailed}
 pub use Rattle.life_canon.specs.Pieces.{PieceBreaks, PieceTakes, WritesFront}
 pub use Rattle.life_canon.specs.Room.{AddsLines, FewSquares, FrontsHold, HoldsFile, HoldsFront, room_for, RoomSuffices}
-pub use Rattle.life_canon.specs.Rows.{row_of_four, row_of_two, rows_side_by_side}
+pub use Rattle.life_canon.specs.Rows.{row_of_four, row_of_two, rows_side_by_side, square_in}
 pub use Rattle.life_canon.specs.Running.{AreWorking, ReadsPattern, RunsCanon}
 pub use Rattle.life_canon.specs.Store.{content, ForEachFile, IsKnown, IsOfFile, IsPatternOf, IsRead, IsTrimmed, IsWant, Keeps, RefusesIn, universe_in}
 pub use Rattle.life_canon.specs.Taking.{bytes_of, IsEnd, IsFrontOf, IsOpen, IsOver, IsReady, StandsFor, taken}

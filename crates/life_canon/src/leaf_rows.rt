@@ -1,9 +1,10 @@
 //! The rows of a leaf's cells, each cell looked up once.
 
-ghost use Rattle.std.specs.Prelude.{◌≡◌, ◌+◌, ◌*◌, ◌<◌, ◌∷◌, [], ℕ, slice_index};
-ghost use Rattle.life_canon.specs.Words.{depth, state_at, HasStatesUpTo, rows_of, four, row_of_two, row_of_four, rows_side_by_side};
+ghost use Rattle.std.specs.Prelude.{◌≡◌, ◌+◌, ◌*◌, ◌<◌, ◌∷◌, ◌++◌, [], ℕ, slice_index, IfSome};
+ghost use Rattle.life_canon.specs.Words.{depth, state_at, HasStatesUpTo, rows_of, four, row_of_two, row_of_four, rows_side_by_side, square_in};
 
 use crate::orientation::Orientation;
+use life_lanes::by_rows;
 use life_quad::{Id, Quarters, Squares};
 
 /// The state of a cell.
@@ -98,8 +99,7 @@ fn beside(west: [u8; 4], east: [u8; 4]) -> [u8; 4]
     ]
 }
 
-/// The rows of eight cells of two squares of level 2 side by side. If the store gives the cells of both, no square is looked up.
-#[inline(always)]
+/// The rows of eight cells of two squares of level 2 side by side, each cell looked up.
 fn rows_beside<S: Squares, O: Orientation>(
     squares: &S,
     orientation: &O,
@@ -115,19 +115,83 @@ fn rows_beside<S: Squares, O: Orientation>(
     ensures { result ≡ rows_side_by_side (O.seen orientation.now (S.content squares.now west))
         (O.seen orientation.now (S.content squares.now east)) }
 {
-    match (
-        orientation.small_cells(squares, west),
-        orientation.small_cells(squares, east),
-    ) {
-        (Some(west), Some(east)) => beside(rows_of_cells(west), rows_of_cells(east)),
-        _ => beside(
-            four_rows(squares, orientation, west),
-            four_rows(squares, orientation, east),
-        ),
-    }
+    beside(
+        four_rows(squares, orientation, west),
+        four_rows(squares, orientation, east),
+    )
 }
 
-/// The eight rows of a square of level 3 as bytes, the western cell the highest bit.
+/// The eight rows of four squares of level 2, two by two, each cell looked up. It is never inlined: a store of few squares gives their cells.
+#[inline(never)]
+fn rows_of_quarters<S: Squares, O: Orientation>(
+    squares: &S,
+    orientation: &O,
+    parts: &Quarters,
+) -> [u8; 8]
+    requires nw { S.knows squares.now parts.now.nw }
+    requires nw_level { depth (O.seen orientation.now (S.content squares.now parts.now.nw)) ≡ 2 }
+    requires nw_states { HasStatesUpTo 1 (O.seen orientation.now (S.content squares.now parts.now.nw)) }
+    requires ne { S.knows squares.now parts.now.ne }
+    requires ne_level { depth (O.seen orientation.now (S.content squares.now parts.now.ne)) ≡ 2 }
+    requires ne_states { HasStatesUpTo 1 (O.seen orientation.now (S.content squares.now parts.now.ne)) }
+    requires sw { S.knows squares.now parts.now.sw }
+    requires sw_level { depth (O.seen orientation.now (S.content squares.now parts.now.sw)) ≡ 2 }
+    requires sw_states { HasStatesUpTo 1 (O.seen orientation.now (S.content squares.now parts.now.sw)) }
+    requires se { S.knows squares.now parts.now.se }
+    requires se_level { depth (O.seen orientation.now (S.content squares.now parts.now.se)) ≡ 2 }
+    requires se_states { HasStatesUpTo 1 (O.seen orientation.now (S.content squares.now parts.now.se)) }
+    ensures { result
+        ≡ rows_side_by_side (O.seen orientation.now (S.content squares.now parts.now.nw))
+        (O.seen orientation.now (S.content squares.now parts.now.ne))
+        ++ rows_side_by_side (O.seen orientation.now (S.content squares.now parts.now.sw))
+        (O.seen orientation.now (S.content squares.now parts.now.se)) }
+{
+    let north = rows_beside(squares, orientation, parts.nw, parts.ne);
+    let south = rows_beside(squares, orientation, parts.sw, parts.se);
+    [
+        north[0], north[1], north[2], north[3], south[0], south[1], south[2], south[3],
+    ]
+}
+
+/// The cells of four squares of level 2, two by two, as `Squares::small_cells` gives them, those of the north-western one highest, if the
+/// store gives all of them.
+#[inline(always)]
+fn cells_of<S: Squares, O: Orientation>(
+    squares: &S,
+    orientation: &O,
+    parts: &Quarters,
+) -> Option<u64>
+    requires nw { S.knows squares.now parts.now.nw }
+    requires ne { S.knows squares.now parts.now.ne }
+    requires sw { S.knows squares.now parts.now.sw }
+    requires se { S.knows squares.now parts.now.se }
+    ensures { IfSome result
+        (λ cells. (O.seen orientation.now (S.content squares.now parts.now.nw) ≡ square_in cells 48)
+        × (O.seen orientation.now (S.content squares.now parts.now.ne) ≡ square_in cells 32)
+        × (O.seen orientation.now (S.content squares.now parts.now.sw) ≡ square_in cells 16)
+        × (O.seen orientation.now (S.content squares.now parts.now.se) ≡ square_in cells 0)) }
+{
+    let nw = orientation.small_cells(squares, parts.nw)?;
+    let ne = orientation.small_cells(squares, parts.ne)?;
+    let sw = orientation.small_cells(squares, parts.sw)?;
+    let se = orientation.small_cells(squares, parts.se)?;
+    let north = u64::from(nw) * 0x1_0000 + u64::from(ne);
+    let south = u64::from(sw) * 0x1_0000 + u64::from(se);
+    Some(north * 0x1_0000_0000 + south)
+}
+
+/// The eight rows of four squares of level 2, two by two, from their cells.
+#[inline(always)]
+fn rows_of_word(cells: u64) -> [u8; 8]
+    ensures { result ≡ rows_side_by_side (square_in cells 48) (square_in cells 32)
+        ++ rows_side_by_side (square_in cells 16) (square_in cells 0) }
+{
+    by_rows(cells).to_be_bytes()
+}
+
+/// The eight rows of a square of level 3 as bytes, the western cell the highest bit. If the store gives the cells of its quarters, no further square
+/// is looked up.
+#[inline(always)]
 pub(crate) fn eight_rows<S: Squares, O: Orientation>(
     squares: &S,
     orientation: &O,
@@ -138,10 +202,9 @@ pub(crate) fn eight_rows<S: Squares, O: Orientation>(
     requires states { HasStatesUpTo 1 (O.seen orientation.now (S.content squares.now id)) }
     ensures { result ≡ rows_of (O.seen orientation.now (S.content squares.now id)) }
 {
-    let Quarters { nw, ne, sw, se } = orientation.quarters(squares, id);
-    let north = rows_beside(squares, orientation, nw, ne);
-    let south = rows_beside(squares, orientation, sw, se);
-    [
-        north[0], north[1], north[2], north[3], south[0], south[1], south[2], south[3],
-    ]
+    let parts = orientation.quarters(squares, id);
+    if let Some(cells) = cells_of(squares, orientation, &parts) {
+        return rows_of_word(cells);
+    }
+    rows_of_quarters(squares, orientation, &parts)
 }

@@ -1,49 +1,30 @@
 //! Squares of a store, made from node lines.
 
 ghost use Rattle.std.specs.Prelude.{◌≡◌, ◌+◌, ◌-◌, ◌/◌, ◌%◌, ◌^◌, ◌<◌, ◌≤◌, IfOk, OnOk, max};
-ghost use Rattle.life_canon.specs.Words.{RuleValue, depth, tree_cell, leaf_cell, level_of, IsSquare, is_quarter, tree_at, tree_of, line_tree, leaf_tree, LineValue, two, four, SomePart, AreSquaresIn, ForLines, HasGrown, SomeGrown, SomeOfLine, GrowsOnly};
+ghost use Rattle.life_canon.specs.Words.{RuleValue, depth, tree_cell, leaf_cell, level_of, IsSquare, is_quarter, tree_at, tree_of, line_tree, leaf_tree, LineValue, four, SomePart, AreSquaresIn, ForLines, HasGrown, SomeGrown, SomeOfLine, GrowsOnly};
 ghost use Rattle.std.specs.Prelude.{List, map, true, ℤ};
 
 use life_base::{Kind, MAX_LEVEL};
+use life_lanes::by_quarters;
 use life_mc::Line;
 use life_quad::{Id, Squares, grow};
 
-/// By four cells of a row, a bit each: the western two and the eastern two as hexadecimal digits.
-static PAIRS: [u8; 16] = [
-    0x00, 0x01, 0x02, 0x03, 0x10, 0x11, 0x12, 0x13, 0x20, 0x21, 0x22, 0x23, 0x30, 0x31, 0x32, 0x33,
-];
-
-/// The four cells of a row of a leaf from this column on, by two: the digits of the western and of the eastern ones.
-fn pairs(row: u8, column: u8) -> u16
-    requires column { column < 5 }
-    ensures west { result / 16 ≡ row / 2 ^ (6 - column) % 4 }
-    ensures east { result % 16 ≡ row / 2 ^ (4 - column) % 4 }
-    ensures small { result < 64 }
+/// The cells of the four squares of level 2 of a leaf, as `Squares::small` takes them: of the north-western, the north-eastern, the south-western and
+/// the south-eastern one.
+#[inline(always)]
+fn leaf_cells(rows: &[u8; 8]) -> (u16, u16, u16, u16)
+    ensures nw { four result.0 ≡ tree_at (leaf_cell rows.now) 2 0 0 }
+    ensures ne { four result.1 ≡ tree_at (leaf_cell rows.now) 2 4 0 }
+    ensures sw { four result.2 ≡ tree_at (leaf_cell rows.now) 2 0 4 }
+    ensures se { four result.3 ≡ tree_at (leaf_cell rows.now) 2 4 4 }
 {
-    u16::from(PAIRS[usize::from((row >> (4 - column)) % 16)])
-}
-
-/// The cells of two squares of level 1 side by side, the western one's north-west cell in this column and row of a leaf: a hexadecimal digit each,
-/// of which the highest bit is the north-west cell, then come the north-east, the south-west and the south-east one.
-fn two_digits(rows: &[u8; 8], column: u8, row: u8) -> u16
-    requires column { column < 5 }
-    requires row { row < 7 }
-    ensures west { two (result / 16) ≡ tree_at (leaf_cell rows.now) 1 column row }
-    ensures east { two (result % 16) ≡ tree_at (leaf_cell rows.now) 1 (column + 2) row }
-    ensures small { result < 256 }
-{
-    let north = pairs(rows[row as usize], column);
-    let south = pairs(rows[row as usize + 1], column);
-    4 * north + south
-}
-
-/// The cells of the square of level 2 whose north-west cell is in this column and row of a leaf, as `Squares::small` takes them.
-fn sixteen_bits(rows: &[u8; 8], column: u8, row: u8) -> u16
-    requires column { column < 5 }
-    requires row { row < 5 }
-    ensures { four result ≡ tree_at (leaf_cell rows.now) 2 column row }
-{
-    256 * two_digits(rows, column, row) + two_digits(rows, column, row + 2)
+    let cells = by_quarters(u64::from_be_bytes(*rows));
+    (
+        ((cells >> 48) % 0x1_0000) as u16,
+        ((cells >> 32) % 0x1_0000) as u16,
+        ((cells >> 16) % 0x1_0000) as u16,
+        (cells % 0x1_0000) as u16,
+    )
 }
 
 /// The square of a leaf.
@@ -53,10 +34,11 @@ fn leaf_square<S: Squares>(squares: &mut S, rows: &[u8; 8]) -> Result<Id, Kind>
     ensures grows { GrowsOnly S.Squares squares.old squares.new result
         (λ P. SomePart P (leaf_tree rows.now)) }
 {
-    let nw = squares.small(sixteen_bits(rows, 0, 0))?;
-    let ne = squares.small(sixteen_bits(rows, 4, 0))?;
-    let sw = squares.small(sixteen_bits(rows, 0, 4))?;
-    let se = squares.small(sixteen_bits(rows, 4, 4))?;
+    let (nw, ne, sw, se) = leaf_cells(rows);
+    let nw = squares.small(nw)?;
+    let ne = squares.small(ne)?;
+    let sw = squares.small(sw)?;
+    let se = squares.small(se)?;
     squares.join(nw, ne, sw, se)
 }
 
