@@ -42,7 +42,7 @@ use Rattle.life_canon.proofs.Unions.{macrocell-front, rle-front, no_lines, taken
 pub open-front : (p : Progress) → IsOpen p → Prefix (Accepts MAX_LEVEL) (taken p)
 open-front progress.Undecided o = no_lines MAX_LEVEL
 open-front (progress.Rle reader builder runs) o = rle-front MAX_LEVEL reader.lines o.front
-open-front (progress.Macrocell reader ids) o = macrocell-front MAX_LEVEL reader.lines o.front
+open-front (progress.Macrocell reader ids waiting) o = macrocell-front MAX_LEVEL reader.lines o.front
 
 -- the first line alone gives the format
 goes-on : (lines more : List (List ℕ)) → 0 < length lines → is_macrocell (lines ++ more) ≡ is_macrocell lines
@@ -80,7 +80,7 @@ long-breaks progress.Undecided line o n h = by-format [] line LineTooLong (is_ma
 long-breaks (progress.Rle reader builder runs) line o n h =
     by-format reader.lines line LineTooLong false (goes-on reader.lines (line ∷ []) o.some ∙ o.format)
     (long-rle reader.lines line h o.front (λ file m. n (file, m)))
-long-breaks (progress.Macrocell reader ids) line o n h =
+long-breaks (progress.Macrocell reader ids waiting) line o n h =
     by-format reader.lines line LineTooLong true (goes-on reader.lines (line ∷ []) o.some ∙ o.format) (long-macrocell reader.lines line h)
 
 -- ---- bytes that come
@@ -279,7 +279,7 @@ over-marked : (p : Progress) → IsOpen p → IsOver p → (more : List (List �
 over-marked progress.Undecided o v more = absurd v
 over-marked (progress.Rle reader builder runs) o v more =
     (goes-on reader.lines more o.some ∙ o.format, (v.0, (lines_behind_mark_are_free MAX_LEVEL reader.lines more v.0 v.1).0))
-over-marked (progress.Macrocell reader ids) o v more = absurd v
+over-marked (progress.Macrocell reader ids waiting) o v more = absurd v
 
 over-unbroken : (p : Progress) → IsOpen p → IsOver p → (more : List (List ℕ)) (line : List ℕ) (kind : Kind) → Breaks MAX_LEVEL (taken p ++ more) line kind → ⊥
 over-unbroken progress.Undecided o v more line kind b = absurd v
@@ -288,7 +288,7 @@ over-unbroken (progress.Rle reader builder runs) o v more line kind b =
     ∙ goes-on reader.lines (more ++ line ∷ []) o.some ∙ o.format in
     (lines_behind_mark_are_free MAX_LEVEL reader.lines more v.0 v.1).1 line kind
     (subst (λ (b : Bool). MatchBool b (broken MAX_LEVEL (reader.lines ++ more) line ≡ Some kind) (BreaksRle MAX_LEVEL (reader.lines ++ more) line kind)) m b)
-over-unbroken (progress.Macrocell reader ids) o v more line kind b = absurd v
+over-unbroken (progress.Macrocell reader ids waiting) o v more line kind b = absurd v
 
 marked-front : (lines : List (List ℕ)) (file : Rle) → IsMarked MAX_LEVEL lines file → Prefix (Accepts MAX_LEVEL) lines
 marked-front lines file m = rle-front MAX_LEVEL lines ([], (file, subst (λ (ls : List (List ℕ)). IsRle MAX_LEVEL ls file) (sym (append-nil lines)) (inr m)))
@@ -314,7 +314,7 @@ front-unrefused bytes kept ended p f fault r =
 not-over-at : (p : Progress) → IsOpen p → (IsOver p → ⊥) → is_macrocell (taken p) ≡ false → (file : Rle) → IsMarked MAX_LEVEL (taken p) file → ⊥
 not-over-at progress.Undecided o n m file h = no-mark file h
 not-over-at (progress.Rle reader builder runs) o n m file h = n (file, h)
-not-over-at (progress.Macrocell reader ids) o n m file h = not-both (is_macrocell reader.lines) o.format m
+not-over-at (progress.Macrocell reader ids waiting) o n m file h = not-both (is_macrocell reader.lines) o.format m
 
 some-none : (b : ℕ) (bytes : List ℕ) → b ∷ bytes ≡ [] → ⊥
 some-none b bytes e = cc
@@ -385,7 +385,7 @@ macrocell-level lines e = rw e refl
 -- what the lines say, the bytes say
 pub end-says : (bytes : List ℕ) (ended : ℕ) (p : Progress) (u : Universe) → IsEnd bytes ended p → Says MAX_LEVEL (taken p) u → Reads MAX_LEVEL bytes u
 end-says bytes ended progress.Undecided u e s = subst (λ (ls : List (List ℕ)). Says MAX_LEVEL ls u) (sym (e.going (λ v. v)).0) s
-end-says bytes ended (progress.Macrocell reader ids) u e s = subst (λ (ls : List (List ℕ)). Says MAX_LEVEL ls u) (sym (e.going (λ v. v)).0) s
+end-says bytes ended (progress.Macrocell reader ids waiting) u e s = subst (λ (ls : List (List ℕ)). Says MAX_LEVEL ls u) (sym (e.going (λ v. v)).0) s
 end-says bytes ended (progress.Rle reader builder runs) u e s = by u s
   where
     going : (u : Universe) → Says MAX_LEVEL reader.lines u → (((file : Rle) × IsMarked MAX_LEVEL reader.lines file) → ⊥) → Says MAX_LEVEL (lines_of bytes) u
@@ -407,7 +407,7 @@ pub end-lines : (bytes : List ℕ) (ended : ℕ) (p : Progress) (u : Universe) �
     → (free : List (List ℕ)) × (lines_of bytes ≡ taken p ++ free) × (is_macrocell (taken p ++ free) ≡ is_macrocell (taken p))
     × (level_of_root MAX_LEVEL (lines_of bytes) ≡ level_of_root MAX_LEVEL (taken p))
 end-lines bytes ended progress.Undecided u e s = ([], (e.going (λ v. v)).0, refl, ap (level_of_root MAX_LEVEL) (e.going (λ v. v)).0)
-end-lines bytes ended (progress.Macrocell reader ids) u e s =
+end-lines bytes ended (progress.Macrocell reader ids waiting) u e s =
     let same = (e.going (λ v. v)).0 in
     ([], same ∙ sym (append-nil reader.lines), ap is_macrocell (append-nil reader.lines), ap (level_of_root MAX_LEVEL) same)
 end-lines bytes ended (progress.Rle reader builder runs) u e s = by u s
@@ -432,7 +432,7 @@ lacks-mark lines h file m = (decided MAX_LEVEL lines).1 (file, inr m) h
 lacks-going : (p : Progress) → LacksHeader MAX_LEVEL (taken p) → IsOver p → ⊥
 lacks-going progress.Undecided h o = o
 lacks-going (progress.Rle reader builder runs) h o = lacks-mark reader.lines h o.0 o.1
-lacks-going (progress.Macrocell reader ids) h o = o
+lacks-going (progress.Macrocell reader ids waiting) h o = o
 
 -- lines without a header are refused behind their end
 pub end-lacks : (bytes : List ℕ) (ended : ℕ) (p : Progress) → IsEnd bytes ended p → LacksHeader MAX_LEVEL (taken p) → is_macrocell (taken p) ≡ false

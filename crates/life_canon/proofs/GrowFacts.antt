@@ -14,6 +14,7 @@ use Rattle.life_mc.specs.declared.line.Line.TheVariants.{Leaf, Quad}
 use Rattle.life_mc.proofs.Squares.{lines_stand_for_squares}
 use Rattle.life_quad.specs.declared.id.Id.{Id}
 use Rattle.life_canon.specs.Filling.{AreSquaresOf}
+use Rattle.life_canon.specs.Waiting.{AreTreesOf}
 use Rattle.life_canon.proofs.LineWords.{line_at, IsQuarter, IsChild, IsValidLine}
 use Rattle.life_canon.proofs.LineFacts.{get-line_at, line_at-get, tree_of-line, square-valid, root_level-last}
 
@@ -24,24 +25,61 @@ at-first [] more i h = absurd (omega arith)
 at-first (line ∷ lines) more zero h = refl
 at-first (line ∷ lines) more (suc i) h = at-first lines more i (omega arith)
 
-get-first : (lines : List Line) (more : List Line) (i : ℕ) (line : Line) → slice_get lines i ≡ Some line → slice_get (lines ++ more) i ≡ Some line
+pub get-first : {X : Type 0} (lines : List X) (more : List X) (i : ℕ) (line : X) → slice_get lines i ≡ Some line → slice_get (lines ++ more) i ≡ Some line
 get-first [] more i line e = cc
 get-first (one ∷ lines) more zero line e = e
 get-first (one ∷ lines) more (suc i) line e = get-first lines more i line e
 
--- one line more, behind which the lines are valid
-module _ (rule : Rule) (generation : ℕ) (lines : List Line) (square : Line)
-    (good : IsValid MAX_LEVEL (record { rule = rule; generation = generation; lines = lines ++ square ∷ [] })) where
-  first-valid : IsValid MAX_LEVEL (record { rule = rule; generation = generation; lines = lines })
+-- more lines, behind which the lines are valid
+module _ (rule : Rule) (generation : ℕ) (lines more : List Line)
+    (good : IsValid MAX_LEVEL (record { rule = rule; generation = generation; lines = lines ++ more })) where
+  pub first-valid : IsValid MAX_LEVEL (record { rule = rule; generation = generation; lines = lines })
   first-valid = record {
     rule = good.rule;
     generation = good.generation;
     squares = λ k line e.
         let h : k < length lines = (line_at-get lines k line e).0 in
-        subst (λ (ls : List Line). IsSquare MAX_LEVEL rule (map level_of ls) line) (take-append-le k lines (square ∷ []) (omega (arith, h)))
-        (good.squares k line (get-first lines (square ∷ []) k line e));
+        subst (λ (ls : List Line). IsSquare MAX_LEVEL rule (map level_of ls) line) (take-append-le k lines more (omega (arith, h)))
+        (good.squares k line (get-first lines more k line e));
   }
 
+  -- the squares of the first lines stay
+  pub tree-stays : (i level : ℕ) (line : Line) → slice_get lines i ≡ Some line → level_of line ≡ level → tree_of (lines ++ more) level (suc i)
+      ≡ tree_of lines level (suc i)
+  tree-stays i level line e l =
+      let h : i < length lines = (line_at-get lines i line e).0 in
+      let new = (lines_stand_for_squares MAX_LEVEL _ good).each (suc i) line (get-first lines more i line e) in
+      let old = (lines_stand_for_squares MAX_LEVEL _ first-valid).each (suc i) line e in
+      let same : tree_of (lines ++ more) (level_of line) (suc i) ≡ tree_of lines (level_of line) (suc i) =
+      sym new.by_front ∙ ap (λ (ls : List Line). tree_of ls (level_of line) (suc i)) (take-append-le (suc i) lines more (omega (arith, h)))
+      ∙ old.by_front in
+      subst (λ (n : ℕ). tree_of (lines ++ more) n (suc i) ≡ tree_of lines n (suc i)) l same
+
+  quarter-stays : (k number : ℕ) → IsQuarter rule lines (length lines) k number → tree_of (lines ++ more) k number ≡ tree_of lines k number
+  quarter-stays zero number q = refl
+  quarter-stays (suc k) zero q = refl
+  quarter-stays (suc k) (suc j) q = by q
+    where
+      by : IsChild lines (length lines) (suc k) (suc j) → tree_of (lines ++ more) (suc k) (suc j) ≡ tree_of lines (suc k) (suc j)
+      by (inl e) = absurd (omega arith)
+      by (inr c) =
+          let less : suc j - 1 ≡ j = omega arith in
+          let h : j < length lines = omega (arith, c.1) in
+          tree-stays j (suc k) (line_at lines j) (get-line_at lines j h) (subst (λ (n : ℕ). level_of (line_at lines n) ≡ suc k) less c.2)
+
+  pub line-stays : (line : Line) → IsValidLine MAX_LEVEL rule lines (length lines) line
+      → line_tree (tree_of (lines ++ more) (level_of line - 1)) line ≡ line_tree (tree_of lines (level_of line - 1)) line
+  line-stays (Leaf rows) v = refl
+  line-stays (Quad level a b c d) v =
+      let p = quarter-stays (level - 1) a v.2 in
+      let q = quarter-stays (level - 1) b v.3 in
+      let r = quarter-stays (level - 1) c v.4 in
+      let s = quarter-stays (level - 1) d v.5 in
+      cc
+
+-- one line more
+module _ (rule : Rule) (generation : ℕ) (lines : List Line) (square : Line)
+    (good : IsValid MAX_LEVEL (record { rule = rule; generation = generation; lines = lines ++ square ∷ [] })) where
   last-here : slice_get (lines ++ square ∷ []) (length lines) ≡ Some square
   last-here = at lines
     where
@@ -54,40 +92,6 @@ module _ (rule : Rule) (generation : ℕ) (lines : List Line) (square : Line)
   last-square =
       subst (λ (ls : List Line). IsSquare MAX_LEVEL rule (map level_of ls) square) (take-append_seam lines (square ∷ []))
       (good.squares (length lines) square last-here)
-
-  -- the squares of the first lines stay
-  tree-stays : (i level : ℕ) (line : Line) → slice_get lines i ≡ Some line → level_of line ≡ level → tree_of (lines ++ square ∷ []) level (suc i)
-      ≡ tree_of lines level (suc i)
-  tree-stays i level line e l =
-      let h : i < length lines = (line_at-get lines i line e).0 in
-      let new = (lines_stand_for_squares MAX_LEVEL _ good).each (suc i) line (get-first lines (square ∷ []) i line e) in
-      let old = (lines_stand_for_squares MAX_LEVEL _ first-valid).each (suc i) line e in
-      let same : tree_of (lines ++ square ∷ []) (level_of line) (suc i) ≡ tree_of lines (level_of line) (suc i) =
-      sym new.by_front ∙ ap (λ (ls : List Line). tree_of ls (level_of line) (suc i)) (take-append-le (suc i) lines (square ∷ []) (omega (arith, h)))
-      ∙ old.by_front in
-      subst (λ (n : ℕ). tree_of (lines ++ square ∷ []) n (suc i) ≡ tree_of lines n (suc i)) l same
-
-  quarter-stays : (k number : ℕ) → IsQuarter rule lines (length lines) k number → tree_of (lines ++ square ∷ []) k number ≡ tree_of lines k number
-  quarter-stays zero number q = refl
-  quarter-stays (suc k) zero q = refl
-  quarter-stays (suc k) (suc j) q = by q
-    where
-      by : IsChild lines (length lines) (suc k) (suc j) → tree_of (lines ++ square ∷ []) (suc k) (suc j) ≡ tree_of lines (suc k) (suc j)
-      by (inl e) = absurd (omega arith)
-      by (inr c) =
-          let less : suc j - 1 ≡ j = omega arith in
-          let h : j < length lines = omega (arith, c.1) in
-          tree-stays j (suc k) (line_at lines j) (get-line_at lines j h) (subst (λ (n : ℕ). level_of (line_at lines n) ≡ suc k) less c.2)
-
-  line-stays : (line : Line) → IsValidLine MAX_LEVEL rule lines (length lines) line
-      → line_tree (tree_of (lines ++ square ∷ []) (level_of line - 1)) line ≡ line_tree (tree_of lines (level_of line - 1)) line
-  line-stays (Leaf rows) v = refl
-  line-stays (Quad level a b c d) v =
-      let p = quarter-stays (level - 1) a v.2 in
-      let q = quarter-stays (level - 1) b v.3 in
-      let r = quarter-stays (level - 1) c v.4 in
-      let s = quarter-stays (level - 1) d v.5 in
-      cc
 
   line-valid : IsValidLine MAX_LEVEL rule lines (length lines) square
   line-valid =
@@ -103,7 +107,7 @@ module _ (rule : Rule) (generation : ℕ) (lines : List Line) (square : Line)
 
   -- the square of the last line
   pub last-tree : tree_of (lines ++ square ∷ []) (level_of square) (suc (length lines)) ≡ line_tree (tree_of lines (level_of square - 1)) square
-  last-tree = by (level_of square) (level-some square line-valid) ∙ line-stays square line-valid
+  last-tree = by (level_of square) (level-some square line-valid) ∙ line-stays rule generation lines (square ∷ []) good square line-valid
     where
       by : (n : ℕ) → 1 ≤ n → tree_of (lines ++ square ∷ []) n (suc (length lines)) ≡ line_tree (tree_of (lines ++ square ∷ []) (n - 1)) square
       by zero h = absurd (omega arith)
@@ -125,31 +129,30 @@ get-last (z ∷ xs) x zero y e = inl e
 get-last (z ∷ xs) x (suc i) y e = elim (get-last xs x i y e) [ inl h ↦ inl h | inr h ↦ inr (ap suc h.0, h.1) ]
 
 -- one square more
-pub squares-grow : (knows : Id → Type 0) (content : Id → Tree) (rule : Rule) (generation : ℕ) (lines : List Line) (square : Line) (ids : List Id) (id : Id)
-    → IsValid MAX_LEVEL (record { rule = rule; generation = generation; lines = lines ++ square ∷ [] }) → AreSquaresOf knows content lines ids
-    → knows id → content id ≡ line_tree (tree_of lines (level_of square - 1)) square → AreSquaresOf knows content (lines ++ square ∷ []) (ids ++ id ∷ [])
-squares-grow knows content rule generation lines square ids id good h known is = record {
-  count = omega (arith, length-append ids (id ∷ []), length-append lines (square ∷ []), h.count);
-  each = λ index i line at there. by index i line (get-last ids id index i at) (get-last lines square index line there);
+pub trees-grow : (rule : Rule) (generation : ℕ) (lines : List Line) (square : Line) (trees : List Tree) (t : Tree)
+    → IsValid MAX_LEVEL (record { rule = rule; generation = generation; lines = lines ++ square ∷ [] }) → AreTreesOf lines trees
+    → t ≡ line_tree (tree_of lines (level_of square - 1)) square → AreTreesOf (lines ++ square ∷ []) (trees ++ t ∷ [])
+trees-grow rule generation lines square trees t good h is = record {
+  count = omega (arith, length-append trees (t ∷ []), length-append lines (square ∷ []), h.count);
+  each = λ index u line at there. by index u line (get-last trees t index u at) (get-last lines square index line there);
 }
   where
-    tree : content id ≡ tree_of (lines ++ square ∷ []) (level_of square) (suc (length lines))
+    tree : t ≡ tree_of (lines ++ square ∷ []) (level_of square) (suc (length lines))
     tree = is ∙ sym (last-tree rule generation lines square good)
 
-    by : (index : ℕ) (i : Id) (line : Line) → (slice_get ids index ≡ Some i) ⊎ ((index ≡ length ids) × (id ≡ i)) → (slice_get lines index ≡ Some line)
+    by : (index : ℕ) (u : Tree) (line : Line) → (slice_get trees index ≡ Some u) ⊎ ((index ≡ length trees) × (t ≡ u)) → (slice_get lines index ≡ Some line)
         ⊎ ((index ≡ length lines) × (square ≡ line))
-        → knows i × (content i ≡ tree_of (lines ++ square ∷ []) (level_of line) (suc index)) × (depth (content i) ≡ level_of line)
-    by index i line (inl at) (inl there) =
-        let e = h.each index i line at there in
-        (e.0, e.1 ∙ sym (tree-stays rule generation lines square good index (level_of line) line there refl), e.2)
-    by index i line (inl at) (inr last) = absurd (omega (arith, get-within ids index i at, last.0, h.count))
-    by index i line (inr last) (inl there) = absurd (omega (arith, get-within lines index line there, last.0, h.count))
-    by index i line (inr here) (inr last) =
-        let P : ℕ → Id → Line → Type 0 = λ n i l. knows i × (content i ≡ tree_of (lines ++ square ∷ []) (level_of l) (suc n))
-        × (depth (content i) ≡ level_of l) in
-        let base : P (length lines) id square = (known, tree, ap depth tree ∙ (last-stands rule generation lines square good).depth_is) in
-        subst (λ (n : ℕ). P n i line) (sym last.0)
-        (subst (λ (j : Id). P (length lines) j line) here.1 (subst (λ (l : Line). P (length lines) id l) last.1 base))
+        → (u ≡ tree_of (lines ++ square ∷ []) (level_of line) (suc index)) × (depth u ≡ level_of line)
+    by index u line (inl at) (inl there) =
+        let e = h.each index u line at there in
+        (e.0 ∙ sym (tree-stays rule generation lines (square ∷ []) good index (level_of line) line there refl), e.1)
+    by index u line (inl at) (inr last) = absurd (omega (arith, get-within trees index u at, last.0, h.count))
+    by index u line (inr last) (inl there) = absurd (omega (arith, get-within lines index line there, last.0, h.count))
+    by index u line (inr here) (inr last) =
+        let P : ℕ → Tree → Line → Type 0 = λ n v l. (v ≡ tree_of (lines ++ square ∷ []) (level_of l) (suc n)) × (depth v ≡ level_of l) in
+        let base : P (length lines) t square = (tree, ap depth tree ∙ (last-stands rule generation lines square good).depth_is) in
+        subst (λ (n : ℕ). P n u line) (sym last.0)
+        (subst (λ (v : Tree). P (length lines) v line) here.1 (subst (λ (l : Line). P (length lines) t l) last.1 base))
 
 -- ---- the root
 

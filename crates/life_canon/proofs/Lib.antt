@@ -25,6 +25,7 @@ mod BuildFacts
 mod RowFacts
 mod RunFacts
 mod GrowFacts
+mod WaitingFacts
 mod NeedFacts
 mod OnlyFacts
 mod PatternFacts

@@ -117,7 +117,7 @@ square-valid top rule lines i (Quad level a b c d) h s = by level s
         subst (λ n. IsQuarter rule lines i n number) (sym (less_one k)) (quarter-test rule lines i k number h e) in
         (s.0, s.1, into a v.first, into b v.second, into c v.third, into d v.fourth)
 
-valid-square : (top : ℕ) (rule : Rule) (lines : List Line) (i : ℕ) (line : Line) → i ≤ length lines → IsValidLine top rule lines i line
+pub valid-square : (top : ℕ) (rule : Rule) (lines : List Line) (i : ℕ) (line : Line) → i ≤ length lines → IsValidLine top rule lines i line
     → IsSquare top rule (map level_of (take i lines)) line
 valid-square top rule lines i (Leaf rows) h s = s
 valid-square top rule lines i (Quad level a b c d) h s = by level s

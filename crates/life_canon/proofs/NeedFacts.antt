@@ -1,5 +1,5 @@
 -- The squares that a refused call lacked: of the root that is grown or trimmed, of runs, and of lines with more lines behind them.
-use Rattle.std.proofs.Common.{◌≡◌, ℕ, zero, suc, ◌+◌, ◌-◌, ◌<◌, ◌≤◌, true, List, [], ◌∷◌, ◌++◌, length, take, drop, get_or, max, ap, sym, ◌∙◌, subst, arith, append_assoc, drop-cons, refl, ℤ, ◌+ℤ◌, pos}
+use Rattle.std.proofs.Common.{◌≡◌, ◌⊎◌, inl, inr, ℕ, zero, suc, ◌+◌, ◌-◌, ◌<◌, ◌≤◌, true, List, [], ◌∷◌, ◌++◌, length, take, drop, get_or, max, ap, sym, ◌∙◌, subst, arith, append_assoc, drop-cons, refl, ℤ, ◌+ℤ◌, pos}
 use Rattle.std.specs.Prelude.{nat_abs}
 use Rattle.std.proofs.lemmas.List.{append-nil, take-append-drop}
 use Rattle.life_base.proofs.Squares.{depth-blank}
@@ -22,6 +22,8 @@ use Rattle.life_strip.specs.Needed.{SomeSquare}
 use Rattle.life_canon.specs.Files.{is_macrocell}
 use Rattle.life_canon.specs.Taking.{IsGoing, IsEnd, taken}
 use Rattle.life_canon.specs.declared.progress.Progress.{Progress}
+use Rattle.life_canon.specs.declared.progress.Progress.TheVariants as progress
+use Rattle.life_canon.proofs.Unions.{not-both}
 use Rattle.life_canon.proofs.FrontFacts.{whole-at, end-says, end-lines}
 use Rattle.life_quad.proofs.LawLemmas.{trimming_stops}
 use Rattle.life_quad.specs.Moves.{grown, trimmed}
@@ -29,7 +31,7 @@ use Rattle.life_quad.specs.Refused.{SomePart, TrimmedTo}
 use Rattle.life_quad.specs.declared.id.Id.{Id}
 use Rattle.life_quad.specs.declared.squares.Squares.{Ghosts}
 use Rattle.life_canon.specs.Filling.{HasGrown, HasSquare}
-use Rattle.life_canon.specs.Needs.{SomeOfRuns, SomeOfLine, SomeOfLines, of_node_line, of_runs, grown_times, SomeGrown, SomeRoot, trimmed_root, grown_root, SomeOfFile, of_lines, SomeAtEnd, of_plane, of_root}
+use Rattle.life_canon.specs.Needs.{SomeOfRuns, SomeOfLine, SomeOfLines, of_node_line, of_runs, grown_times, SomeGrown, SomeRoot, trimmed_root, grown_root, SomeOfFile, of_lines, SomeAtEnd, of_plane, of_root, at_end, SomeOfMacrocell}
 use Rattle.life_canon.specs.Universe.{Universe, IsBlankOutside, centred, corner, least_level, whole}
 use Rattle.life_canon.proofs.Content.{least-one}
 use Rattle.life_canon.proofs.PatternFacts.{trimmed-whole}
@@ -175,6 +177,19 @@ end-needs P bytes ended p e (of_plane u says rle some) =
 end-needs P bytes ended p e (of_root u says some) =
     let more = end-lines bytes ended p u e says in
     of_root u (end-says bytes ended p u e says) (subst (SomeRoot MAX_LEVEL P u) (sym more.3) some)
+
+-- the same of a node line that was waiting until the end
+pub left-needs : (P : Tree → Type 0) (bytes : List ℕ) (ended : ℕ) (p : Progress) → IsEnd bytes ended p
+    → SomeAtEnd MAX_LEVEL P (taken p) ⊎ SomeOfMacrocell MAX_LEVEL P (taken p)
+    → SomeOfFile MAX_LEVEL P (lines_of bytes)
+left-needs P bytes ended p e (inl s) = at_end (end-needs P bytes ended p e s)
+left-needs P bytes ended p e (inr s) = of_lines (by p e s)
+  where
+    by : (p : Progress) → IsEnd bytes ended p → SomeOfMacrocell MAX_LEVEL P (taken p) → SomeOfLines MAX_LEVEL P (lines_of bytes)
+    by progress.Undecided e s = more-lines P [] [] (lines_of bytes) (e.going (λ v. v)).0 s.1
+    by (progress.Macrocell reader ids waiting) e s =
+        more-lines P reader.lines [] (lines_of bytes) ((e.going (λ v. v)).0 ∙ sym (append-nil reader.lines)) s.1
+    by (progress.Rle reader builder runs) e s = absurd (not-both (is_macrocell reader.lines) s.0 e.begun.format)
 
 -- ---- kinds
 

@@ -2,12 +2,10 @@
 use Rattle.std.proofs.Common.{◌≡◌, List, [], ◌∷◌, ◌++◌, get_or, refl, ap, ◌∙◌, arith}
 use Rattle.std.specs.Prelude.{Contains}
 use Rattle.std.proofs.lemmas.List.Elements.{Contains-append_left, Contains-append_right, Contains-get_or}
-use Rattle.std.proofs.lemmas.Option.{get_or_from_slice_get}
 use Rattle.life_base.specs.Tree.{Tree, depth}
 use Rattle.life_mc.specs.declared.line.Line.{Line}
 use Rattle.life_quad.specs.Store.{Nodes}
 use Rattle.life_quad.specs.declared.id.Id.{Id}
-use Rattle.life_mc.specs.Reading.{squares_of}
 use Rattle.life_strip.specs.Picture.{IsSound}
 use Rattle.life_strip.specs.Pile.{strips_of}
 use Rattle.life_strip.specs.Plane.{IsFilled}
@@ -21,7 +19,7 @@ use Rattle.life_canon.specs.Taking.{StandsFor}
 use Rattle.life_canon.specs.Filling.{AreSquaresOf}
 use Rattle.life_canon.specs.declared.progress.Progress.{Progress}
 use Rattle.life_canon.specs.declared.progress.Progress.TheVariants as progress
-use Rattle.life_canon.proofs.GrowFacts.{get-within}
+use Rattle.life_canon.proofs.WaitingFacts.{lines-stay}
 
 pub squares-stay : {knew knows : Id → Type 0} {was now : Id → Tree} (lines : List Line) (ids : List Id) → ((id : Id) → knew id → knows id × (now id ≡ was id))
     → AreSquaresOf knew was lines ids → AreSquaresOf knows now lines ids
@@ -79,16 +77,6 @@ module _ (knows keeps : Id → Type 0) (content : Id → Tree) (p : Plane) (each
     most = h.most;
   }
 
--- each Id of a node line has a property
-squares-both : (knows keeps : Id → Type 0) (square : Id → Tree) (lines : List Line) (ids : List Id) → ((id : Id) → Contains ids id → keeps id)
-    → AreSquaresOf knows square lines ids → AreSquaresOf (λ id. knows id × keeps id) square lines ids
-squares-both knows keeps square lines ids each h = record {
-  count = h.count;
-  each = λ index id line at there.
-      let one = h.each index id line at there in
-      ((one.0, each id (index, get-within ids index id at, get_or_from_slice_get ids index id id at)), one.1, one.2);
-}
-
 stays : (old new : Nodes) (p : Progress) → ((id : Id) → IsKept p id → IsKnown old id → IsKnown new id × (content new id ≡ content old id))
     → StandsFor (IsKnown old) (content old) p → StandsFor (IsKnown new) (content new) p
 stays old new progress.Undecided k h = tt
@@ -107,9 +95,7 @@ stays old new (progress.Rle reader builder runs) k h =
         next = h.filling.next;
       };
     }
-stays old new (progress.Macrocell reader ids) k h =
-    squares-stay (squares_of reader.lines) ids.items (λ id b. k id b.1 b.0)
-    (squares-both (IsKnown old) (Contains ids.items) (content old) (squares_of reader.lines) ids.items (λ id there. there) h)
+stays old new (progress.Macrocell reader ids waiting) k h = lines-stay reader.lines ids.items waiting.items k h
 
 pub readers_stand : ReadersStand
 readers_stand old new fed k h = stays old new fed.progress k h

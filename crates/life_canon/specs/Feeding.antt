@@ -19,6 +19,7 @@ use Rattle.life_strip.specs.declared.spans.Strip.{Strip}
 use Rattle.life_canon.specs.Files.{Refuses, is_macrocell}
 use Rattle.life_canon.specs.Store.{IsKnown, content}
 use Rattle.life_canon.specs.Taking.{StandsFor}
+use Rattle.life_canon.specs.Waiting.{IsQuarterOfOne}
 use Rattle.life_canon.specs.declared.progress.Progress.{Progress}
 use Rattle.life_canon.specs.declared.progress.Progress.TheVariants as progress
 
@@ -48,11 +49,12 @@ Stands store fed = StandsFor (IsKnown store) (content store) fed.progress
 abbrev pub IsInStrips : List Strip → Id → Type 0
 IsInStrips strips id = (strip : Strip) × (column : ℕ) × Contains strips strip × (id_at strip.spans.items column ≡ Some id)
 
--- the Ids that are kept of the lines so far: under RLE those of the squares that aren't part of a larger one yet, and else those of the node lines
+-- the Ids that are kept of the lines so far: under RLE those of the squares that aren't part of a larger one yet, and else those of the node lines, and
+-- those of the quarters where a line waits
 abbrev pub IsKept : Progress → Id → Type 0
 IsKept progress.Undecided id = ⊥
 IsKept (progress.Rle reader builder runs) id = IsInStrips (strips_of builder.kept.pile ++ builder.kept.row ∷ []) id
-IsKept (progress.Macrocell reader ids) id = Contains ids.items id
+IsKept (progress.Macrocell reader ids waiting) id = Contains ids.items id ⊎ IsQuarterOfOne waiting.items id
 
 -- each Id that the reader keeps names the square that it named
 abbrev pub KeepsIdsOf : Fed → Nodes → Nodes → Type 0

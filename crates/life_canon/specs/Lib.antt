@@ -9,6 +9,7 @@ pub mod Least
 pub mod Store
 pub mod Texts
 pub mod Filling
+pub mod Waiting
 pub mod Building
 pub mod Needs
 pub mod Room

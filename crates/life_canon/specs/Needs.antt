@@ -1,6 +1,6 @@
 -- The squares that are stored while a file is read: those of its node lines, or of the plane that its runs fill, those through which its root is
 -- grown, and that to which it is trimmed. After `Full` the store lacks one of them. The project's own.
-use Rattle.std.specs.Prelude.{◌≡◌, ℕ, zero, suc, ◌+◌, ◌-◌, ◌^◌, ◌<◌, ◌≤◌, false, max, if◌then◌else◌, List, [], ◌∷◌, ◌++◌, Contains, nat_abs, ◌+ℤ◌, pos}
+use Rattle.std.specs.Prelude.{◌≡◌, ℕ, zero, suc, ◌+◌, ◌-◌, ◌^◌, ◌<◌, ◌≤◌, true, false, max, if◌then◌else◌, List, [], ◌∷◌, ◌++◌, Contains, nat_abs, ◌+ℤ◌, pos}
 use Rattle.life_base.specs.Lines.{whole_lines}
 use Rattle.life_base.specs.Refusal.{Prefix}
 use Rattle.life_base.specs.Text.{lines_of}
@@ -45,6 +45,10 @@ pub data SomeOfLines (top : ℕ) (P : Tree → Type 0) (lines : List (List ℕ))
       → SomeOfLine P (squares_of before) square → SomeOfLines top P lines
   of_runs : (front behind : List (List ℕ)) (runs : List Run) → lines ≡ front ++ behind → HasRuns top front runs → SomeOfRuns P runs
       → SomeOfLines top P lines
+
+-- a square of the node lines of a macrocell file has a property
+abbrev pub SomeOfMacrocell : ℕ → (Tree → Type 0) → List (List ℕ) → Type 0
+SomeOfMacrocell top P lines = (is_macrocell lines ≡ true) × SomeOfLines top P lines
 
 -- the square, grown as often as this
 abbrev pub grown_times : ℕ → Tree → Tree

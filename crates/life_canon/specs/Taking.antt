@@ -6,14 +6,14 @@ use Rattle.life_base.specs.Text.{lines_of}
 use Rattle.life_base.specs.Tree.{Tree}
 use Rattle.life_base.specs.declared.cell.TheConstants.{MAX_LEVEL}
 use Rattle.life_base.specs.declared.fault.Fault.{Fault}
-use Rattle.life_mc.specs.Reading.{Accepts, squares_of}
+use Rattle.life_mc.specs.Reading.{Accepts}
 use Rattle.life_quad.specs.declared.id.Id.{Id}
 use Rattle.life_rle.specs.File.{HasRuns}
 use Rattle.life_rle.specs.Grammar.{IsSomeRle, IsMarked}
 use Rattle.life_rle.specs.Pattern.{Rle}
 use Rattle.life_canon.specs.Building.{IsBuilt}
 use Rattle.life_canon.specs.Files.{Breaks, is_macrocell}
-use Rattle.life_canon.specs.Filling.{AreSquaresOf}
+use Rattle.life_canon.specs.Waiting.{KeepsLines}
 use Rattle.life_canon.specs.declared.progress.Progress.{Progress}
 use Rattle.life_canon.specs.declared.progress.Progress.TheVariants as progress
 use Rattle.life_canon.specs.declared.front.Front.{Front}
@@ -24,7 +24,7 @@ use Rattle.life_canon.specs.declared.front.Front.{Front}
 abbrev pub taken : Progress → List (List ℕ)
 taken progress.Undecided = []
 taken (progress.Rle reader builder runs) = reader.lines
-taken (progress.Macrocell reader ids) = reader.lines
+taken (progress.Macrocell reader ids waiting) = reader.lines
 
 -- a file of a format was begun, its lines can be continued to one, and none was refused
 pub record IsBegun (macrocell : Bool) (Grammar : List (List ℕ) → Type 0) (lines : List (List ℕ)) (refused : Bool) : Type 0 where
@@ -37,25 +37,25 @@ pub record IsBegun (macrocell : Bool) (Grammar : List (List ℕ) → Type 0) (li
 abbrev pub IsOpen : Progress → Type 0
 IsOpen progress.Undecided = Unit {0}
 IsOpen (progress.Rle reader builder runs) = IsBegun false (IsSomeRle MAX_LEVEL) reader.lines reader.refused
-IsOpen (progress.Macrocell reader ids) = IsBegun true (Accepts MAX_LEVEL) reader.lines reader.refused
+IsOpen (progress.Macrocell reader ids waiting) = IsBegun true (Accepts MAX_LEVEL) reader.lines reader.refused
 
 -- `!` has ended the pattern
 abbrev pub IsOver : Progress → Type 0
 IsOver progress.Undecided = ⊥
 IsOver (progress.Rle reader builder runs) = (file : Rle) × IsMarked MAX_LEVEL reader.lines file
-IsOver (progress.Macrocell reader ids) = ⊥
+IsOver (progress.Macrocell reader ids waiting) = ⊥
 
 -- the reader is that of the format that this line begins or goes on with, and no line was refused
 abbrev pub IsReady : List ℕ → Progress → Type 0
 IsReady line progress.Undecided = ⊥
 IsReady line (progress.Rle reader builder runs) = (is_macrocell (reader.lines ++ line ∷ []) ≡ false) × (reader.refused ≡ false)
-IsReady line (progress.Macrocell reader ids) = (is_macrocell (reader.lines ++ line ∷ []) ≡ true) × (reader.refused ≡ false)
+IsReady line (progress.Macrocell reader ids waiting) = (is_macrocell (reader.lines ++ line ∷ []) ≡ true) × (reader.refused ≡ false)
 
 -- the squares that are kept are those of the lines
 abbrev pub StandsFor : (Id → Type 0) → (Id → Tree) → Progress → Type 0
 StandsFor knows content progress.Undecided = Unit {0}
 StandsFor knows content (progress.Rle reader builder runs) = IsBuilt knows content (HasRuns MAX_LEVEL reader.lines) builder
-StandsFor knows content (progress.Macrocell reader ids) = AreSquaresOf knows content (squares_of reader.lines) ids.items
+StandsFor knows content (progress.Macrocell reader ids waiting) = KeepsLines knows content reader.lines ids.items waiting.items
 
 -- the fault of the line behind these, before which so many have ended
 pub record IsLineFault (top : ℕ) (lines : List (List ℕ)) (line : List ℕ) (ended : ℕ) (fault : Fault) : Type 0 where

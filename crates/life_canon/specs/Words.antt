@@ -26,7 +26,7 @@ pub use Rattle.life_canon.specs.Least.{IsLeast, IsLeastText}
 pub use Rattle.life_canon.specs.Lesser.{Holds, IsLesser, IsLesserText, IsOldHeld, IsOldLesser, IsUpTo, IsWithin, LinesCome}
 pub use Rattle.life_canon.specs.LesserLaws.{no-lines-come, old-is-lesser}
 pub use Rattle.life_canon.specs.Listing.{canon_text, canonical_file, is_in, is_small, lines_for, listed, number_of, rows_of, square_file, square_text}
-pub use Rattle.life_canon.specs.Needs.{LacksForFront, SomeAtEnd, SomeGrown, SomeOfLine, SomeOfLines, SomeOfRuns, SomeRoot}
+pub use Rattle.life_canon.specs.Needs.{LacksForFront, SomeAtEnd, SomeGrown, SomeOfLine, SomeOfLines, SomeOfMacrocell, SomeOfRuns, SomeRoot}
 pub use Rattle.life_canon.specs.PieceLaws.{piece-begins, piece-stops, unfailed}
 pub use Rattle.life_canon.specs.Pieces.{PieceBreaks, PieceTakes, WritesFront}
 pub use Rattle.life_canon.specs.Room.{AddsLines, FewSquares, FrontsHold, HoldsFile, HoldsFront, room_for, RoomSuffices}
@@ -36,7 +36,9 @@ pub use Rattle.life_canon.specs.Store.{content, ForEachFile, IsKnown, IsOfFile, 
 pub use Rattle.life_canon.specs.Taking.{bytes_of, IsEnd, IsFrontOf, IsOpen, IsOver, IsReady, StandsFor, taken}
 pub use Rattle.life_canon.specs.Texts.{AreOrdered, box_text, HasMoreCells, IsCanonical, IsOrdered, IsRleOf, IsShown, show_text}
 pub use Rattle.life_canon.specs.Universe.{is_life, least_level, Universe}
+pub use Rattle.life_canon.specs.Waiting.{HasJoined, IsReadyFor, KeepsLines, NamesFirst}
 pub use Rattle.life_canon.specs.Walking.{BreaksOff, HasRoomFrom, MayWalk, MayWalkPattern, RefusesWalk, seen_in, Walked}
+pub use Rattle.life_canon.specs.declared.progress.TheConstants.{MOST_WAITING}
 pub use Rattle.life_mc.specs.Cells.{cell, leaf_cell, node_lines, root_level}
 pub use Rattle.life_mc.specs.Macrocell.{is_quarter, IsSquare, IsValid, largest_state, level_of, Macrocell}
 pub use Rattle.life_mc.specs.Reading.{Accepts, broken, squares_of}
@@ -48,7 +50,8 @@ pub use Rattle.life_quad.specs.Cells.{IsLeastBox, population}
 pub use Rattle.life_quad.specs.Grows.{Grows, GrowsOnly}
 pub use Rattle.life_quad.specs.Keeping.{IsWantKind}
 pub use Rattle.life_quad.specs.Laws.{TrimmingIgnoresGrowth}
-pub use Rattle.life_quad.specs.Refused.{SomePart}
+pub use Rattle.life_quad.specs.Moves.{CanJoin, quad_of, quads_of}
+pub use Rattle.life_quad.specs.Refused.{SomeOf, SomePart}
 pub use Rattle.life_quad.specs.Store.{four, held, Knows, Nodes, two}
 pub use Rattle.life_quad.specs.Turning.{turned_tree}
 pub use Rattle.life_rle.specs.Decided.{LacksHeader}

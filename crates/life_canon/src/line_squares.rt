@@ -1,13 +1,13 @@
 //! Squares of a store, made from node lines.
 
 ghost use Rattle.std.specs.Prelude.{◌≡◌, ◌+◌, ◌-◌, ◌/◌, ◌%◌, ◌^◌, ◌<◌, ◌≤◌, IfOk, OnOk, max};
-ghost use Rattle.life_canon.specs.Words.{RuleValue, depth, tree_cell, leaf_cell, level_of, IsSquare, is_quarter, tree_at, tree_of, line_tree, leaf_tree, LineValue, four, SomePart, AreSquaresIn, ForLines, HasGrown, SomeGrown, SomeOfLine, GrowsOnly};
+ghost use Rattle.life_canon.specs.Words.{RuleValue, depth, tree_cell, leaf_cell, level_of, IsSquare, is_quarter, tree_at, tree_of, line_tree, leaf_tree, LineValue, four, SomePart, AreSquaresIn, CanJoin, ForLines, HasGrown, NamesFirst, quad_of, SomeGrown, SomeOfLine, GrowsOnly};
 ghost use Rattle.std.specs.Prelude.{List, map, true, ℤ};
 
 use life_base::{Kind, MAX_LEVEL};
 use life_lanes::by_quarters;
 use life_mc::Line;
-use life_quad::{Id, Squares, grow};
+use life_quad::{Id, Quarters, Squares, grow};
 
 /// The cells of the four squares of level 2 of a leaf, as `Squares::small` takes them: of the north-western, the north-eastern, the south-western and
 /// the south-eastern one.
@@ -27,10 +27,12 @@ fn leaf_cells(rows: &[u8; 8]) -> (u16, u16, u16, u16)
     )
 }
 
-/// The square of a leaf.
-fn leaf_square<S: Squares>(squares: &mut S, rows: &[u8; 8]) -> Result<Id, Kind>
-    ensures known { IfOk result (S.knows squares.new) }
-    ensures square { IfOk result (λ id. S.content squares.new id ≡ leaf_tree rows.now) }
+/// The quarters of the square of a leaf.
+#[inline(always)]
+fn leaf_quarters<S: Squares>(squares: &mut S, rows: &[u8; 8]) -> Result<Quarters, Kind>
+    ensures can_join { IfOk result (CanJoin (S.knows squares.new) (S.content squares.new)) }
+    ensures square { IfOk result
+        (λ quarters. quad_of (S.content squares.new) quarters ≡ leaf_tree rows.now) }
     ensures grows { GrowsOnly S.Squares squares.old squares.new result
         (λ P. SomePart P (leaf_tree rows.now)) }
 {
@@ -39,7 +41,7 @@ fn leaf_square<S: Squares>(squares: &mut S, rows: &[u8; 8]) -> Result<Id, Kind>
     let ne = squares.small(ne)?;
     let sw = squares.small(sw)?;
     let se = squares.small(se)?;
-    squares.join(nw, ne, sw, se)
+    Ok(Quarters { nw, ne, sw, se })
 }
 
 /// The square that a number represents in a line of the next level: a cell's state, the blank square, or the square of an
@@ -65,19 +67,41 @@ fn quarter<S: Squares>(squares: &S, ids: &[Id], level: u8, number: u64) -> Id
     ids[(number - 1) as usize]
 }
 
-/// The square of a node line, where these are the squares of the lines before it.
-pub(crate) fn line_square<S: Squares>(squares: &mut S, ids: &[Id], line: Line) -> Result<Id, Kind>
+/// Whether each number of a node line that is that of a line is at most this.
+pub(crate) fn names_first(count: u64, line: Line) -> bool
+    ensures { result ≡ true → NamesFirst count line }
+{
+    match line {
+        Line::Leaf(_) => true,
+        Line::Quad {
+            level,
+            nw,
+            ne,
+            sw,
+            se,
+        } => level == 1 || (nw <= count && ne <= count && sw <= count && se <= count),
+    }
+}
+
+/// The quarters of the square of a node line, where these are the squares of the lines before it.
+#[inline(always)]
+pub(crate) fn line_quarters<S: Squares>(
+    squares: &mut S,
+    ids: &[Id],
+    line: Line,
+) -> Result<Quarters, Kind>
     requires line { (lines : List LineValue)
         × ((rule : RuleValue) × IsSquare MAX_LEVEL rule (map level_of lines) line)
         × AreSquaresIn S.Squares squares.old lines ids.now }
-    ensures known { IfOk result (S.knows squares.new) }
+    ensures can_join { IfOk result (CanJoin (S.knows squares.new) (S.content squares.new)) }
     ensures square { ForLines S.Squares squares.old ids.now line (λ lines. IfOk result
-        (λ id. S.content squares.new id ≡ line_tree (tree_of lines (level_of line - 1)) line)) }
+        (λ quarters. quad_of (S.content squares.new) quarters
+        ≡ line_tree (tree_of lines (level_of line - 1)) line)) }
     ensures grows { GrowsOnly S.Squares squares.old squares.new result
         (λ P. ForLines S.Squares squares.old ids.now line (λ lines. SomeOfLine P lines line)) }
 {
     match line {
-        Line::Leaf(rows) => leaf_square(squares, &rows),
+        Line::Leaf(rows) => leaf_quarters(squares, &rows),
         Line::Quad {
             level,
             nw,
@@ -89,7 +113,7 @@ pub(crate) fn line_square<S: Squares>(squares: &mut S, ids: &[Id], line: Line) -
             let ne = quarter(squares, ids, level - 1, ne);
             let sw = quarter(squares, ids, level - 1, sw);
             let se = quarter(squares, ids, level - 1, se);
-            squares.join(nw, ne, sw, se)
+            Ok(Quarters { nw, ne, sw, se })
         }
     }
 }

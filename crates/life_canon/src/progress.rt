@@ -1,16 +1,25 @@
 //! The lines of a file of either format, put into a store as they come.
 
-ghost use Rattle.std.specs.Prelude.{◌≡◌, ◌↔◌, ◌⊎◌, ◌++◌, ◌∷◌, [], ◌<◌, ◌≤◌, ℤ, Some, IsTrue, false, ℕ, List, IfOk, IfErr, OnOk, max};
-ghost use Rattle.life_canon.specs.Words.{Full, NoHeader, Prefix, depth, tree_cell, cell, root_level, Macrocell, IsValid, Accepts, squares_of, broken, Nodes, held, Grows, IsWantKind, LacksHeader, HasRuns, BreaksRle, IsSomeRle, IsFilling, IsBuilt, AreNext, Stores, StoresIn, Breaks, Says, is_macrocell, least_level, IsOpenIn, IsKnown, content, IsPatternOf, AreSquaresIn, ForMacrocell, HasGrown, HoldsFile, IsEnd, SomeAtEnd, SomeOfLines, SomeOfRuns, SomeRoot, IsOpen, IsOver, IsReady, StandsFor, taken, Universe};
+ghost use Rattle.std.specs.Prelude.{◌≡◌, ◌↔◌, ◌⊎◌, ◌++◌, ◌∷◌, [], ◌<◌, ◌≤◌, ℤ, Some, IsTrue, false, ℕ, List, IfOk, IfErr, OnOk, max, length, All};
+ghost use Rattle.life_canon.specs.Words.{Full, NoHeader, Prefix, depth, tree_cell, cell, root_level, Macrocell, IsValid, Accepts, squares_of, broken, Nodes, held, Grows, IsWantKind, LacksHeader, HasRuns, BreaksRle, IsSomeRle, IsFilling, IsBuilt, AreNext, Stores, StoresIn, Breaks, Says, is_macrocell, least_level, IsOpenIn, IsKnown, content, IsPatternOf, AreSquaresIn, ForMacrocell, HasGrown, HoldsFile, IsEnd, SomeAtEnd, SomeOfLines, SomeOfMacrocell, SomeOfRuns, SomeRoot, IsOpen, IsOver, IsReady, StandsFor, taken, Universe, CanJoin, HasJoined, IsReadyFor, KeepsLines, quads_of, SomeOf, MOST_WAITING};
 
-use crate::line_squares::{grow_to, line_square};
+use crate::line_squares::{grow_to, line_quarters, names_first};
 use crate::pattern::{Pattern, least_level};
 use life_base::{Kind, MAX_LEVEL, Rule, Run, begins_with};
-use life_mc::McLines;
-use life_quad::{Id, Shared, Squares, trim};
+use life_mc::{Line, McLines};
+use life_quad::{Id, Quarters, Shared, Squares, trim};
 use life_rle::RleLines;
 use life_strip::Builder;
 use std::alloc::Global;
+
+/// How many node lines wait at most until their squares are joined.
+const MOST_WAITING: usize = 32;
+
+/// Node lines wait in a store of so many nodes and more. A smaller one fits into the processor's cache, so that no join waits for memory.
+const LEAST_NODES: usize = 1 << 16;
+
+/// No line waits in a store whose limit leaves fewer squares than this: so `Full` is reported at the line that needs one square too many.
+const LEAST_LEFT: u64 = 256;
 
 /// What the lines so far are, and the squares that were made of them.
 #[derive(Drop)]
@@ -19,8 +28,8 @@ pub(crate) enum Progress {
     Undecided,
     /// What comes before the items of an RLE file, its runs, and a vector for those of one line.
     Rle(RleLines, Builder, Vec<Run>),
-    /// What comes before the node lines of a macrocell file, and the squares of these lines.
-    Macrocell(McLines, Vec<Id>),
+    /// What comes before the node lines of a macrocell file, the squares of these lines, and the quarters of those of the last lines, which wait.
+    Macrocell(McLines, Vec<Id>, Vec<Quarters>),
 }
 
 /// Gives the runs to the builder, in their order.
@@ -65,21 +74,77 @@ fn take_rle_line<S: Squares>(
     add_runs(squares, builder, runs)
 }
 
-/// Takes a line of a macrocell file.
+/// Joins the squares of the lines that wait, and puts their Ids after those of the lines before them.
+#[inline(never)]
+fn join_waiting<S: Squares>(
+    squares: &mut S,
+    ids: &mut Vec<Id>,
+    waiting: &mut Vec<Quarters>,
+) -> Result<(), Kind>
+    requires can_join { All (CanJoin (S.knows squares.old) (S.content squares.old))
+        waiting.old.items }
+    requires few { length waiting.old.items ≤ MOST_WAITING }
+    ensures joined { OnOk result (HasJoined S.Squares squares.old squares.new ids.old.items
+        waiting.old.items ids.new.items) }
+    ensures none { OnOk result (waiting.new.items ≡ []) }
+    ensures grows { Grows S.Squares squares.old squares.new result
+        (λ P. SomeOf P (quads_of (S.content squares.old) waiting.old.items)) }
+{
+    if waiting.is_empty() {
+        return Ok(());
+    }
+    let blank = squares.empty(1);
+    let mut joined = [blank; MOST_WAITING];
+    let answers = &mut joined[..waiting.len()];
+    squares.join_all(waiting.as_slice(), answers)?;
+    ids.extend_from_slice(answers)?;
+    waiting.clear();
+    Ok(())
+}
+
+/// Joins the squares of the lines that wait, where so many wait, or where a node line names one of them.
+fn make_ready<S: Squares>(
+    squares: &mut S,
+    ids: &mut Vec<Id>,
+    waiting: &mut Vec<Quarters>,
+    most: usize,
+    line: Line,
+) -> Result<(), Kind>
+    requires can_join { All (CanJoin (S.knows squares.old) (S.content squares.old))
+        waiting.old.items }
+    requires few { length waiting.old.items ≤ MOST_WAITING }
+    ensures ready { OnOk result (IsReadyFor S.Squares most line squares.old squares.new
+        ids.old.items waiting.old.items ids.new.items waiting.new.items) }
+    ensures grows { Grows S.Squares squares.old squares.new result
+        (λ P. SomeOf P (quads_of (S.content squares.old) waiting.old.items)) }
+{
+    if waiting.is_empty() {
+        return Ok(());
+    }
+    if waiting.len() < most && names_first(ids.len() as u64, line) {
+        return Ok(());
+    }
+    join_waiting(squares, ids, waiting)
+}
+
+/// Takes a line of a macrocell file. Where so many lines may wait, and that isn't 0, the line does.
 fn take_macrocell_line<S: Squares>(
     squares: &mut S,
     lines: &mut McLines,
     ids: &mut Vec<Id>,
+    waiting: &mut Vec<Quarters>,
+    most: usize,
     line: &[u8],
 ) -> Result<(), Kind>
-    requires squares { AreSquaresIn S.Squares squares.old (squares_of lines.old.lines)
-        ids.old.items }
+    requires squares { KeepsLines (S.knows squares.old) (S.content squares.old) lines.old.lines
+        ids.old.items waiting.old.items }
     requires begun { lines.old.refused ≡ false }
+    requires most { most ≤ MOST_WAITING }
     ensures lines { OnOk result
         (lines.new ≡ record { lines = lines.old.lines ++ line.now ∷ []; refused = false }) }
     ensures front { OnOk result (Prefix (Accepts MAX_LEVEL) lines.new.lines) }
-    ensures squares { OnOk result
-        (AreSquaresIn S.Squares squares.new (squares_of lines.new.lines) ids.new.items) }
+    ensures squares { OnOk result (KeepsLines (S.knows squares.new) (S.content squares.new)
+        lines.new.lines ids.new.items waiting.new.items) }
     ensures fault { IfErr result (λ kind. IsWantKind (S.stored squares.new) (S.most squares.new)
         kind ⊎ (broken MAX_LEVEL lines.old.lines line.now ≡ Some kind)) }
     ensures stores { StoresIn S.Squares squares.old squares.new result
@@ -88,9 +153,26 @@ fn take_macrocell_line<S: Squares>(
     let Some(square) = lines.line(line)? else {
         return Ok(());
     };
-    let id = line_square(squares, ids, square)?;
-    ids.push(id)?;
+    make_ready(squares, ids, waiting, most, square)?;
+    let quarters = line_quarters(squares, ids, square)?;
+    if most == 0 {
+        let Quarters { nw, ne, sw, se } = quarters;
+        let id = squares.join(nw, ne, sw, se)?;
+        ids.push(id)?;
+    } else {
+        waiting.push(quarters)?;
+    }
     Ok(())
+}
+
+/// How many lines may wait.
+fn most_waiting(store: &Shared) -> usize
+    ensures { result ≤ MOST_WAITING }
+{
+    if store.nodes() < LEAST_NODES || store.limit().saturating_sub(store.len()) < LEAST_LEFT {
+        return 0;
+    }
+    MOST_WAITING
 }
 
 /// The pattern of a root, which is trimmed to the least level of a node line.
@@ -149,7 +231,7 @@ impl Progress {
         ensures stands { (store : Nodes) → StandsFor (IsKnown store) (content store) result }
     {
         if begins_with(line, b"[M2]") {
-            Progress::Macrocell(McLines::new(alloc), Vec::new(alloc))
+            Progress::Macrocell(McLines::new(alloc), Vec::new(alloc), Vec::new(alloc))
         } else {
             Progress::Rle(RleLines::new(alloc), Builder::new(alloc), Vec::new(alloc))
         }
@@ -200,7 +282,10 @@ impl Progress {
             Progress::Rle(lines, builder, runs) => {
                 take_rle_line(store, lines, builder, runs, line)
             }
-            Progress::Macrocell(lines, ids) => take_macrocell_line(store, lines, ids, line),
+            Progress::Macrocell(lines, ids, waiting) => {
+                let most = most_waiting(store);
+                take_macrocell_line(store, lines, ids, waiting, most, line)
+            }
         }
     }
 
@@ -216,7 +301,7 @@ impl Progress {
             ⊎ ((kind ≡ NoHeader) × LacksHeader MAX_LEVEL (taken self)
             × (is_macrocell (taken self) ≡ false))) }
         ensures stores { Stores Full store.old store.new result
-            (λ P. SomeAtEnd MAX_LEVEL P (taken self)) }
+            (λ P. SomeAtEnd MAX_LEVEL P (taken self) ⊎ SomeOfMacrocell MAX_LEVEL P (taken self)) }
     {
         match self {
             Progress::Undecided => Err(Kind::NoHeader),
@@ -225,8 +310,9 @@ impl Progress {
                 let root = builder.finish(store)?;
                 trimmed_pattern(store, rule, generation, root)
             }
-            Progress::Macrocell(lines, ids) => {
+            Progress::Macrocell(lines, mut ids, mut waiting) => {
                 let (rule, generation) = lines.end()?;
+                join_waiting(store, &mut ids, &mut waiting)?;
                 let root = last_square(store, &ids);
                 trimmed_pattern(store, rule, generation, root)
             }

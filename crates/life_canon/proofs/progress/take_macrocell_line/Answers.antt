@@ -1,6 +1,8 @@
-use Rattle.std.proofs.Common.{◌≡◌, ℕ, ◌-◌, false, List, [], ◌∷◌, ◌++◌, Some, map, sym, ap, ◌∙◌, subst, rules}
-use Rattle.std.specs.Prelude.{Option}
+use Rattle.std.proofs.Common.{◌≡◌, inl, inr, ℕ, ◌-◌, ◌<◌, ◌≤◌, false, List, [], ◌∷◌, ◌++◌, length, take, drop, Some, map, refl, sym, ap, ◌∙◌, subst, arith, rules}
+use Rattle.std.specs.Prelude.{Contains, Option}
 use Rattle.std.specs.List.{cons_option}
+use Rattle.std.proofs.lemmas.List.{length-take-le, map_push, take-append-drop}
+use Rattle.std.proofs.lemmas.List.Elements.{Contains-push_cases}
 use Rattle.std.proofs.lemmas.Result.{err_from_is_err_and}
 use Rattle.life_base.specs.Lines.{LinesRead}
 use Rattle.life_base.specs.Refusal.{Prefix}
@@ -8,73 +10,273 @@ use Rattle.life_base.specs.Tree.{Tree}
 use Rattle.life_base.specs.declared.cell.TheConstants.{MAX_LEVEL}
 use Rattle.life_base.specs.declared.kind.Kind.{Kind}
 use Rattle.life_base.specs.declared.rule.Rule.{Rule}
-use Rattle.life_mc.specs.Macrocell.{IsSquare, level_of}
+use Rattle.life_mc.specs.Macrocell.{IsSquare, IsValid, level_of}
 use Rattle.life_mc.specs.Reading.{Accepts, squares_of}
 use Rattle.life_mc.specs.Squares.{line_tree, tree_of}
 use Rattle.life_mc.specs.declared.line.Line.{Line}
+use Rattle.life_quad.specs.Moves.{CanJoin, quad_of, quads_of}
+use Rattle.life_quad.specs.Refused.{SomeOf}
 use Rattle.life_quad.specs.declared.id.Id.{Id}
-use Rattle.life_quad.proofs.KeepingLemmas.{keeps-same, adds-none, adds-as}
+use Rattle.life_quad.specs.declared.moves.Quarters.{Quarters}
+use Rattle.life_quad.specs.declared.squares.Squares.{Ghosts}
+use Rattle.life_quad.proofs.KeepingLemmas.{keeps-same, keeps-then, adds-none, adds-as, adds-then}
 use Rattle.life_canon.specs.Filling.{AreSquaresOf}
 use Rattle.life_canon.specs.Needs.{SomeOfLine, SomeOfLines}
-use Rattle.life_canon.proofs.GrowFacts.{last-square, squares-grow}
+use Rattle.life_canon.specs.Waiting.{AreKeptOf, IsOfNodeLine, IsReadyFor, KeepsLines, NamesFirst, names_first, all_joined}
+use Rattle.life_canon.specs.declared.progress.TheConstants.{MOST_WAITING}
+use Rattle.life_canon.proofs.GrowFacts.{first-valid, last-square}
+use Rattle.life_canon.proofs.NeedFacts.{more-lines, next-needs}
 use Rattle.life_canon.proofs.PatternFacts.{NextSquare, next-square, not-full}
-use Rattle.life_canon.proofs.Standing.{squares-stay}
-use Rattle.life_canon.proofs.NeedFacts.{next-needs}
+use Rattle.life_canon.proofs.WaitingFacts.{count-of, first-square, first-squares, first-tree, kept-id, kept-joined, kept-quarters, kept-stays, line-some, lines-more, named-more, named-some, names-lines, quads-stay, waiting-some}
 use Rattle.life_canon.proofs.progress.take_macrocell_line.Goals as goal
 
--- a node line behind others, whose squares these Ids name
-module _ {knows : Id → Type 0} {content : Id → Tree} (old : List (List ℕ)) (line : List ℕ) {all : LinesRead} {taken : Option Line} {square : Line}
-    {ids here : List Id} (more : all ≡ record { lines = old ++ line ∷ []; refused = false }) (front : Prefix (Accepts MAX_LEVEL) all.lines)
-    (squares : squares_of all.lines ≡ squares_of old ++ cons_option taken []) (is : taken ≡ Some square) (same : here ≡ ids)
-    (were : AreSquaresOf knows content (squares_of old) ids) where
-  with-line : squares_of all.lines ≡ squares_of old ++ square ∷ []
-  with-line = squares ∙ ap (λ (o : Option Line). squares_of old ++ cons_option o []) is
+-- a node line behind others, which the store and the Ids are ready for
+module _ {X : Type 0} (S : Ghosts X) (old mid : X) (text : List (List ℕ)) (line : List ℕ) {all : LinesRead} {taken : Option Line} {square : Line}
+    {ids here : List Id} {waiting left : List Quarters} {most : ℕ} (more : all ≡ record { lines = text ++ line ∷ []; refused = false })
+    (front : Prefix (Accepts MAX_LEVEL) all.lines) (squares : squares_of all.lines ≡ squares_of text ++ cons_option taken []) (is : taken ≡ Some square)
+    (were : KeepsLines (S.knows old) (S.content old) text ids waiting)
+    (keeps : (id : Id) → S.knows old id → S.knows mid id × (S.content mid id ≡ S.content old id))
+    (ready : IsReadyFor S most square old mid ids waiting here left) where
+  abbrev lines : List Line
+  lines = squares_of text
 
-  next : NextSquare old square
-  next = next-square old all.lines line square (ap (λ (v : LinesRead). v.lines) more) front with-line
+  whole : all.lines ≡ text ++ line ∷ []
+  whole = ap (λ (v : LinesRead). v.lines) more
 
-  last : IsSquare MAX_LEVEL next.rule (map level_of (squares_of old)) square
-  last = last-square next.rule next.generation (squares_of old) square next.valid
+  with-line : squares_of all.lines ≡ lines ++ square ∷ []
+  with-line = squares ∙ ap (λ (o : Option Line). lines ++ cons_option o []) is
 
-  named : AreSquaresOf knows content (squares_of old) here
-  named = subst (AreSquaresOf knows content (squares_of old)) (sym same) were
+  next : NextSquare text square
+  next = next-square text all.lines line square whole front with-line
 
-  placed : (lines : List Line) × ((rule : Rule) × IsSquare MAX_LEVEL rule (map level_of lines) square) × AreSquaresOf knows content lines here
-  placed = (squares_of old, (next.rule, last), named)
+  last : IsSquare MAX_LEVEL next.rule (map level_of lines) square
+  last = last-square next.rule next.generation lines square next.valid
 
-  -- what holds of all such lines
-  of-line : {P : List Line → Type 0}
-      → ((lines : List Line) (rule : Rule) → IsSquare MAX_LEVEL rule (map level_of lines) square → AreSquaresOf knows content lines here → P lines)
-      → P (squares_of old)
-  of-line each = each (squares_of old) next.rule last named
+  kept : AreKeptOf (S.knows mid) (S.content mid) lines here left
+  kept = by ready
+    where
+      by : IsReadyFor S most square old mid ids waiting here left → AreKeptOf (S.knows mid) (S.content mid) lines here left
+      by (names_first same i w few names) =
+          subst (λ (s : X). AreKeptOf (S.knows s) (S.content s) lines here left) (sym same)
+          (subst (λ (l : List Id). AreKeptOf (S.knows old) (S.content old) lines l left) (sym i)
+          (subst (AreKeptOf (S.knows old) (S.content old) lines ids) (sym w) were.kept))
+      by (all_joined j none) =
+          subst (AreKeptOf (S.knows mid) (S.content mid) lines here) (sym none)
+          (subst (λ (l : List Id). AreKeptOf (S.knows mid) (S.content mid) lines l []) (sym j.are)
+          (kept-joined lines ids j.joined waiting keeps were.kept j.known j.squares))
 
-  needed : (P : Tree → Type 0)
-      → ((lines : List Line) (rule : Rule) → IsSquare MAX_LEVEL rule (map level_of lines) square → AreSquaresOf knows content lines here
-      → SomeOfLine P lines square)
-      → SomeOfLines MAX_LEVEL P (old ++ line ∷ [])
-  needed P some = next-needs P old all.lines line square (ap (λ (v : LinesRead). v.lines) more) front with-line (of-line some)
+  names : NamesFirst (length here) square
+  names = by ready
+    where
+      by : IsReadyFor S most square old mid ids waiting here left → NamesFirst (length here) square
+      by (names_first same i w few names) = subst (λ (l : List Id). NamesFirst (length l) square) (sym i) names
+      by (all_joined j none) =
+          let count = count-of (S.knows mid) (S.content mid) lines here left kept in
+          let empty : length left ≡ 0 = ap length none in
+          let same : length lines ≡ length here = omega (arith, count, empty) in
+          subst (λ (n : ℕ). NamesFirst n square) same (names-lines next.rule lines square last)
 
-  grown : {knows_now : Id → Type 0} {now : Id → Tree} {id : Id} {pushed : List Id} → ((i : Id) → knows i → knows_now i × (now i ≡ content i)) → knows_now id
-      → now id ≡ line_tree (tree_of (squares_of old) (level_of square - 1)) square → pushed ≡ ids ++ id ∷ []
-      → AreSquaresOf knows_now now (squares_of all.lines) pushed
-  grown {knows_now} {now} {id} keeps known tree e =
-      let ended = squares-grow knows_now now next.rule next.generation (squares_of old) square ids id next.valid
-      (squares-stay (squares_of old) ids keeps were) known tree in
-      rw (with-line, e) ended
+  -- the lines whose Ids are kept, and those behind them
+  abbrev first : List Line
+  first = take (length here) lines
 
-pub line_square-requires : goal.line_square-requires
-line_square-requires g c =
+  abbrev behind : List Line
+  behind = drop (length here) lines
+
+  split : first ++ behind ≡ lines
+  split = take-append-drop (length here) lines
+
+  within : length here ≤ length lines
+  within = omega (arith, count-of (S.knows mid) (S.content mid) lines here left kept)
+
+  valid : IsValid MAX_LEVEL (record { rule = next.rule; generation = next.generation; lines = first ++ behind })
+  valid =
+      subst (λ (ls : List Line). IsValid MAX_LEVEL (record { rule = next.rule; generation = next.generation; lines = ls })) (sym split)
+      (first-valid next.rule next.generation lines (square ∷ []) next.valid)
+
+  first-is : IsSquare MAX_LEVEL next.rule (map level_of first) square
+  first-is = first-square next.rule lines (length here) square within last names
+
+  named : AreSquaresOf (S.knows mid) (S.content mid) first here
+  named =
+      first-squares (S.knows mid) (S.content mid) next.rule next.generation first behind here left valid (length-take-le (length here) lines within)
+      (subst (λ (ls : List Line). AreKeptOf (S.knows mid) (S.content mid) ls here left) (sym split) kept)
+
+  placed : (lines : List Line) × ((rule : Rule) × IsSquare MAX_LEVEL rule (map level_of lines) square) × AreSquaresOf (S.knows mid) (S.content mid) lines here
+  placed = (first, (next.rule, first-is), named)
+
+  tree : line_tree (tree_of lines (level_of square - 1)) square ≡ line_tree (tree_of first (level_of square - 1)) square
+  tree =
+      ap (λ (ls : List Line). line_tree (tree_of ls (level_of square - 1)) square) (sym split)
+      ∙ first-tree next.rule next.generation first behind square valid first-is
+
+  -- what holds of all lines that these Ids name
+  of-line : {P : List Line → Type 0} {slice : List Id} → slice ≡ here
+      → ((lines : List Line) (rule : Rule) → IsSquare MAX_LEVEL rule (map level_of lines) square
+      → AreSquaresOf (S.knows mid) (S.content mid) lines slice → P lines)
+      → P first
+  of-line same each = each first next.rule first-is (subst (AreSquaresOf (S.knows mid) (S.content mid) first) (sym same) named)
+
+  needed : {slice : List Id} → slice ≡ here → (P : Tree → Type 0)
+      → ((lines : List Line) (rule : Rule) → IsSquare MAX_LEVEL rule (map level_of lines) square
+      → AreSquaresOf (S.knows mid) (S.content mid) lines slice → SomeOfLine P lines square)
+      → SomeOfLines MAX_LEVEL P (text ++ line ∷ [])
+  needed same P some = next-needs P text all.lines line square whole front with-line (line-some P first lines square (sym tree) (of-line same some))
+
+  -- the squares of the lines so far that still wait, and of this line, are those of node lines
+  left-named : (t : Tree) → Contains (quads_of (S.content mid) left) t → IsOfNodeLine MAX_LEVEL all.lines t
+  left-named t c = by ready
+    where
+      before : Contains (quads_of (S.content old) waiting) t → IsOfNodeLine MAX_LEVEL all.lines t
+      before c = subst (λ (ls : List (List ℕ)). IsOfNodeLine MAX_LEVEL ls t) (sym whole) (named-more text (line ∷ []) t (were.named t c))
+
+      by : IsReadyFor S most square old mid ids waiting here left → IsOfNodeLine MAX_LEVEL all.lines t
+      by (names_first same i w few names) =
+          before (subst (λ (s : X). Contains (quads_of (S.content s) waiting) t) same
+          (subst (λ (l : List Quarters). Contains (quads_of (S.content mid) l) t) w c))
+      by (all_joined j none) =
+          let none_there : Contains (quads_of (S.content mid) []) t = subst (λ (l : List Quarters). Contains (quads_of (S.content mid) l) t) none c in
+          absurd (omega (arith, none_there.1))
+
+  this-named : (t : Tree) → t ≡ line_tree (tree_of lines (level_of square - 1)) square → IsOfNodeLine MAX_LEVEL all.lines t
+  this-named t e = record {
+    before = text;
+    line = line;
+    behind = [];
+    square = square;
+    are = whole;
+    front = subst (Prefix (Accepts MAX_LEVEL)) whole front;
+    squares = subst (λ (ls : List (List ℕ)). squares_of ls ≡ lines ++ square ∷ []) whole with-line;
+    tree = e;
+  }
+
+  -- the square of the line has a property
+  this-needed : {t : Tree} → t ≡ line_tree (tree_of first (level_of square - 1)) square → (P : Tree → Type 0) → P t
+      → SomeOfLines MAX_LEVEL P (text ++ line ∷ [])
+  this-needed {t} e P p =
+      subst (SomeOfLines MAX_LEVEL P) whole (named-some P all.lines t (this-named t (e ∙ sym tree)) p)
+
+  -- one line more that waits
+  waits : {new : X} {q : Quarters} {pushed : List Quarters} → ((id : Id) → S.knows mid id → S.knows new id × (S.content new id ≡ S.content mid id))
+      → CanJoin (S.knows new) (S.content new) q
+      → quad_of (S.content new) q ≡ line_tree (tree_of first (level_of square - 1)) square → pushed ≡ left ++ q ∷ [] → length left < MOST_WAITING
+      → KeepsLines (S.knows new) (S.content new) all.lines here pushed
+  waits {new} {q} keep can is e lt =
+      let stayed = kept-stays lines here left (λ id k. keep id) kept in
+      let one = kept-quarters next.rule next.generation lines square here next.valid left q stayed lt can (is ∙ sym tree) in
+      subst (KeepsLines (S.knows new) (S.content new) all.lines here) (sym e)
+      (record {
+        kept = subst (λ (ls : List Line). AreKeptOf (S.knows new) (S.content new) ls here (left ++ q ∷ [])) (sym with-line) one;
+        named = λ t c.
+            elim (Contains-push_cases (quads_of (S.content new) left) (quad_of (S.content new) q) t
+            (subst (λ (ts : List Tree). Contains ts t) (map_push (quad_of (S.content new)) left q) c)) [
+              | inl before ↦ left-named t (subst (λ (ts : List Tree). Contains ts t) (quads-stay left keep kept.can_join) before)
+              | inr this ↦ this-named t (sym this ∙ is ∙ sym tree)
+            ];
+      })
+
+  -- or one Id more
+  joins : {new : X} {id : Id} {pushed : List Id} → ((i : Id) → S.knows mid i → S.knows new i × (S.content new i ≡ S.content mid i)) → S.knows new id
+      → S.content new id ≡ line_tree (tree_of first (level_of square - 1)) square → pushed ≡ here ++ id ∷ [] → left ≡ []
+      → KeepsLines (S.knows new) (S.content new) all.lines pushed left
+  joins {new} {id} keep known is e none =
+      let stayed = kept-stays lines here [] (λ i k. keep i) (subst (AreKeptOf (S.knows mid) (S.content mid) lines here) none kept) in
+      let one = kept-id next.rule next.generation lines square here next.valid id stayed known (is ∙ sym tree) in
+      subst (λ (l : List Id). KeepsLines (S.knows new) (S.content new) all.lines l left) (sym e)
+      (subst (KeepsLines (S.knows new) (S.content new) all.lines (here ++ id ∷ [])) (sym none)
+      (record {
+        kept = subst (λ (ls : List Line). AreKeptOf (S.knows new) (S.content new) ls (here ++ id ∷ []) []) (sym with-line) one;
+        named = λ t c. absurd (omega (arith, c.1));
+      }))
+
+  left-none : most ≡ 0 → left ≡ []
+  left-none e = by ready
+    where
+      by : IsReadyFor S most square old mid ids waiting here left → left ≡ []
+      by (names_first same i w few names) = absurd (omega (arith, few, e))
+      by (all_joined j none) = none
+
+  left-few : most ≤ MOST_WAITING → length left < MOST_WAITING
+  left-few le = by ready
+    where
+      by : IsReadyFor S most square old mid ids waiting here left → length left < MOST_WAITING
+      by (names_first same i w few names) = let len : length left ≡ length waiting = ap length w in omega (arith, few, len, le)
+      by (all_joined j none) = let len : length left ≡ 0 = ap length none in omega (arith, len)
+
+-- the squares that waited are those of lines
+waited : {knows : Id → Type 0} {content : Id → Tree} (text : List (List ℕ)) (line : List ℕ) {ids : List Id} {waiting : List Quarters}
+    → KeepsLines knows content text ids waiting → (P : Tree → Type 0) → SomeOf P (quads_of content waiting) → SomeOfLines MAX_LEVEL P (text ++ line ∷ [])
+waited text line {ids} {waiting} were P s = more-lines P text (line ∷ []) (text ++ line ∷ []) refl (waiting-some text ids waiting were P s)
+
+-- a store that a refused call left as it was still lacks the square
+still-lacks : {X : Type 0} (S : Ghosts X) {old new : X} {t : Tree} → new ≡ old → S.needs_node old t → S.needs_node new t
+still-lacks S {t = t} same = subst (λ s. S.needs_node s t) (sym same)
+
+-- what the quarters of the line ask for
+abbrev Placed : {X : Type 0} → Ghosts X → X → Line → List Id → Type 0
+Placed S mid square ids =
+    (lines : List Line) × ((rule : Rule) × IsSquare MAX_LEVEL rule (map level_of lines) square) × AreSquaresOf (S.knows mid) (S.content mid) lines ids
+
+pub make_ready-requires : goal.make_ready-requires
+make_ready-requires g c = record { can_join = c.requires.squares.kept.can_join; few = c.requires.squares.kept.few }
+
+pub line_quarters-requires : goal.line_quarters-requires
+line_quarters-requires g c =
     let call = c.in_ok-square.ensures in
-    record { line = placed c.args.lines.now.lines c.args.line.now call.lines call.front call.squares c.in-Some.is c.deref.ensures.value c.requires.squares }
+    let ready = c.in_ok-make_ready.ensures in
+    record {
+      line = subst (Placed g.S.Squares c.make_ready.new.squares c.in-Some.square) (sym c.deref.ensures.value)
+          (placed g.S.Squares c.args.squares.now c.make_ready.new.squares c.args.lines.now.lines c.args.line.now call.lines call.front call.squares
+          c.in-Some.is c.requires.squares ready.grows.keeps.contents ready.ready);
+    }
 
-pub returns-clause-squares : goal.returns-clause-squares
-returns-clause-squares g c =
-    let old = c.args.lines.now.lines in
+pub returns-in_default-clause-squares : goal.returns-in_default-clause-squares
+returns-in_default-clause-squares g c =
     let call = c.in_ok-square.ensures in
-    let made = c.in_ok-id.ensures in
-    grown old c.args.line.now call.lines call.front call.squares c.in-Some.is c.deref.ensures.value c.requires.squares made.grows.keeps.contents made.known
-    (of-line old c.args.line.now call.lines call.front call.squares c.in-Some.is c.deref.ensures.value c.requires.squares made.square)
-    c.in_ok-push.ensures.items
+    lines-more c.args.lines.now.lines c.line.new.self.lines c.args.line.now c.args.ids.now.items c.args.waiting.now.items
+    (ap (λ (v : LinesRead). v.lines) call.lines)
+    (call.squares ∙ ap (λ (o : Option Line). squares_of c.args.lines.now.lines ++ cons_option o []) c.in_default.is) c.requires.squares
+
+pub join-requires : goal.join-requires
+join-requires g c =
+    let can = c.in_ok-quarters.ensures.can_join in
+    record {
+      nw = can.nw;
+      ne = can.ne;
+      sw = can.sw;
+      se = can.se;
+      ne_level = can.ne_level;
+      sw_level = can.sw_level;
+      se_level = can.se_level;
+      room = can.room;
+    }
+
+pub returns-in_ok-push-clause-squares : goal.returns-in_ok-push-clause-squares
+returns-in_ok-push-clause-squares g c =
+    let call = c.in_ok-square.ensures in
+    let ready = c.in_ok-make_ready.ensures in
+    let made = c.in_ok-quarters.ensures in
+    let join = c.in_ok-id.ensures in
+    let tree = of-line g.S.Squares c.args.squares.now c.make_ready.new.squares c.args.lines.now.lines c.args.line.now call.lines call.front call.squares
+    c.in-Some.is c.requires.squares ready.grows.keeps.contents ready.ready c.deref.ensures.value made.square in
+    joins g.S.Squares c.args.squares.now c.make_ready.new.squares c.args.lines.now.lines c.args.line.now call.lines call.front call.squares
+    c.in-Some.is c.requires.squares ready.grows.keeps.contents ready.ready
+    (keeps-then made.grows.keeps join.keeps).contents join.known (join.square ∙ tree) c.in_ok-push.ensures.items
+    (left-none g.S.Squares c.args.squares.now c.make_ready.new.squares c.args.lines.now.lines c.args.line.now call.lines call.front call.squares
+    c.in-Some.is c.requires.squares ready.grows.keeps.contents ready.ready c.if-most-eq0.true)
+
+pub returns-in_ok-push-2-clause-squares : goal.returns-in_ok-push-2-clause-squares
+returns-in_ok-push-2-clause-squares g c =
+    let call = c.in_ok-square.ensures in
+    let ready = c.in_ok-make_ready.ensures in
+    let made = c.in_ok-quarters.ensures in
+    let tree = of-line g.S.Squares c.args.squares.now c.make_ready.new.squares c.args.lines.now.lines c.args.line.now call.lines call.front call.squares
+    c.in-Some.is c.requires.squares ready.grows.keeps.contents ready.ready c.deref.ensures.value made.square in
+    waits g.S.Squares c.args.squares.now c.make_ready.new.squares c.args.lines.now.lines c.args.line.now call.lines call.front call.squares
+    c.in-Some.is c.requires.squares ready.grows.keeps.contents ready.ready
+    made.grows.keeps.contents made.can_join tree c.in_ok-push-2.ensures.items
+    (left-few g.S.Squares c.args.squares.now c.make_ready.new.squares c.args.lines.now.lines c.args.line.now call.lines call.front call.squares
+    c.in-Some.is c.requires.squares ready.grows.keeps.contents ready.ready c.requires.most)
 
 pub returns-in_err-square-clause-stores : goal.returns-in_err-square-clause-stores
 returns-in_err-square-clause-stores g c =
@@ -86,33 +288,112 @@ returns-in_err-square-clause-stores g c =
       keeps = keeps-same _;
     })
 
+pub returns-in_err-make_ready-clause-stores : goal.returns-in_err-make_ready-clause-stores
+returns-in_err-make_ready-clause-stores g c =
+    let p = err_from_is_err_and c.from_residual-in_err-make_ready.result c.from_residual-in_err-make_ready.ensures.1 in
+    let grows = c.in_err-make_ready.ensures.grows in
+    let some = waited c.args.lines.now.lines c.args.line.now c.requires.squares in
+    rw (p.1, p.2) (record { needed = λ e. some _ (grows.needed e); adds = adds-as _ grows.adds some; keeps = grows.keeps })
+
+pub returns-in_err-quarters-clause-stores : goal.returns-in_err-quarters-clause-stores
+returns-in_err-quarters-clause-stores g c =
+    let p = err_from_is_err_and c.from_residual-in_err-quarters.result c.from_residual-in_err-quarters.ensures.1 in
+    let call = c.in_ok-square.ensures in
+    let ready = c.in_ok-make_ready.ensures in
+    let some = needed g.S.Squares c.args.squares.now c.make_ready.new.squares c.args.lines.now.lines c.args.line.now call.lines call.front call.squares
+    c.in-Some.is c.requires.squares ready.grows.keeps.contents ready.ready c.deref.ensures.value in
+    let grows = c.line_quarters.ensures.grows in
+    rw (p.1, p.2) (record {
+      needed = λ e. some _ c.in_err-quarters.ensures.grows.needed;
+      adds = adds-then _ ready.grows.adds grows.adds (waited c.args.lines.now.lines c.args.line.now c.requires.squares) some;
+      keeps = keeps-then ready.grows.keeps grows.keeps;
+    })
+
+pub returns-in_err-push-2-clause-stores : goal.returns-in_err-push-2-clause-stores
+returns-in_err-push-2-clause-stores g c =
+    let p = err_from_is_err_and c.from_residual-in_err-push-2.result c.from_residual-in_err-push-2.ensures.1 in
+    let call = c.in_ok-square.ensures in
+    let ready = c.in_ok-make_ready.ensures in
+    let some = needed g.S.Squares c.args.squares.now c.make_ready.new.squares c.args.lines.now.lines c.args.line.now call.lines call.front call.squares
+    c.in-Some.is c.requires.squares ready.grows.keeps.contents ready.ready c.deref.ensures.value in
+    let grows = c.line_quarters.ensures.grows in
+    rw (p.1, p.2) (record {
+      needed = search rules;
+      adds = adds-then _ ready.grows.adds grows.adds (waited c.args.lines.now.lines c.args.line.now c.requires.squares) some;
+      keeps = keeps-then ready.grows.keeps grows.keeps;
+    })
+
+pub returns-in_ok-push-2-clause-stores : goal.returns-in_ok-push-2-clause-stores
+returns-in_ok-push-2-clause-stores g c =
+    let call = c.in_ok-square.ensures in
+    let ready = c.in_ok-make_ready.ensures in
+    let some = needed g.S.Squares c.args.squares.now c.make_ready.new.squares c.args.lines.now.lines c.args.line.now call.lines call.front call.squares
+    c.in-Some.is c.requires.squares ready.grows.keeps.contents ready.ready c.deref.ensures.value in
+    let grows = c.line_quarters.ensures.grows in
+    record {
+      needed = λ e. absurd (cc);
+      adds = adds-then _ ready.grows.adds grows.adds (waited c.args.lines.now.lines c.args.line.now c.requires.squares) some;
+      keeps = keeps-then ready.grows.keeps grows.keeps;
+    }
+
 pub returns-in_err-id-clause-stores : goal.returns-in_err-id-clause-stores
 returns-in_err-id-clause-stores g c =
     let p = err_from_is_err_and c.from_residual-in_err-id.result c.from_residual-in_err-id.ensures.1 in
     let call = c.in_ok-square.ensures in
-    let some = needed c.args.lines.now.lines c.args.line.now call.lines call.front call.squares c.in-Some.is c.deref.ensures.value c.requires.squares in
-    let grows = c.line_square.ensures.grows in
-    rw (p.1, p.2) (record { needed = λ e. some _ c.in_err-id.ensures.grows.needed; adds = adds-as _ grows.adds some; keeps = grows.keeps })
+    let ready = c.in_ok-make_ready.ensures in
+    let made = c.in_ok-quarters.ensures in
+    let some = needed g.S.Squares c.args.squares.now c.make_ready.new.squares c.args.lines.now.lines c.args.line.now call.lines call.front call.squares
+    c.in-Some.is c.requires.squares ready.grows.keeps.contents ready.ready c.deref.ensures.value in
+    let tree = of-line g.S.Squares c.args.squares.now c.make_ready.new.squares c.args.lines.now.lines c.args.line.now call.lines call.front call.squares
+    c.in-Some.is c.requires.squares ready.grows.keeps.contents ready.ready c.deref.ensures.value made.square in
+    let this = this-needed g.S.Squares c.args.squares.now c.make_ready.new.squares c.args.lines.now.lines c.args.line.now call.lines call.front call.squares
+    c.in-Some.is c.requires.squares ready.grows.keeps.contents ready.ready tree in
+    let grows = c.line_quarters.ensures.grows in
+    let adds = adds-then _ ready.grows.adds grows.adds (waited c.args.lines.now.lines c.args.line.now c.requires.squares) some in
+    let keeps = keeps-then ready.grows.keeps grows.keeps in
+    let join = c.join.ensures in
+    let lacks = c.in_err-id.ensures in
+    rw (p.1, p.2) (record {
+      needed = λ e. this _ (still-lacks g.S.Squares lacks.unchanged lacks.needed);
+      adds = adds-then _ adds join.adds (λ P a. a) this;
+      keeps = keeps-then keeps join.keeps;
+    })
 
 pub returns-in_err-push-clause-stores : goal.returns-in_err-push-clause-stores
 returns-in_err-push-clause-stores g c =
     let p = err_from_is_err_and c.from_residual-in_err-push.result c.from_residual-in_err-push.ensures.1 in
     let call = c.in_ok-square.ensures in
-    let grows = c.line_square.ensures.grows in
+    let ready = c.in_ok-make_ready.ensures in
+    let made = c.in_ok-quarters.ensures in
+    let some = needed g.S.Squares c.args.squares.now c.make_ready.new.squares c.args.lines.now.lines c.args.line.now call.lines call.front call.squares
+    c.in-Some.is c.requires.squares ready.grows.keeps.contents ready.ready c.deref.ensures.value in
+    let tree = of-line g.S.Squares c.args.squares.now c.make_ready.new.squares c.args.lines.now.lines c.args.line.now call.lines call.front call.squares
+    c.in-Some.is c.requires.squares ready.grows.keeps.contents ready.ready c.deref.ensures.value made.square in
+    let this = this-needed g.S.Squares c.args.squares.now c.make_ready.new.squares c.args.lines.now.lines c.args.line.now call.lines call.front call.squares
+    c.in-Some.is c.requires.squares ready.grows.keeps.contents ready.ready tree in
+    let grows = c.line_quarters.ensures.grows in
+    let adds = adds-then _ ready.grows.adds grows.adds (waited c.args.lines.now.lines c.args.line.now c.requires.squares) some in
+    let keeps = keeps-then ready.grows.keeps grows.keeps in
+    let join = c.join.ensures in
     rw (p.1, p.2) (record {
       needed = search rules;
-      adds = adds-as _ grows.adds
-          (needed c.args.lines.now.lines c.args.line.now call.lines call.front call.squares c.in-Some.is c.deref.ensures.value c.requires.squares);
-      keeps = grows.keeps;
+      adds = adds-then _ adds join.adds (λ P a. a) this;
+      keeps = keeps-then keeps join.keeps;
     })
 
-pub returns-clause-stores : goal.returns-clause-stores
-returns-clause-stores g c =
+pub returns-in_ok-push-clause-stores : goal.returns-in_ok-push-clause-stores
+returns-in_ok-push-clause-stores g c =
     let call = c.in_ok-square.ensures in
-    let grows = c.line_square.ensures.grows in
-    record {
-      needed = λ e. absurd (cc);
-      adds = adds-as _ grows.adds
-          (needed c.args.lines.now.lines c.args.line.now call.lines call.front call.squares c.in-Some.is c.deref.ensures.value c.requires.squares);
-      keeps = grows.keeps;
-    }
+    let ready = c.in_ok-make_ready.ensures in
+    let made = c.in_ok-quarters.ensures in
+    let some = needed g.S.Squares c.args.squares.now c.make_ready.new.squares c.args.lines.now.lines c.args.line.now call.lines call.front call.squares
+    c.in-Some.is c.requires.squares ready.grows.keeps.contents ready.ready c.deref.ensures.value in
+    let tree = of-line g.S.Squares c.args.squares.now c.make_ready.new.squares c.args.lines.now.lines c.args.line.now call.lines call.front call.squares
+    c.in-Some.is c.requires.squares ready.grows.keeps.contents ready.ready c.deref.ensures.value made.square in
+    let this = this-needed g.S.Squares c.args.squares.now c.make_ready.new.squares c.args.lines.now.lines c.args.line.now call.lines call.front call.squares
+    c.in-Some.is c.requires.squares ready.grows.keeps.contents ready.ready tree in
+    let grows = c.line_quarters.ensures.grows in
+    let adds = adds-then _ ready.grows.adds grows.adds (waited c.args.lines.now.lines c.args.line.now c.requires.squares) some in
+    let keeps = keeps-then ready.grows.keeps grows.keeps in
+    let join = c.join.ensures in
+    record { needed = λ e. absurd (cc); adds = adds-then _ adds join.adds (λ P a. a) this; keeps = keeps-then keeps join.keeps }

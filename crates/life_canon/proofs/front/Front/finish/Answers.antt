@@ -8,8 +8,8 @@ use Rattle.life_quad.proofs.KeepingLemmas.{keeps-then, adds-then}
 use Rattle.life_canon.specs.Store.{RefusesIn}
 use Rattle.life_canon.specs.Taking.{bytes_of}
 use Rattle.life_canon.proofs.FrontFacts.{end-says, end-fault}
-use Rattle.life_canon.specs.Needs.{IsNew, at_end}
-use Rattle.life_canon.proofs.NeedFacts.{kind-full, end-needs}
+use Rattle.life_canon.specs.Needs.{IsNew}
+use Rattle.life_canon.proofs.NeedFacts.{kind-full, left-needs}
 use Rattle.life_canon.proofs.Stored.{stores-err}
 use Rattle.life_canon.proofs.front.Front.finish.Goals as goal
 
@@ -45,7 +45,7 @@ returns-in-Ok-clause-stores c =
     record {
       needed = λ e. absurd (cc);
       adds = adds-then _ first.adds call.adds (λ P a. a)
-          (λ P s. at_end (end-needs P (bytes_of c.args.self.pieces.lines) front.ended front.progress c.in_ok-take_rest.ensures.end s));
+          (λ P s. left-needs P (bytes_of c.args.self.pieces.lines) front.ended front.progress c.in_ok-take_rest.ensures.end s);
       keeps = keeps-then first.keeps call.keeps;
     }
 
@@ -59,10 +59,10 @@ returns-clause-stores c =
           let fault : c.at.result ≡ fault_of Full = cc in
           let told = c.at.ensures ∙ ap (λ (n : ℕ). fault_at n c.in-Err.kind) c.saturating_add.ensures in
           let kind : c.in-Err.kind ≡ Full = kind-full (min (front.ended + 1) (2 ^ 64 - 1)) c.in-Err.kind (sym told ∙ fault) in
-          at_end (end-needs (IsNew c.end.new.store) (bytes_of c.args.self.pieces.lines) front.ended front.progress c.in_ok-take_rest.ensures.end
-          (call.needed (ap (λ (k : Kind). Err k) kind)));
+          left-needs (IsNew c.end.new.store) (bytes_of c.args.self.pieces.lines) front.ended front.progress c.in_ok-take_rest.ensures.end
+          (call.needed (ap (λ (k : Kind). Err k) kind));
       adds = adds-then _ first.adds call.adds (λ P a. a)
-          (λ P s. at_end (end-needs P (bytes_of c.args.self.pieces.lines) front.ended front.progress c.in_ok-take_rest.ensures.end s));
+          (λ P s. left-needs P (bytes_of c.args.self.pieces.lines) front.ended front.progress c.in_ok-take_rest.ensures.end s);
       keeps = keeps-then first.keeps call.keeps;
     }
 

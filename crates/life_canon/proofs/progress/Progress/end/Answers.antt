@@ -1,4 +1,5 @@
-use Rattle.std.proofs.Common.{◌≡◌, ℕ, suc, true, false, ◌+◌, ◌≤◌, ◌^◌, max, List, ℤ, refl, inr, sym, ap, ◌∙◌, subst}
+use Rattle.std.proofs.Common.{◌≡◌, ◌⊎◌, ℕ, suc, true, false, ◌+◌, ◌≤◌, ◌^◌, max, List, ◌++◌, map, ℤ, refl, inl, inr, sym, ap, ◌∙◌, subst}
+use Rattle.std.specs.Prelude.{All}
 use Rattle.std.specs.Global.{Vec}
 use Rattle.std.proofs.lemmas.Result.{IfOk-weaker, err_from_is_err_and}
 use Rattle.life_base.specs.Lines.{LinesRead}
@@ -10,11 +11,14 @@ use Rattle.life_base.specs.declared.kind.Kind.{Kind}
 use Rattle.life_mc.specs.Cells.{root_level}
 use Rattle.life_mc.specs.Macrocell.{Macrocell, IsValid}
 use Rattle.life_mc.specs.Grammar.{IsFile}
-use Rattle.life_mc.specs.Reading.{AreMacrocell}
+use Rattle.life_mc.specs.Reading.{AreMacrocell, squares_of}
 use Rattle.life_mc.proofs.Accepted.{lines_are_valid}
 use Rattle.life_mc.proofs.Grammars.{grammars_agree}
 use Rattle.life_mc.specs.declared.line.Line.{Line}
 use Rattle.life_quad.specs.declared.id.Id.{Id}
+use Rattle.life_quad.specs.declared.moves.Quarters.{Quarters}
+use Rattle.life_quad.specs.Moves.{quads_of}
+use Rattle.life_quad.specs.Refused.{SomeOf}
 use Rattle.life_quad.specs.Store.{Nodes}
 use Rattle.life_quad.proofs.KeepingLemmas.{keeps-then, adds-as, adds-then}
 use Rattle.life_rle.specs.Grammar.{IsRle}
@@ -24,9 +28,10 @@ use Rattle.life_strip.specs.Given.{by_columns, state_by}
 use Rattle.life_strip.specs.Needed.{SomeSquare}
 use Rattle.life_canon.specs.Files.{Says, as_rle, as_macrocell, is_macrocell}
 use Rattle.life_canon.specs.Filling.{AreSquaresOf}
-use Rattle.life_canon.specs.Needs.{SomeRoot, SomeAtEnd, grown_times, of_plane, of_root, level_of_root}
+use Rattle.life_canon.specs.Needs.{SomeRoot, SomeAtEnd, SomeOfLines, SomeOfMacrocell, grown_times, of_plane, of_root, level_of_root}
 use Rattle.life_canon.specs.Store.{IsKnown, content}
 use Rattle.life_canon.specs.Taking.{IsEnd, IsOpen, StandsFor, taken}
+use Rattle.life_canon.specs.Waiting.{KeepsLines}
 use Rattle.life_canon.specs.Universe.{least_level, rle_universe, macrocell_universe}
 use Rattle.life_canon.specs.declared.progress.Progress.{Progress}
 use Rattle.life_canon.specs.declared.progress.Progress.TheVariants as progress
@@ -36,6 +41,7 @@ use Rattle.life_canon.proofs.Holding.{macrocell-holds, ok-both, rle-holds}
 use Rattle.life_canon.proofs.NeedFacts.{same-square}
 use Rattle.life_canon.proofs.Standing.{squares-stay}
 use Rattle.life_canon.proofs.Stored.{err_again}
+use Rattle.life_canon.proofs.WaitingFacts.{kept-joined, kept-squares, waiting-some}
 use Rattle.life_canon.proofs.progress.Progress.end.Goals as goal
 
 -- what the end of an RLE file with these runs gives
@@ -72,10 +78,11 @@ record MacrocellEnd (store : Nodes) (p : Progress) (ids : List Id) (file : Macro
   root : {level : ℕ} → level ≡ max 1 (root_level file.lines) → (P : Tree → Type 0) → SomeRoot MAX_LEVEL P (macrocell_universe file) level
       → SomeAtEnd MAX_LEVEL P (taken p)
 
-macrocell-end : (store : Nodes) {p : Progress} {reader : LinesRead} {ids : Vec Id} {here : List Id} → p ≡ progress.Macrocell reader ids → IsOpen p
-    → StandsFor (IsKnown store) (content store) p → here ≡ ids.items → (file : Macrocell) → IsFile MAX_LEVEL reader.lines file
+macrocell-end : (store : Nodes) {p : Progress} {reader : LinesRead} {ids : Vec Id} {waiting : Vec Quarters} {here : List Id}
+    → p ≡ progress.Macrocell reader ids waiting → IsOpen p → AreSquaresOf (IsKnown store) (content store) (squares_of reader.lines) here → (file : Macrocell)
+    → IsFile MAX_LEVEL reader.lines file
     → MacrocellEnd store p here file
-macrocell-end store {p} {reader} {ids} is begun stands same file found =
+macrocell-end store {p} {reader} {ids} {waiting} {here} is begun squares file found =
     let u = macrocell_universe file in
     let are = (grammars_agree MAX_LEVEL reader.lines file).0 found in
     let whole : Says MAX_LEVEL (taken p) u = subst (λ (ls : List (List ℕ)). Says MAX_LEVEL ls u) (sym (ap taken is)) (as_macrocell file are) in
@@ -83,7 +90,7 @@ macrocell-end store {p} {reader} {ids} is begun stands same file found =
     ∙ sym (ap (level_of_root MAX_LEVEL) (ap taken is) ∙ macrocell-level reader.lines (subst IsOpen is begun).format) in
     record {
       valid = lines_are_valid MAX_LEVEL reader.lines file are;
-      there = rw (are.squares, same) (subst (StandsFor (IsKnown store) (content store)) is stands);
+      there = rw are.squares squares;
       says = whole;
       ends = λ bytes ended e.
           let same = lines bytes ended (subst (IsEnd bytes ended) is e) in
@@ -93,8 +100,27 @@ macrocell-end store {p} {reader} {ids} is begun stands same file found =
       root = λ e P s. of_root u whole (subst (SomeRoot MAX_LEVEL P u) (e ∙ level) s);
     }
   where
-    lines : (bytes : List ℕ) (ended : ℕ) → IsEnd bytes ended (progress.Macrocell reader ids) → lines_of bytes ≡ reader.lines
+    lines : (bytes : List ℕ) (ended : ℕ) → IsEnd bytes ended (progress.Macrocell reader ids waiting) → lines_of bytes ≡ reader.lines
     lines bytes ended e = (e.going (λ v. v)).0
+
+-- the squares of the lines that waited are joined
+joined-squares : (old new : Nodes) (lines : List (List ℕ)) {ids all here : List Id} {waiting : List Quarters}
+    → KeepsLines (IsKnown old) (content old) lines ids waiting
+    → ((id : Id) → IsKnown old id → IsKnown new id × (content new id ≡ content old id)) → (joined : List Id) → all ≡ ids ++ joined → All (IsKnown new) joined
+    → map (content new) joined ≡ quads_of (content old) waiting → here ≡ all → AreSquaresOf (IsKnown new) (content new) (squares_of lines) here
+joined-squares old new lines {ids} {waiting = waiting} kept keeps joined are known squares e =
+    subst (AreSquaresOf (IsKnown new) (content new) (squares_of lines)) (sym (e ∙ are))
+    (kept-squares (squares_of lines) (ids ++ joined) (kept-joined (squares_of lines) ids joined waiting keeps kept.kept known squares))
+
+-- and a square of theirs is one of the file
+waited-some : (store : Nodes) {p : Progress} {reader : LinesRead} {ids : Vec Id} {waiting : Vec Quarters} → p ≡ progress.Macrocell reader ids waiting → IsOpen p
+    → StandsFor (IsKnown store) (content store) p → (P : Tree → Type 0) → SomeOf P (quads_of (content store) waiting.items)
+    → SomeAtEnd MAX_LEVEL P (taken p) ⊎ SomeOfMacrocell MAX_LEVEL P (taken p)
+waited-some store {p} {reader} {ids} {waiting} is begun stands P s = inr (
+  ap is_macrocell (ap taken is) ∙ (subst IsOpen is begun).format,
+  subst (SomeOfLines MAX_LEVEL P) (sym (ap taken is))
+      (waiting-some reader.lines ids.items waiting.items (subst (StandsFor (IsKnown store) (content store)) is stands) P s),
+)
 
 -- the squares that are grown from a square of the store
 abbrev HasGrownIn : Nodes → Tree → ℕ → Type 0
@@ -126,13 +152,21 @@ returns-in-Rle-clause-pattern c =
 pub last_square-root-requires : goal.last_square-root-requires
 last_square-root-requires c =
     let found = c.in_ok-rule-in-Macrocell.ensures.file in
-    let ended = macrocell-end c.args.store.now c.in-Macrocell.is c.requires.begun c.requires.stands c.deref.ensures.value found.0 found.1 in
+    let join = c.in_ok-join_waiting-in-Macrocell.ensures in
+    let there = joined-squares c.args.store.now c.join_waiting.new.squares c.in-Macrocell.lines.lines
+    (subst (StandsFor (IsKnown c.args.store.now) (content c.args.store.now)) c.in-Macrocell.is c.requires.stands) join.grows.keeps.contents join.joined.joined
+    join.joined.are join.joined.known join.joined.squares c.deref.ensures.value in
+    let ended = macrocell-end c.join_waiting.new.squares c.in-Macrocell.is c.requires.begun there found.0 found.1 in
     (found.0, ended.valid, ended.there)
 
 pub returns-clause-pattern : goal.returns-clause-pattern
 returns-clause-pattern c =
     let found = c.in_ok-rule-in-Macrocell.ensures.file in
-    let ended = macrocell-end c.args.store.now c.in-Macrocell.is c.requires.begun c.requires.stands c.deref.ensures.value found.0 found.1 in
+    let join = c.in_ok-join_waiting-in-Macrocell.ensures in
+    let there = joined-squares c.args.store.now c.join_waiting.new.squares c.in-Macrocell.lines.lines
+    (subst (StandsFor (IsKnown c.args.store.now) (content c.args.store.now)) c.in-Macrocell.is c.requires.stands) join.grows.keeps.contents join.joined.joined
+    join.joined.are join.joined.known join.joined.squares c.deref.ensures.value in
+    let ended = macrocell-end c.join_waiting.new.squares c.in-Macrocell.is c.requires.begun there found.0 found.1 in
     IfOk-weaker c.trimmed_pattern-in-Macrocell.result _ _ (λ pattern h. (macrocell_universe found.0, ended.says, h))
     (c.trimmed_pattern-in-Macrocell.ensures.pattern _ (sym found.2) (sym found.3) (c.last_square-root.ensures.cells found.0 ended.valid ended.there))
 
@@ -142,7 +176,11 @@ returns-in_err-root-in-Rle-clause-stores c =
     let found = c.in_ok-rule-in-Rle.ensures.file in
     let ended = rle-end c.args.store.now c.in-Rle.is c.requires.begun c.requires.stands found.0 found.1 in
     let grows = c.in_err-root-in-Rle.ensures.grows in
-    rw (p.1, p.2) (record { needed = λ e. ended.plane _ (grows.needed (err_again e)); adds = adds-as _ grows.adds ended.plane; keeps = grows.keeps })
+    rw (p.1, p.2) (record {
+      needed = λ e. inl (ended.plane _ (grows.needed (err_again e)));
+      adds = adds-as _ grows.adds (λ P s. inl (ended.plane P s));
+      keeps = grows.keeps;
+    })
 
 pub returns-in-Rle-clause-stores : goal.returns-in-Rle-clause-stores
 returns-in-Rle-clause-stores c =
@@ -152,23 +190,35 @@ returns-in-Rle-clause-stores c =
     let trims = c.trimmed_pattern.ensures.grows in
     let cells = λ (x y : ℤ). filled.cells x y ∙ ended.cells x y in
     record {
-      needed = λ e. ended.root filled.level _ (trims.needed e _ (sym found.2) cells);
-      adds = adds-then _ filled.grows.adds trims.adds ended.plane (λ P s. ended.root filled.level P (s _ (sym found.2) cells));
+      needed = λ e. inl (ended.root filled.level _ (trims.needed e _ (sym found.2) cells));
+      adds = adds-then _ filled.grows.adds trims.adds (λ P s. inl (ended.plane P s)) (λ P s. inl (ended.root filled.level P (s _ (sym found.2) cells)));
       keeps = keeps-then filled.grows.keeps trims.keeps;
     }
 
 pub returns-clause-stores : goal.returns-clause-stores
 returns-clause-stores c =
     let found = c.in_ok-rule-in-Macrocell.ensures.file in
-    let ended = macrocell-end c.args.store.now c.in-Macrocell.is c.requires.begun c.requires.stands c.deref.ensures.value found.0 found.1 in
+    let join = c.in_ok-join_waiting-in-Macrocell.ensures in
+    let there = joined-squares c.args.store.now c.join_waiting.new.squares c.in-Macrocell.lines.lines
+    (subst (StandsFor (IsKnown c.args.store.now) (content c.args.store.now)) c.in-Macrocell.is c.requires.stands) join.grows.keeps.contents join.joined.joined
+    join.joined.are join.joined.known join.joined.squares c.deref.ensures.value in
+    let ended = macrocell-end c.join_waiting.new.squares c.in-Macrocell.is c.requires.begun there found.0 found.1 in
     let last = c.last_square-root.ensures in
     let level = last.level found.0 ended.valid ended.there in
     let trims = c.trimmed_pattern-in-Macrocell.ensures.grows in
     record {
-      needed = λ e. ended.root level _ (trims.needed e _ (sym found.2) (last.cells found.0 ended.valid ended.there));
-      adds = adds-as _ trims.adds (λ P s. ended.root level P (s _ (sym found.2) (last.cells found.0 ended.valid ended.there)));
-      keeps = trims.keeps;
+      needed = λ e. inl (ended.root level _ (trims.needed e _ (sym found.2) (last.cells found.0 ended.valid ended.there)));
+      adds = adds-then _ join.grows.adds trims.adds (waited-some c.args.store.now c.in-Macrocell.is c.requires.begun c.requires.stands)
+          (λ P s. inl (ended.root level P (s _ (sym found.2) (last.cells found.0 ended.valid ended.there))));
+      keeps = keeps-then join.grows.keeps trims.keeps;
     }
+
+pub returns-in_err-join_waiting-in-Macrocell-clause-stores : goal.returns-in_err-join_waiting-in-Macrocell-clause-stores
+returns-in_err-join_waiting-in-Macrocell-clause-stores c =
+    let p = err_from_is_err_and c.from_residual-in_err-join_waiting-in-Macrocell.result c.from_residual-in_err-join_waiting-in-Macrocell.ensures.1 in
+    let grows = c.in_err-join_waiting-in-Macrocell.ensures.grows in
+    let some = waited-some c.args.store.now c.in-Macrocell.is c.requires.begun c.requires.stands in
+    rw (p.1, p.2) (record { needed = λ e. some _ (grows.needed (err_again e)); adds = adds-as _ grows.adds some; keeps = grows.keeps })
 
 pub returns-in-Rle-clause-all : goal.returns-in-Rle-clause-all
 returns-in-Rle-clause-all c =
@@ -190,7 +240,11 @@ pub returns-clause-all : goal.returns-clause-all
 returns-clause-all c =
     let found = c.in_ok-rule-in-Macrocell.ensures.file in
     let file = found.0 in
-    let ended = macrocell-end c.args.store.now c.in-Macrocell.is c.requires.begun c.requires.stands c.deref.ensures.value file found.1 in
+    let join = c.in_ok-join_waiting-in-Macrocell.ensures in
+    let there = joined-squares c.args.store.now c.join_waiting.new.squares c.in-Macrocell.lines.lines
+    (subst (StandsFor (IsKnown c.args.store.now) (content c.args.store.now)) c.in-Macrocell.is c.requires.stands) join.grows.keeps.contents join.joined.joined
+    join.joined.are join.joined.known join.joined.squares c.deref.ensures.value in
+    let ended = macrocell-end c.join_waiting.new.squares c.in-Macrocell.is c.requires.begun there file found.1 in
     let last = c.last_square-root.ensures in
     let store = c.trimmed_pattern-in-Macrocell.new.squares in
     let root = c.last_square-root.result in
@@ -205,4 +259,5 @@ returns-clause-all c =
     (subst (λ (t : Tree). 1 ≤ depth t) (sym kept.1) last.high)
     (ap depth kept.1 ∙ ended.last (last.level file ended.valid ended.there) bytes count end)
     (λ x y. ap (λ (t : Tree). tree_cell t x y) kept.1 ∙ cells x y)
-    (grown-again store root _ (least_level file.rule) kept.1 (subst (HasGrownIn store (content c.args.store.now root)) (ap least_level found.2) grown)))
+    (grown-again store root _ (least_level file.rule) kept.1
+    (subst (HasGrownIn store (content c.join_waiting.new.squares root)) (ap least_level found.2) grown)))

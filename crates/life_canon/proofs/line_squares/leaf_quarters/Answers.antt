@@ -1,11 +1,11 @@
 -- A square of four that are made one behind the other: what the five calls store, and where a refused one is missing.
-use Rattle.std.proofs.Common.{◌∙◌, inl, inr, subst}
-use Rattle.life_base.specs.Tree.{Tree, quad}
+use Rattle.std.proofs.Common.{◌∙◌, inl, inr, ap, sym, subst, arith}
+use Rattle.life_base.specs.Tree.{Tree, quad, depth}
 use Rattle.life_mc.specs.Squares.{leaf_tree}
 use Rattle.life_quad.specs.Refused.{SomePart}
-use Rattle.life_quad.proofs.KeepingLemmas.{keeps-same, keeps-then, adds-none, adds-as, adds-then}
-use Rattle.life_canon.proofs.OnlyFacts.{only-refused, only-join}
-use Rattle.life_canon.proofs.line_squares.leaf_square.Goals as goal
+use Rattle.life_quad.proofs.KeepingLemmas.{keeps-same, keeps-then, still, adds-none, adds-as, adds-then}
+use Rattle.life_canon.proofs.OnlyFacts.{only-refused}
+use Rattle.life_canon.proofs.line_squares.leaf_quarters.Goals as goal
 
 pub returns-in_err-nw-clause-grows : goal.returns-in_err-nw-clause-grows
 returns-in_err-nw-clause-grows g c =
@@ -51,17 +51,38 @@ returns-clause-grows g c =
     let adds_3 = adds-then Needs adds_2 c.in_ok-sw.ensures.adds (λ P a. a) (λ P p. inr (inr (inr (inl (subst (SomePart P) c.leaf_cells-nw.ensures.sw p))))) in
     let adds_4 = adds-then Needs adds_3 c.in_ok-se.ensures.adds (λ P a. a) (λ P p. inr (inr (inr (inr (subst (SomePart P) c.leaf_cells-nw.ensures.se p))))) in
     let keeps_3 = keeps-then (keeps-then c.in_ok-nw.ensures.keeps c.in_ok-ne.ensures.keeps) c.in_ok-sw.ensures.keeps in
-    let keeps_4 = keeps-then keeps_3 c.in_ok-se.ensures.keeps in
-    let nw_2 = c.in_ok-ne.ensures.keeps.contents _ c.in_ok-nw.ensures.known in
-    let nw_3 = c.in_ok-sw.ensures.keeps.contents _ nw_2.0 in
-    let nw_4 = c.in_ok-se.ensures.keeps.contents _ nw_3.0 in
-    let ne_3 = c.in_ok-sw.ensures.keeps.contents _ c.in_ok-ne.ensures.known in
-    let ne_4 = c.in_ok-se.ensures.keeps.contents _ ne_3.0 in
-    let sw_4 = c.in_ok-se.ensures.keeps.contents _ c.in_ok-sw.ensures.known in
-    let nw = nw_4.1 ∙ nw_3.1 ∙ nw_2.1 ∙ c.in_ok-nw.ensures.square ∙ c.leaf_cells-nw.ensures.nw in
-    let ne = ne_4.1 ∙ ne_3.1 ∙ c.in_ok-ne.ensures.square ∙ c.leaf_cells-nw.ensures.ne in
-    let sw = sw_4.1 ∙ c.in_ok-sw.ensures.square ∙ c.leaf_cells-nw.ensures.sw in
+    record { keeps = keeps-then keeps_3 c.in_ok-se.ensures.keeps; refusals = tt; needed = tt; adds = adds_4 }
+
+pub returns-clause-square : goal.returns-clause-square
+returns-clause-square g c =
+    let nw_2 = still c.in_ok-ne.ensures.keeps c.in_ok-nw.ensures.known c.in_ok-nw.ensures.square in
+    let nw_3 = still c.in_ok-sw.ensures.keeps nw_2.0 nw_2.1 in
+    let nw_4 = still c.in_ok-se.ensures.keeps nw_3.0 nw_3.1 in
+    let ne_3 = still c.in_ok-sw.ensures.keeps c.in_ok-ne.ensures.known c.in_ok-ne.ensures.square in
+    let ne_4 = still c.in_ok-se.ensures.keeps ne_3.0 ne_3.1 in
+    let sw_4 = still c.in_ok-se.ensures.keeps c.in_ok-sw.ensures.known c.in_ok-sw.ensures.square in
+    let nw = nw_4.1 ∙ c.leaf_cells-nw.ensures.nw in
+    let ne = ne_4.1 ∙ c.leaf_cells-nw.ensures.ne in
+    let sw = sw_4.1 ∙ c.leaf_cells-nw.ensures.sw in
     let se = c.in_ok-se.ensures.square ∙ c.leaf_cells-nw.ensures.se in
-    let j = c.join.ensures in
-    only-join Needs c.join.result keeps_4 adds_4 j.keeps j.refusals j.needed j.unchanged j.adds
-    (λ P p. inl (subst P (λ i. quad (nw i) (ne i) (sw i) (se i)) p))
+    λ i. quad (nw i) (ne i) (sw i) (se i)
+
+pub returns-clause-can_join : goal.returns-clause-can_join
+returns-clause-can_join g c =
+    let nw_2 = still c.in_ok-ne.ensures.keeps c.in_ok-nw.ensures.known c.in_ok-nw.ensures.square in
+    let nw_3 = still c.in_ok-sw.ensures.keeps nw_2.0 nw_2.1 in
+    let nw_4 = still c.in_ok-se.ensures.keeps nw_3.0 nw_3.1 in
+    let ne_3 = still c.in_ok-sw.ensures.keeps c.in_ok-ne.ensures.known c.in_ok-ne.ensures.square in
+    let ne_4 = still c.in_ok-se.ensures.keeps ne_3.0 ne_3.1 in
+    let sw_4 = still c.in_ok-se.ensures.keeps c.in_ok-sw.ensures.known c.in_ok-sw.ensures.square in
+    let nw = ap depth nw_4.1 in
+    record {
+      nw = nw_4.0;
+      ne = ne_4.0;
+      sw = sw_4.0;
+      se = c.in_ok-se.ensures.known;
+      ne_level = ap depth ne_4.1 ∙ sym nw;
+      sw_level = ap depth sw_4.1 ∙ sym nw;
+      se_level = ap depth c.in_ok-se.ensures.square ∙ sym nw;
+      room = omega (arith, nw);
+    }
