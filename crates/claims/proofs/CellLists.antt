@@ -1,9 +1,10 @@
 -- The cells of a pattern that aren't 0 have one list.
-use Rattle.std.proofs.Common.{◌≡◌, ℕ, zero, suc, ◌<◌, List, [], ◌∷◌, length, refl, ◌∙◌, sym, subst, arith, ◌⊎◌, inl, inr}
+use Rattle.std.proofs.Common.{◌≡◌, ℕ, suc, ◌<◌, List, [], ◌∷◌, length, refl, ◌∙◌, sym, subst, arith, ◌⊎◌, inl, inr}
 use Rattle.std.specs.Prelude.{ℤ, Contains, AllPairs, ◌<ℤ◌}
 use Rattle.std.proofs.lemmas.Int.{ints}
 use Rattle.life_base.specs.declared.cell.Cell.{Cell}
 use Rattle.claims.specs.Generation.{AreCells, HasMoreCells}
+use Rattle.life_base.proofs.Members.{in_cases, in_tail, in_head}
 
 abbrev Before : Cell → Cell → Type 0
 Before a b = (a.y <ℤ b.y) ⊎ ((a.y ≡ b.y) × (a.x <ℤ b.x))
@@ -22,30 +23,20 @@ first_before c cells h d (k, l, e) = subst (λ (x : Cell). Before c x) e (h 0 (s
 rest_in_order : (c : Cell) (cells : List Cell) → AllPairs Before (c ∷ cells) → AllPairs Before cells
 rest_in_order c cells h = λ i j d l m. h (suc i) (suc j) d (omega arith) (omega arith)
 
-pub split : (c : Cell) (cells : List Cell) (d : Cell) → Contains (c ∷ cells) d → (c ≡ d) ⊎ Contains cells d
-split c cells d (zero, l, e) = inl e
-split c cells d (suc k, l, e) = inr (k, omega arith, e)
-
-pub here : (c : Cell) (cells : List Cell) → Contains (c ∷ cells) c
-here c cells = (0, omega arith, refl)
-
-pub later : (c : Cell) (cells : List Cell) (d : Cell) → Contains cells d → Contains (c ∷ cells) d
-later c cells d (k, l, e) = (suc k, omega arith, e)
-
 pub one_list : (ones others : List Cell) → AllPairs Before ones → AllPairs Before others → ((d : Cell) → Contains ones d → Contains others d)
     → ((d : Cell) → Contains others d → Contains ones d) → ones ≡ others
 one_list [] [] h l f g = refl
-one_list [] (b ∷ others) h l f g = let k = g b (here b others) in absurd (omega (arith, k.1))
-one_list (a ∷ ones) [] h l f g = let k = f a (here a ones) in absurd (omega (arith, k.1))
+one_list [] (b ∷ others) h l f g = let k = g b (in_head b others) in absurd (omega (arith, k.1))
+one_list (a ∷ ones) [] h l f g = let k = f a (in_head a ones) in absurd (omega (arith, k.1))
 one_list (a ∷ ones) (b ∷ others) h l f g =
-    let e : a ≡ b = by (split b others a (f a (here a ones))) (split a ones b (g b (here b others))) in
+    let e : a ≡ b = by (in_cases b others a (f a (in_head a ones))) (in_cases a ones b (g b (in_head b others))) in
     let rest : ones ≡ others =
     one_list ones others (rest_in_order a ones h) (rest_in_order b others l) (narrow a b ones others e h f) (narrow b a others ones (sym e) l g) in
     λ i. e i ∷ rest i
   where
     narrow : (c d : Cell) (cs ds : List Cell) → c ≡ d → AllPairs Before (c ∷ cs) → ((x : Cell) → Contains (c ∷ cs) x → Contains (d ∷ ds) x)
         → (x : Cell) → Contains cs x → Contains ds x
-    narrow c d cs ds e o t x k = elim (split d ds x (t x (later c cs x k))) [
+    narrow c d cs ds e o t x k = elim (in_cases d ds x (t x (in_tail c cs x k))) [
       | inl s ↦
           let same : Before c c = subst (λ (z : Cell). Before c z) (sym (e ∙ s)) (first_before c cs o x k) in absurd (asymmetric c c same same)
       | inr s ↦ s

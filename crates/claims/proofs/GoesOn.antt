@@ -4,8 +4,8 @@ use Rattle.std.specs.Prelude.{◌==◌, Result, Ok, Err, IsOk, codes}
 use Rattle.std.specs.List.{list_all}
 use Rattle.std.proofs.lemmas.List.{append-nil}
 use Rattle.std.proofs.lemmas.Bool.{and_from, cases_Bool}
-use Rattle.life_base.proofs.Numbers.{first, second}
 use Rattle.life_base.proofs.WholeLines.{lines-joined}
+use Rattle.life_base.proofs.Basics.{right_of_and, left_of_and}
 use Rattle.life_base.specs.Lines.{has_no_feed, joined}
 use Rattle.life_base.specs.Text.{lines_of, onto_first, begins_with}
 use Rattle.life_base.specs.declared.kind.Kind.{Kind}
@@ -46,7 +46,7 @@ no_feeds (b ∷ bytes) = by (b == 10) refl (lines_of bytes) (no_feeds bytes)
 front_no_feeds : (lines : List (List ℕ)) (n : ℕ) → list_all has_no_feed lines ≡ true → list_all has_no_feed (take n lines) ≡ true
 front_no_feeds lines zero h = refl
 front_no_feeds [] (suc n) h = refl
-front_no_feeds (line ∷ lines) (suc n) h = and_from _ _ (first _ _ h) (front_no_feeds lines n (second (has_no_feed line) _ h))
+front_no_feeds (line ∷ lines) (suc n) h = and_from _ _ (left_of_and _ _ h) (front_no_feeds lines n (right_of_and (has_no_feed line) _ h))
 
 -- the lines of a front, and of what comes after it
 front_lines : (bytes more : List ℕ) (n : ℕ) → lines_of (ended (take n (lines_of bytes)) ++ more) ≡ take n (lines_of bytes) ++ lines_of more

@@ -16,6 +16,7 @@ use Rattle.life_mc.specs.Cells.{cell_of, cell as layer_cell}
 use Rattle.life_mc.specs.Reading.{AreMacrocell, broken, broken_after, rule_on, generation_on, square_on, rule_in_force, generation_in_force, squares_of, last_or}
 use Rattle.life_mc.specs.declared.line.Line.{Line}
 use Rattle.life_mc.proofs.Accepted.{lines_are_valid}
+use Rattle.life_mc.proofs.Stands.{last_of}
 use Rattle.claims.specs.Outcomes.{◌>>=◌}
 use Rattle.claims.specs.Rules.{Rule}
 use Rattle.claims.specs.Pattern.{Pattern}
@@ -40,10 +41,6 @@ passed o r e (fails kind) = cc
 failed : {X : Type 0} {P : X → Type 0} (o : Option Kind) (r : Result X Kind) (kind : Kind) → o ≡ Some kind → Fits P o r → r ≡ Err kind
 failed o r kind e (passes x p) = cc
 failed o r kind e (fails other) = ap Err (same_Some other kind e)
-
-last_of : {X : Type 0} (x y : X) (xs : List X) → last_or x (xs ++ y ∷ []) ≡ y
-last_of x y [] = refl
-last_of x y (z ∷ xs) = last_of z y xs
 
 option_on : {X Y : Type 0} (f : Y → Option X) (y : Y) (o : Option X) → f y ≡ o → filter_map f (y ∷ []) ≡ option_to_list o
 option_on f y None e = rw e refl

@@ -1,5 +1,5 @@
 -- The lines of a macrocell file say what they say in the layer below.
-use Rattle.std.proofs.Common.{◌≡◌, ℕ, suc, ◌-◌, ◌^◌, List, [], ◌∷◌, ◌++◌, length, drop, map, Bool, true, false, cond, not, ◌&&◌, ◌||◌, refl, ap, ◌∙◌, sym, arith, inl, inr, true≢false}
+use Rattle.std.proofs.Common.{◌≡◌, ℕ, suc, ◌-◌, ◌^◌, List, [], ◌∷◌, ◌++◌, length, drop, map, Bool, true, false, cond, not, ◌&&◌, ◌||◌, refl, ap, ◌∙◌, sym, arith, inl, inr}
 use Rattle.std.specs.Prelude.{nat_le, nat_lt, codes, Option, Some, None, Result, Ok, Err}
 use Rattle.std.specs.Option.{option_to_list, unwrap_or}
 use Rattle.std.specs.Result.{result_ok, result_err}
@@ -15,7 +15,8 @@ use Rattle.life_base.specs.declared.rule.Rule.{Rule as LayerRule}
 use Rattle.life_mc.specs.Reading.{rule_on, generation_on, square_on, square_of, broken_after, broken_by_node}
 use Rattle.life_mc.specs.declared.line.Line.{Line}
 use Rattle.life_mc.proofs.Stands.{rule_parsed_so, generation_parsed_so}
-use Rattle.life_mc.proofs.Valid.{no_command, hash_not_blank}
+use Rattle.life_mc.proofs.Valid.{no_command}
+use Rattle.life_mc.proofs.Forms.{blank_no_hash}
 use Rattle.claims.specs.Outcomes.{◌>>=◌}
 use Rattle.claims.specs.Rules.{Rule, rule_of}
 use Rattle.claims.specs.Macrocell.{Node, Macrocell, node_of, with_node, is_command, generation_of, with_line}
@@ -36,9 +37,6 @@ some_nodes (node ∷ nodes) = sym (positive (length (levels_of nodes)))
   where
     positive : (n : ℕ) → nat_lt 0 (suc n) ≡ true
     positive n = grind (arith, nat_tests)
-
-no_hash : (line : List ℕ) → is_blank line ≡ true → begins_with line (codes "#") ≡ false
-no_hash line b = elim (cases_Bool (begins_with line (codes "#"))) [ inl h ↦ absurd (true≢false (sym b ∙ hash_not_blank 0 line h)) | inr h ↦ h ]
 
 module _ (rule : LayerRule) (generation : ℕ) (nodes : List Node) (line : List ℕ) where
   -- what the line gives more
@@ -181,7 +179,7 @@ module _ (rule : LayerRule) (generation : ℕ) (nodes : List Node) (line : List 
     | inl b ↦
         let e : broken_here ≡ None = rw b refl in
         let w : with_short ≡ Ok file = rw b refl in
-        moved P e w (passes file (passed_over true b refl (no_command 0 82 line (no_hash line b)) (no_command 0 71 line (no_hash line b))))
+        moved P e w (passes file (passed_over true b refl (no_command 0 82 line (blank_no_hash line b)) (no_command 0 71 line (blank_no_hash line b))))
     | inr b ↦ elim (cases_Bool (begins_with line (codes "#FRAME"))) [
       | inl f ↦
           let e : broken_here ≡ Some kinds.Timeline = rw (b, f) refl in

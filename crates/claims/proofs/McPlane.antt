@@ -4,9 +4,8 @@ use Rattle.std.specs.Prelude.{nat_le, nat_lt, ◌==◌, slice_get, slice_index, 
 use Rattle.std.specs.List.{list_all}
 use Rattle.std.proofs.Math.Nat.{mod-lt, two-pow-succ}
 use Rattle.std.proofs.Math.Pow.{pow_pos}
-use Rattle.std.proofs.lemmas.Int.{ints}
 use Rattle.std.proofs.lemmas.Bool.Decides.{nat_tests}
-use Rattle.life_base.proofs.Numbers.{first, second}
+use Rattle.life_base.proofs.Basics.{in_span, out_of_span, right_of_and, left_of_and}
 use Rattle.life_base.specs.declared.rule.Rule.{Rule as LayerRule}
 use Rattle.life_mc.specs.Macrocell.{AreSquares, IsSquare, is_level, is_quarter}
 use Rattle.life_mc.specs.Macrocell.{level_of as line_level, largest_state as layer_largest}
@@ -36,8 +35,8 @@ bits_in row = map (λ c. slice_index row c == 42) columns
 
 pub all_at : (p : ℕ → Bool) (xs : List ℕ) (i : ℕ) → list_all p xs ≡ true → i < length xs → p (slice_index xs i) ≡ true
 all_at p [] i h l = absurd (omega arith)
-all_at p (x ∷ xs) zero h l = first _ _ h
-all_at p (x ∷ xs) (suc i) h l = all_at p xs i (second (p x) _ h) (omega arith)
+all_at p (x ∷ xs) zero h l = left_of_and _ _ h
+all_at p (x ∷ xs) (suc i) h l = all_at p xs i (right_of_and (p x) _ h) (omega arith)
 
 column_at : (x : ℕ) → x < 8 → slice_index columns x ≡ x
 column_at zero l = refl
@@ -181,12 +180,6 @@ root_at node (next ∷ nodes) = let r = root_at next nodes in (r.0, r.1, r.2)
 length_is : (nodes : List Node) → length (map line_in nodes) ≡ length nodes
 length_is [] = refl
 length_is (node ∷ nodes) = ap suc (length_is nodes)
-
-in_span : (x : ℤ) (h c : ℕ) → x +ℤ pos h ≡ pos c → (int_le (neg_ℤ (pos h)) x && int_lt x (pos h)) ≡ nat_lt c (h + h)
-in_span x h c e = grind (arith, ints, nat_tests)
-
-out_of_span : (x : ℤ) (h c : ℕ) → x +ℤ pos h ≡ negsuc c → (int_le (neg_ℤ (pos h)) x && int_lt x (pos h)) ≡ false
-out_of_span x h c e = grind (arith, ints)
 
 pairs : (a b c d p q : Bool) → (a && b) ≡ p → (c && d) ≡ q → (a && b && c && d) ≡ (p && q)
 pairs true true c d p q e f = f ∙ ap (λ v. v && q) e

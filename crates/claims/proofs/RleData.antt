@@ -14,9 +14,7 @@ use Rattle.claims.specs.Outcomes.{◌>>=◌}
 use Rattle.claims.specs.Rle.{Item, Rle, Lines, after_header, after_end, item_of, with_item, with_texts, texts_of}
 use Rattle.claims.proofs.RlePlane.{file_in, item_answer, with_item_is}
 use Rattle.claims.proofs.RleTexts.{text_of, rest_of, texts_cut, text_begins, Found, spelled, broken, item_found}
-
-no_whitespace : (b : ℕ) (tail : List ℕ) → is_whitespace b ≡ false → is_blank (b ∷ tail) ≡ false
-no_whitespace b tail h = ap (λ v. v && is_blank tail) h
+use Rattle.life_base.proofs.Texts.{not_blank}
 
 no_mark : (b : ℕ) (tail : List ℕ) → (b == 33) ≡ false → bytes_eq (b ∷ tail) (codes "!") ≡ false
 no_mark b tail h = ap (λ v. v && bytes_eq tail []) h
@@ -87,7 +85,7 @@ opened : (file : Rle) (b : ℕ) (u : List ℕ) → is_whitespace b ≡ false →
 opened file b u w m =
     let t = text_begins b u in
     ap (with_texts file) (texts_cut b u)
-    ∙ cases (text_of (b ∷ u)) (ap is_blank t.1 ∙ no_whitespace b t.0 w) (ap (λ (x : List ℕ). bytes_eq x (codes "!")) t.1 ∙ no_mark b t.0 m)
+    ∙ cases (text_of (b ∷ u)) (ap is_blank t.1 ∙ not_blank b t.0 w) (ap (λ (x : List ℕ). bytes_eq x (codes "!")) t.1 ∙ no_mark b t.0 m)
   where
     cases : (text : List ℕ) → is_blank text ≡ false → bytes_eq text (codes "!") ≡ false
         → with_texts file (text ∷ texts_of (rest_of (b ∷ u)))

@@ -8,7 +8,7 @@ use Rattle.std.proofs.lemmas.List.Splits.{slice_split_first, length-slice_split}
 use Rattle.std.proofs.lemmas.List.Sums.{passes_at_first}
 use Rattle.std.proofs.lemmas.Bool.{cases_Bool, false_from_ne_true}
 use Rattle.std.proofs.Math.ListN.{drop_of_length-le}
-use Rattle.life_base.proofs.Numbers.{first, second}
+use Rattle.life_base.proofs.Basics.{right_of_and, left_of_and}
 use Rattle.life_base.specs.Numbers.{u64_of, result_map}
 use Rattle.life_base.specs.Text.{begins_with, is_digit_text, is_empty, value_of, words_of}
 use Rattle.life_base.specs.declared.kind.Kind.{Kind}
@@ -52,7 +52,7 @@ comma_no_digit b h = let e : b ≡ 44 = grind (arith, nat_tests) in ap is_ascii_
 
 not_digits : (text : List ℕ) (i : ℕ) → i < length text → is_comma (slice_index text i) ≡ true → is_digit_text text ≡ false
 not_digits text i l h = false_from_ne_true (is_digit_text text) (λ e.
-    true≢false (sym (all_at is_ascii_digit text i (second (not (is_empty text)) _ e) l) ∙ comma_no_digit (slice_index text i) h))
+    true≢false (sym (all_at is_ascii_digit text i (right_of_and (not (is_empty text)) _ e) l) ∙ comma_no_digit (slice_index text i) h))
 
 minus_no_comma : (b : ℕ) → (b == 45) ≡ true → is_comma b ≡ false
 minus_no_comma b h = let e : b ≡ 45 = grind (arith, nat_tests) in ap is_comma e
@@ -63,7 +63,7 @@ no_number (b ∷ text) i l h = elim (cases_Bool (begins_with (b ∷ text) (codes
   | inl m ↦
       ap (λ v. cond v (cond (is_digit_text text) (Some (neg_ℤ (pos (value_of text)))) None)
       (cond (is_digit_text (b ∷ text)) (Some (pos (value_of (b ∷ text)))) None)) m
-      ∙ ap (λ v. cond v (Some (neg_ℤ (pos (value_of text)))) None) (behind i l h (first (b == 45) true m))
+      ∙ ap (λ v. cond v (Some (neg_ℤ (pos (value_of text)))) None) (behind i l h (left_of_and (b == 45) true m))
   | inr m ↦
       ap (λ v. cond v (cond (is_digit_text text) (Some (neg_ℤ (pos (value_of text)))) None)
       (cond (is_digit_text (b ∷ text)) (Some (pos (value_of (b ∷ text)))) None)) m

@@ -23,9 +23,10 @@ use Rattle.claims.specs.Rle.{Item, run, row_ends}
 use Rattle.claims.specs.Generation.{AreCells}
 use Rattle.claims.specs.Shown.{IsLeastBox, IsBox}
 use Rattle.claims.specs.RleText.{state_text, item_text, gap, after_run, items_of_cells, in_lines, rle_lines, box_lines, IsRleOfPattern}
-use Rattle.claims.proofs.CellLists.{split, here, later}
 use Rattle.claims.proofs.RlePlane.{item_in}
 use Rattle.claims.proofs.RuleLaw.{rule_in}
+use Rattle.life_base.proofs.Basics.{int_le_trans}
+use Rattle.life_base.proofs.Members.{in_cases, in_tail, in_head}
 
 -- ---- the box
 
@@ -41,9 +42,6 @@ min_below a b = (grind (arith, ints), grind (arith, ints))
 max_above : (a b : ℤ) → (a ≤ℤ int_max a b) × (b ≤ℤ int_max a b)
 max_above a b = (grind (arith, ints), grind (arith, ints))
 
-less : (a b c : ℤ) → a ≤ℤ b → b ≤ℤ c → a ≤ℤ c
-less a b c h l = omega (arith, ints, h, l)
-
 same_less : (a b : ℤ) → a ≡ b → a ≤ℤ b
 same_less a b e = omega (arith, ints, e)
 
@@ -51,16 +49,16 @@ same_less a b e = omega (arith, ints, e)
 pub at_side : (of_cell : Cell → ℤ) (of_box : Bounds → ℤ) → ((c : Cell) → of_box (box_of c []) ≡ of_cell c)
     → ((c d : Cell) (cells : List Cell) → (of_box (box_of c (d ∷ cells)) ≡ of_cell c) ⊎ (of_box (box_of c (d ∷ cells)) ≡ of_box (box_of d cells)))
     → (c : Cell) (cells : List Cell) → (e : Cell) × Contains (c ∷ cells) e × (of_cell e ≡ of_box (box_of c cells))
-at_side of_cell of_box one more c [] = (c, here c [], sym (one c))
+at_side of_cell of_box one more c [] = (c, in_head c [], sym (one c))
 at_side of_cell of_box one more c (d ∷ cells) = elim (more c d cells) [
-  | inl e ↦ (c, here c (d ∷ cells), sym e)
-  | inr e ↦ let rest = at_side of_cell of_box one more d cells in (rest.0, later c (d ∷ cells) rest.0 rest.1, rest.2 ∙ sym e)
+  | inl e ↦ (c, in_head c (d ∷ cells), sym e)
+  | inr e ↦ let rest = at_side of_cell of_box one more d cells in (rest.0, in_tail c (d ∷ cells) rest.0 rest.1, rest.2 ∙ sym e)
 ]
 
 -- and each cell of the list is in it
 pub in_box : (c : Cell) (cells : List Cell) (e : Cell) → Contains (c ∷ cells) e
     → ((box_of c cells).left ≤ℤ e.x) × (e.x ≤ℤ (box_of c cells).right) × ((box_of c cells).top ≤ℤ e.y) × (e.y ≤ℤ (box_of c cells).bottom)
-in_box c [] e h = elim (split c [] e h) [
+in_box c [] e h = elim (in_cases c [] e h) [
   | inl same ↦ (
     same_less _ _ (ap (λ (d : Cell). d.x) same),
     same_less _ _ (sym (ap (λ (d : Cell). d.x) same)),
@@ -71,19 +69,19 @@ in_box c [] e h = elim (split c [] e h) [
 ]
 in_box c (d ∷ cells) e h =
     let b = box_of d cells in
-    elim (split c (d ∷ cells) e h) [
+    elim (in_cases c (d ∷ cells) e h) [
       | inl same ↦ (
-        less _ _ _ (min_below c.x b.left).0 (same_less _ _ (ap (λ (d : Cell). d.x) same)),
-        less _ _ _ (same_less _ _ (sym (ap (λ (d : Cell). d.x) same))) (max_above c.x b.right).0,
-        less _ _ _ (min_below c.y b.top).0 (same_less _ _ (ap (λ (d : Cell). d.y) same)),
-        less _ _ _ (same_less _ _ (sym (ap (λ (d : Cell). d.y) same))) (max_above c.y b.bottom).0,
+        int_le_trans _ _ _ (min_below c.x b.left).0 (same_less _ _ (ap (λ (d : Cell). d.x) same)),
+        int_le_trans _ _ _ (same_less _ _ (sym (ap (λ (d : Cell). d.x) same))) (max_above c.x b.right).0,
+        int_le_trans _ _ _ (min_below c.y b.top).0 (same_less _ _ (ap (λ (d : Cell). d.y) same)),
+        int_le_trans _ _ _ (same_less _ _ (sym (ap (λ (d : Cell). d.y) same))) (max_above c.y b.bottom).0,
       )
       | inr h ↦
           let r = in_box d cells e h in (
-            less _ _ _ (min_below c.x b.left).1 r.0,
-            less _ _ _ r.1 (max_above c.x b.right).1,
-            less _ _ _ (min_below c.y b.top).1 r.2,
-            less _ _ _ r.3 (max_above c.y b.bottom).1,
+            int_le_trans _ _ _ (min_below c.x b.left).1 r.0,
+            int_le_trans _ _ _ r.1 (max_above c.x b.right).1,
+            int_le_trans _ _ _ (min_below c.y b.top).1 r.2,
+            int_le_trans _ _ _ r.3 (max_above c.y b.bottom).1,
           )
     ]
 

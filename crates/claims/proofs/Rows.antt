@@ -1,9 +1,7 @@
 -- The definitions at worked examples, by computation.
-use Rattle.std.proofs.Common.{◌≡◌, ℕ, zero, suc, ℤ, ◌+◌, ◌^◌, ◌<◌, List, [], ◌∷◌, ◌++◌, length, map, refl, pos, neg_ℤ, Bool, true, false, cond, arith}
+use Rattle.std.proofs.Common.{◌≡◌, ℕ, zero, suc, ℤ, ◌+◌, ◌^◌, ◌<◌, List, [], ◌∷◌, ◌++◌, length, map, refl, pos, neg_ℤ, Bool, true, false, cond}
 use Rattle.std.specs.Fmt.{digits}
 use Rattle.std.specs.Prelude.{codes, replicate, ◌==◌, Option, Some, None, Result, Ok, Err}
-use Rattle.std.proofs.lemmas.Bool.Decides.{nat_tests}
-use Rattle.life_base.specs.Text.{is_too_long}
 use Rattle.life_base.specs.declared.bounds.Bounds.{Bounds}
 use Rattle.life_base.specs.declared.cell.Cell.{Cell}
 use Rattle.life_base.specs.declared.fault.Fault.{Fault}
@@ -20,6 +18,7 @@ use Rattle.claims.specs.Generation.{next_life}
 use Rattle.claims.specs.Shown.{box_line}
 use Rattle.claims.specs.Canonical.{middle_square, square_text}
 use Rattle.claims.specs.RleText.{box_lines}
+use Rattle.life_base.proofs.Texts.{too_long}
 
 abbrev b3s23 : Rule
 b3s23 = counting 8 (3 ∷ []) (2 ∷ 3 ∷ [])
@@ -316,23 +315,20 @@ nearly_refused = refl
 
 -- ---- lines of more than 2 ^ 20 bytes, and a first line without `[M2]`
 
-long : (line : List ℕ) → 2 ^ 20 < length line → is_too_long line ≡ true
-long line h = grind (arith, nat_tests)
-
 first_too_long : (line : List ℕ) → 2 ^ 20 < length line → first_line line ≡ Err kinds.LineTooLong
-first_too_long line h = rw (long line h) refl
+first_too_long line h = rw (too_long line h) refl
 
 later_too_long : (file : Macrocell) (line : List ℕ) → 2 ^ 20 < length line → with_line file line ≡ Err kinds.LineTooLong
 unfolding with_line
-later_too_long file line h = rw (long line h) refl
+later_too_long file line h = rw (too_long line h) refl
 
 open_too_long : (position : PositionFields) (line : List ℕ) → 2 ^ 20 < length line → with_rle_line (before_header position) line ≡ Err kinds.LineTooLong
 unfolding with_rle_line
-open_too_long position line h = rw (long line h) refl
+open_too_long position line h = rw (too_long line h) refl
 
 data_too_long : (file : Rle) (line : List ℕ) → 2 ^ 20 < length line → with_rle_line (after_header file) line ≡ Err kinds.LineTooLong
 unfolding with_rle_line
-data_too_long file line h = rw (long line h) refl
+data_too_long file line h = rw (too_long line h) refl
 
 ended_is_free : (file : Rle) (line : List ℕ) → with_rle_line (after_end file) line ≡ Ok (after_end file)
 unfolding with_rle_line

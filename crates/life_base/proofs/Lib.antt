@@ -1,4 +1,7 @@
 pub mod Rows
+pub mod Basics
+pub mod Texts
+pub mod Members
 pub mod Numbers
 pub mod Trim
 pub mod LineEnds

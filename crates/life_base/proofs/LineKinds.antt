@@ -4,7 +4,8 @@ use Rattle.std.specs.List.{list_all, AllByRecursion}
 use Rattle.life_base.specs.Refusal.{is_placeless}
 use Rattle.life_base.specs.declared.kind.Kind.{Kind}
 use Rattle.life_base.specs.declared.kind.Kind.TheVariants as kinds
-use Rattle.life_base.proofs.Numbers.{first, second}
+use Rattle.life_base.proofs.Basics.{right_of_and, left_of_and}
+use Rattle.std.proofs.lemmas.Bool.{not-true}
 
 -- the kinds that name no line
 abbrev pub placeless_kinds : List Kind
@@ -18,13 +19,9 @@ is_length_kind kinds.LineTooLong = true
 is_length_kind _ = false
 
 module _ (is_kind : Kind → Bool) where
-  not-one : (v : Bool) → not v ≡ true → v ≡ false
-  not-one true h = cc
-  not-one false h = refl
-
   none-of : (list : List Kind) → list_all (λ kind. not (is_kind kind)) list ≡ true → AllByRecursion (λ kind. is_kind kind ≡ false) list
   none-of [] h = tt
-  none-of (kind ∷ list) h = (not-one (is_kind kind) (first _ _ h), none-of list (second _ _ h))
+  none-of (kind ∷ list) h = (not-true (is_kind kind) (left_of_and _ _ h), none-of list (right_of_and _ _ h))
 
   by-kind : AllByRecursion (λ kind. is_kind kind ≡ false) placeless_kinds → (kind : Kind) → is_kind kind ≡ true → is_placeless kind ≡ false
   by-kind n kinds.Full h = sym h ∙ n.0

@@ -5,10 +5,11 @@ use Rattle.std.specs.List.{list_all, list_any}
 use Rattle.std.proofs.lemmas.Bool.{ltb-false, not-true}
 use Rattle.std.proofs.lemmas.Bool.Decides.{nat_tests}
 use Rattle.std.specs.Char.{to_ascii_uppercase}
-use Rattle.life_base.proofs.Numbers.{first, second}
 use Rattle.life_base.proofs.RoundTrip.{none_passes, visible}
+use Rattle.life_base.proofs.Texts.{start_stays}
+use Rattle.life_base.proofs.Basics.{right_of_and, left_of_and}
 use Rattle.life_base.specs.Sets.{DigitSets}
-use Rattle.life_base.specs.Text.{is_whitespace, without_last, trim, trim_start, is_empty}
+use Rattle.life_base.specs.Text.{is_whitespace, without_last, trim, is_empty}
 use Rattle.life_base.specs.Rules.{life_sets, rule_of, rule_of_trimmed, is_bad_text, life_or_other, four_or_other, four_sets, up_to_four, names_other_neighbours}
 use Rattle.life_base.specs.declared.kind.Kind.TheVariants.{BadRule, BoundedGrid, UnsupportedRule}
 use Rattle.life_base.specs.declared.rule.Rule.TheVariants.{Named}
@@ -16,20 +17,16 @@ use Rattle.life_base.specs.declared.rule.Rule.TheVariants.{Named}
 -- what follows from one test for each byte follows for all of them
 pub all_pass : (p q : ℕ → Bool) → ((b : ℕ) → p b ≡ true → q b ≡ true) → (xs : List ℕ) → list_all p xs ≡ true → list_all q xs ≡ true
 all_pass p q f [] h = refl
-all_pass p q f (b ∷ xs) h = ap (λ v. v && list_all q xs) (f b (first _ _ h)) ∙ all_pass p q f xs (second _ _ h)
+all_pass p q f (b ∷ xs) h = ap (λ v. v && list_all q xs) (f b (left_of_and _ _ h)) ∙ all_pass p q f xs (right_of_and _ _ h)
 
 abbrev pub solid : ℕ → Bool
 solid b = not (is_whitespace b)
-
--- a text whose first byte is no whitespace
-start_stays : (b : ℕ) (text : List ℕ) → is_whitespace b ≡ false → trim_start (b ∷ text) ≡ b ∷ text
-start_stays b text h = ap (λ v. cond v (trim_start text) (b ∷ text)) h
 
 -- a text without whitespace is its own trimmed form
 pub solid_trimmed : (text : List ℕ) → list_all solid text ≡ true → trim text ≡ text
 solid_trimmed [] h = refl
 solid_trimmed (b ∷ text) h =
-    ap (without_last is_whitespace) (start_stays b text (not-true (is_whitespace b) (first _ _ h))) ∙ none_passes is_whitespace (b ∷ text) h
+    ap (without_last is_whitespace) (start_stays b text (not-true (is_whitespace b) (left_of_and _ _ h))) ∙ none_passes is_whitespace (b ∷ text) h
 
 pub visible_solid : (b : ℕ) → visible b ≡ true → solid b ≡ true
 visible_solid b h = grind (arith, nat_tests)

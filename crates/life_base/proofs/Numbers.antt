@@ -1,5 +1,5 @@
 -- Digit texts as the library reads them.
-use Rattle.std.proofs.Common.{◌≡◌, ℕ, zero, suc, ◌<◌, ◌≤◌, ◌^◌, ◌-◌, List, [], ◌∷◌, length, get_or, Bool, true, false, not, cond, ◌&&◌, leb, refl, ap, sym, ◌∙◌, arith, rules}
+use Rattle.std.proofs.Common.{◌≡◌, ℕ, zero, suc, ◌<◌, ◌≤◌, ◌^◌, ◌-◌, List, [], ◌∷◌, length, get_or, Bool, true, false, not, cond, leb, refl, ap, sym, ◌∙◌, arith, rules}
 use Rattle.std.specs.Prelude.{◌==◌, Result, Ok, Err}
 use Rattle.std.specs.List.{list_all}
 use Rattle.std.specs.Char.{is_ascii_digit}
@@ -14,28 +14,21 @@ use Rattle.life_base.specs.Text.{is_empty, is_digit_text, value_of}
 use Rattle.life_base.specs.Numbers.{u64_of, number_up_to}
 use Rattle.life_base.specs.declared.kind.Kind.{Kind}
 use Rattle.life_base.specs.declared.kind.Kind.TheVariants.{BadNumber, TooLarge}
+use Rattle.life_base.proofs.Basics.{right_of_and, left_of_and}
 
 pub own : IsNumeralModel (λ ds. list_all is_ascii_digit ds ≡ true) (digits_value 10)
 own = numerals_by_value _ (search rules)
-
-pub second : (a b : Bool) → (a && b) ≡ true → b ≡ true
-second true b h = h
-second false b h = cc
-
-pub first : (a b : Bool) → (a && b) ≡ true → a ≡ true
-first true b h = refl
-first false b h = cc
 
 low : (d : ℕ) → is_ascii_digit d ≡ true → d < 128
 low d h = grind (arith, nat_tests)
 
 ascii : (ds : List ℕ) → list_all is_ascii_digit ds ≡ true → (i : ℕ) → get_or ds i 0 < 128
 ascii [] h i = omega arith
-ascii (d ∷ ds) h zero = low d (first _ _ h)
-ascii (d ∷ ds) h (suc i) = ascii ds (second _ _ h) i
+ascii (d ∷ ds) h zero = low d (left_of_and _ _ h)
+ascii (d ∷ ds) h (suc i) = ascii ds (right_of_and _ _ h) i
 
 pub digit_text_is_utf8 : (text : List ℕ) → is_digit_text text ≡ true → IsUtf8 text
-digit_text_is_utf8 text h = IsUtf8-from_ascii text (ascii text (second (not (is_empty text)) _ h))
+digit_text_is_utf8 text h = IsUtf8-from_ascii text (ascii text (right_of_and (not (is_empty text)) _ h))
 
 abbrev chosen : List ℕ → Bool → Result ℕ Kind
 chosen text v = cond v (Ok (value_of text)) (Err TooLarge)
@@ -58,8 +51,8 @@ not_less m n h = omega (arith, h)
 pub too_large : {E : Type 0} (text : List ℕ) (r : Result ℕ E) (e : E) → is_digit_text text ≡ true → ParsesUnsigned 64 10 text r → r ≡ Err e
     → Err TooLarge ≡ u64_of text
 too_large text r e h p is =
-    let all : list_all is_ascii_digit text ≡ true = second (not (is_empty text)) _ h in
-    let some : 0 < length text = not_empty text (first _ (list_all is_ascii_digit text) h) in
+    let all : list_all is_ascii_digit text ≡ true = right_of_and (not (is_empty text)) _ h in
+    let some : 0 < length text = not_empty text (left_of_and _ (list_all is_ascii_digit text) h) in
     let n : (0 < length text) × (value_of text < 2 ^ 64) → ⊥ = OkIff-at_err r _ _ e (parse_digits own 64 text r p all) is in
     too_large_lem text h (not_less (value_of text) (2 ^ 64) (λ l. n (some, l)))
 

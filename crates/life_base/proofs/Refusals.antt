@@ -1,10 +1,11 @@
 -- Which line a refused file breaks at, for a grammar that says of each line whether it may stand where it stands.
-use Rattle.std.proofs.Common.{◌≡◌, ℕ, ◌+◌, ◌-◌, ◌^◌, ◌<◌, ◌≤◌, min, List, [], ◌++◌, length, take, get_or, Option, Some, None, refl, ap, sym, ◌∙◌, arith, length-append, ◌⊎◌, inl, inr}
+use Rattle.std.proofs.Common.{◌≡◌, ℕ, ◌+◌, ◌-◌, ◌^◌, ◌<◌, ◌≤◌, min, List, [], ◌++◌, length, take, get_or, Option, Some, None, refl, ap, sym, ◌∙◌, arith, length-append, inl, inr}
 use Rattle.std.proofs.lemmas.List.{take-take, get_or-take, take-append-le, length-take-le}
 use Rattle.std.proofs.Math.ListN.{get_or-append}
 use Rattle.life_base.specs.Refusal.{Prefix, IsPlace, IsRefusal, BreaksBy, kept, continuations}
 use Rattle.life_base.specs.declared.kind.Kind.{Kind}
 use Rattle.life_base.specs.declared.fault.Fault.{Fault}
+use Rattle.life_base.proofs.Basics.{some_same, le_or_lt}
 
 module _ (Grammar : List (List ℕ) → Type 0) where
   no_later : (lines : List (List ℕ)) (n m : ℕ) → IsPlace Grammar lines n → IsPlace Grammar lines m → n < m → ⊥
@@ -18,12 +19,6 @@ one_kind one other e f =
     ap (λ (n : ℕ). record { place = record { line = n }; kind = one.kind }) e
     ∙ ap (λ (kind : Kind). record { place = record { line = other.place.line }; kind = kind }) f
 
-some_same : (a b : Kind) (o : Option Kind) → o ≡ Some a → o ≡ Some b → a ≡ b
-some_same a b o h k = cc
-
-within_or_behind : (n m : ℕ) → (n ≤ m) ⊎ (m < n)
-within_or_behind n m = grind arith
-
 -- each line breaks one kind of rule first
 abbrev pub BreaksOnce : (List (List ℕ) → List ℕ → Kind → Type 0) → Type 0
 BreaksOnce Breaks = (front : List (List ℕ)) (line : List ℕ) (a b : Kind) → Breaks front line a → Breaks front line b → a ≡ b
@@ -35,7 +30,7 @@ module _ (Grammar : List (List ℕ) → Type 0) (Breaks : List (List ℕ) → Li
   one_refusal once lines one other h k =
       let same : h.n ≡ k.n = one_place Grammar lines h.n k.n h.place k.place in
       let lines_same : one.place.line ≡ other.place.line = h.line ∙ ap (λ (n : ℕ). min n (2 ^ 64 - 1)) same ∙ sym k.line in
-      one_kind one other lines_same (elim (within_or_behind h.n (length lines)) [
+      one_kind one other lines_same (elim (le_or_lt h.n (length lines)) [
         | inl within ↦
             let other_at : Breaks (take (h.n - 1) lines) (get_or lines (h.n - 1) []) other.kind = rw same (k.at_line (omega arith)) in
             once _ _ one.kind other.kind (h.at_line within) other_at

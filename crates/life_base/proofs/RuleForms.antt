@@ -1,18 +1,18 @@
 -- What rule texts say, told as what each text is.
-use Rattle.std.proofs.Common.{◌≡◌, ℕ, ◌<◌, ◌≤◌, ◌-◌, List, [], ◌∷◌, ◌++◌, length, take, drop, Bool, true, false, cond, not, ◌&&◌, ◌||◌, refl, ap, sym, subst, ◌∙◌, arith, append_assoc, length-append, ◌⊎◌, inl, inr}
+use Rattle.std.proofs.Common.{◌≡◌, ℕ, ◌<◌, ◌-◌, List, [], ◌∷◌, ◌++◌, length, take, drop, Bool, true, false, cond, not, ◌&&◌, ◌||◌, refl, ap, sym, subst, ◌∙◌, arith, append_assoc, length-append, ◌⊎◌, inl, inr}
 use Rattle.std.specs.Prelude.{◌==◌, ◌↔◌, nat_lt, map, filter, codes, bytes_eq, is_some, Option, Some, None, Ok, Err}
 use Rattle.std.specs.List.{list_all, list_any, onto_first}
-use Rattle.std.proofs.lemmas.Bool.{not-true, and_from}
+use Rattle.std.proofs.lemmas.Bool.{not-true, and_from, or_parts, le-ltb}
 use Rattle.std.proofs.lemmas.Bool.Decides.{nat_tests}
-use Rattle.std.proofs.lemmas.Slice.Eq.{bytes_eq-Decides}
 use Rattle.std.proofs.lemmas.List.{take-append-drop}
 use Rattle.std.proofs.Math.Seq.{take-append_seam, drop-append_seam}
 use Rattle.std.specs.Char.{to_ascii_uppercase}
-use Rattle.life_base.proofs.Numbers.{first, second}
 use Rattle.std.proofs.lemmas.List.Folds.{list_all-append}
 use Rattle.life_base.proofs.NamesRead.{all_pass, solid, visible_solid, good_text, four_none}
 use Rattle.life_base.proofs.RoundTrip.{visible}
 use Rattle.life_base.proofs.RoundTrip.{is_mark, split_at, split_end, no_marks, none_left, no_any}
+use Rattle.life_base.proofs.Texts.{same_bytes, blank_front}
+use Rattle.life_base.proofs.Basics.{right_of_and, left_of_and}
 use Rattle.life_base.specs.Sets.{DigitSets}
 use Rattle.life_base.specs.Text.{is_whitespace, is_empty, trim, trim_start, without_last, IsAround}
 use Rattle.life_base.specs.Rules.{is_count_digit, digit_set, has_digit, digit_groups, marks, sets, life_form, life_sets, four_sets, up_to_four, life_or_other, four_or_other, counting, names_other_neighbours, is_bad_text, rule_of, rule_of_trimmed}
@@ -22,6 +22,7 @@ use Rattle.life_base.specs.declared.rule.Near.{Near}
 use Rattle.life_base.specs.declared.rule.Near.TheVariants.{Moore, VonNeumann}
 use Rattle.life_base.specs.declared.rule.Rule.{Rule}
 use Rattle.life_base.specs.declared.rule.Rule.TheVariants.{Life, Named}
+use mathlib.Core.Bool.{and-false}
 
 -- ---- letters in upper case
 
@@ -70,7 +71,7 @@ are_digits groups = list_all (λ (group : List ℕ). list_all is_count_digit gro
 digits_onto : (b : ℕ) (groups : List (List ℕ)) → is_count_digit b ≡ true → are_digits groups ≡ true → are_digits (onto_first b groups) ≡ true
 digits_onto b [] e h = and_from _ true (and_from _ true e refl) refl
 digits_onto b (group ∷ groups) e h =
-    and_from _ _ (and_from _ _ e (first (list_all is_count_digit group) _ h)) (second (list_all is_count_digit group) _ h)
+    and_from _ _ (and_from _ _ e (left_of_and (list_all is_count_digit group) _ h)) (right_of_and (list_all is_count_digit group) _ h)
 
 digits_step : (v : Bool) (b : ℕ) (groups : List (List ℕ)) → is_count_digit b ≡ v → are_digits groups ≡ true
     → are_digits (cond (not v) ([] ∷ groups) (onto_first b groups)) ≡ true
@@ -82,9 +83,6 @@ groups_digits [] = refl
 groups_digits (b ∷ text) = digits_step (is_count_digit b) b (digit_groups text) refl (groups_digits text)
 
 -- ---- a text with sets is of one of the five forms
-
-same_bytes : (xs ys : List ℕ) → bytes_eq xs ys ≡ true → xs ≡ ys
-same_bytes xs ys h = (bytes_eq-Decides xs ys).0 h
 
 some_is : (x y : DigitSets) → Some x ≡ Some y → x ≡ y
 some_is x y h = cc
@@ -155,17 +153,18 @@ module _ (text : List ℕ) (s : DigitSets) where
   shaped [] ms t d h = cc
   shaped ([] ∷ []) ms t d h = cc
   shaped ((x ∷ a) ∷ []) ms t d h = cc
-  shaped ([] ∷ b ∷ []) ms t d h = plain [] b ms t refl (first (list_all is_count_digit b) true d) h
+  shaped ([] ∷ b ∷ []) ms t d h = plain [] b ms t refl (left_of_and (list_all is_count_digit b) true d) h
   shaped ((x ∷ a) ∷ b ∷ []) ms t d h =
-      let e = second (list_all is_count_digit (x ∷ a)) _ d in
-      plain (x ∷ a) b ms t (first (list_all is_count_digit (x ∷ a)) _ d) (first (list_all is_count_digit b) true e) h
-  shaped ([] ∷ a ∷ [] ∷ []) ms t d h = lettered a [] ms t (first (list_all is_count_digit a) true d) refl h
+      let e = right_of_and (list_all is_count_digit (x ∷ a)) _ d in
+      plain (x ∷ a) b ms t (left_of_and (list_all is_count_digit (x ∷ a)) _ d) (left_of_and (list_all is_count_digit b) true e) h
+  shaped ([] ∷ a ∷ [] ∷ []) ms t d h = lettered a [] ms t (left_of_and (list_all is_count_digit a) true d) refl h
   shaped ([] ∷ a ∷ (x ∷ b) ∷ []) ms t d h =
-      let e = second (list_all is_count_digit a) _ d in
-      lettered a (x ∷ b) ms t (first (list_all is_count_digit a) _ d) (first (list_all is_count_digit (x ∷ b)) true e) h
+      let e = right_of_and (list_all is_count_digit a) _ d in
+      lettered a (x ∷ b) ms t (left_of_and (list_all is_count_digit a) _ d) (left_of_and (list_all is_count_digit (x ∷ b)) true e) h
   shaped ((x ∷ a) ∷ b ∷ c ∷ []) ms t d h = cc
   shaped ([] ∷ a ∷ [] ∷ b ∷ []) ms t d h =
-      let e = second (list_all is_count_digit a) _ d in slashed a b ms t (first (list_all is_count_digit a) _ d) (first (list_all is_count_digit b) true e) h
+      let e = right_of_and (list_all is_count_digit a) _ d in
+      slashed a b ms t (left_of_and (list_all is_count_digit a) _ d) (left_of_and (list_all is_count_digit b) true e) h
   shaped ([] ∷ a ∷ (x ∷ b) ∷ c ∷ []) ms t d h = cc
   shaped ((x ∷ a) ∷ b ∷ c ∷ d' ∷ []) ms t d h = cc
   shaped ([] ∷ a ∷ [] ∷ b ∷ c ∷ groups) ms t d h = cc
@@ -300,13 +299,9 @@ form_no_v text b s d e (inr (inr (inr (inl w)))) = ap (list_all no_v) w
     ∙ pass_two ((codes "S" ++ s) ++ codes "B") b (pass_two (codes "S" ++ s) (codes "B") e refl) d
 form_no_v text b s d e (inr (inr (inr (inr w)))) = ap (list_all no_v) w ∙ pass_two (s ++ codes "/") b (pass_two s (codes "/") e refl) d
 
-and_false : (v : Bool) → (v && false) ≡ false
-and_false true = refl
-and_false false = refl
-
 v_behind : (front : List ℕ) (last : ℕ) → to_ascii_uppercase last ≡ 86 → list_all no_v (map to_ascii_uppercase (front ++ last ∷ [])) ≡ false
 v_behind [] last e = ap (λ c. no_v c && true) e
-v_behind (b ∷ front) last e = ap (λ v. no_v (to_ascii_uppercase b) && v) (v_behind front last e) ∙ and_false (no_v (to_ascii_uppercase b))
+v_behind (b ∷ front) last e = ap (λ v. no_v (to_ascii_uppercase b) && v) (v_behind front last e) ∙ and-false (no_v (to_ascii_uppercase b))
 
 no_form_with_v : (word front : List ℕ) (last : ℕ) → word ≡ front ++ last ∷ [] → to_ascii_uppercase last ≡ 86 → (o : Option DigitSets) → life_sets word ≡ o
     → o ≡ None
@@ -436,11 +431,6 @@ trimmed_around text =
     let k = back_of (trim_start text) in
     record { before = f.front; behind = k.back; is = f.is ∙ ap (λ (t : List ℕ). f.front ++ t) k.is; blank_before = f.blank; blank_behind = k.blank }
 
-skip_front : (front rest : List ℕ) → list_all is_whitespace front ≡ true → trim_start (front ++ rest) ≡ trim_start rest
-skip_front [] rest h = refl
-skip_front (b ∷ front) rest h = ap (λ v. cond v (trim_start (front ++ rest)) (b ∷ (front ++ rest))) (first _ _ h)
-    ∙ skip_front front rest (second (is_whitespace b) _ h)
-
 none_kept : (back : List ℕ) → list_all is_whitespace back ≡ true → without_last is_whitespace back ≡ []
 none_kept [] h = refl
 none_kept (b ∷ back) h = ap (λ v. cond v [] (b ∷ without_last is_whitespace back)) h
@@ -448,17 +438,18 @@ none_kept (b ∷ back) h = ap (λ v. cond v [] (b ∷ without_last is_whitespace
 word_kept : (word back : List ℕ) → list_all solid word ≡ true → list_all is_whitespace back ≡ true → without_last is_whitespace (word ++ back) ≡ word
 word_kept [] back h k = none_kept back k
 word_kept (b ∷ word) back h k =
-    ap (λ v. cond (v && list_all is_whitespace (word ++ back)) [] (b ∷ without_last is_whitespace (word ++ back))) (not-true (is_whitespace b) (first _ _ h))
-    ∙ ap (λ (t : List ℕ). b ∷ t) (word_kept word back (second (solid b) _ h) k)
+    ap (λ v. cond (v && list_all is_whitespace (word ++ back)) [] (b ∷ without_last is_whitespace (word ++ back)))
+    (not-true (is_whitespace b) (left_of_and _ _ h))
+    ∙ ap (λ (t : List ℕ). b ∷ t) (word_kept word back (right_of_and (solid b) _ h) k)
 
 word_starts : (word back : List ℕ) → 0 < length word → list_all solid word ≡ true → trim_start (word ++ back) ≡ word ++ back
 word_starts [] back n h = absurd (omega arith)
-word_starts (b ∷ word) back n h = ap (λ v. cond v (trim_start (word ++ back)) (b ∷ (word ++ back))) (not-true (is_whitespace b) (first _ _ h))
+word_starts (b ∷ word) back n h = ap (λ v. cond v (trim_start (word ++ back)) (b ∷ (word ++ back))) (not-true (is_whitespace b) (left_of_and _ _ h))
 
 pub around_trim : (text word : List ℕ) → IsAround text word → 0 < length word → list_all solid word ≡ true → trim text ≡ word
 around_trim text word a n h =
     ap (without_last is_whitespace)
-    (ap trim_start a.is ∙ skip_front a.before (word ++ a.behind) a.blank_before ∙ word_starts word a.behind n h)
+    (ap trim_start a.is ∙ blank_front a.before (word ++ a.behind) a.blank_before ∙ word_starts word a.behind n h)
     ∙ word_kept word a.behind h a.blank_behind
 
 -- ---- a word
@@ -474,16 +465,9 @@ no_empty : (word : List ℕ) → 0 < length word → is_empty word ≡ false
 no_empty [] h = absurd (omega arith)
 no_empty (b ∷ word) h = refl
 
-below_bound : (n : ℕ) → n ≤ 255 → nat_lt 255 n ≡ false
-below_bound n h = grind (arith, nat_tests)
-
-or_both : (a b : Bool) → (a || b) ≡ false → (a ≡ false) × (b ≡ false)
-or_both true b h = cc
-or_both false b h = (refl, h)
-
 all_others : (test : ℕ → Bool) (xs : List ℕ) → list_any test xs ≡ false → list_all (λ b. not (test b)) xs ≡ true
 all_others test [] h = refl
-all_others test (b ∷ xs) h = let p = or_both (test b) (list_any test xs) h in and_from _ _ (ap not p.0) (all_others test xs p.1)
+all_others test (b ∷ xs) h = let p = or_parts (test b) (list_any test xs) h in and_from _ _ (ap not p.0) (all_others test xs p.1)
 
 rule_word : (word : List ℕ) → is_bad_text word ≡ false → list_any (λ b. b == 58) word ≡ false → IsRuleWord word
 rule_word word h k =
@@ -584,9 +568,9 @@ no_letter word h false e = refl
 no_letter word h true e =
     let front = take (length word - 1) word in
     let end = drop (length word - 1) word in
-    let s = some_of (life_sets front) (first (is_some (life_sets front)) (names_other end) e) in
+    let s = some_of (life_sets front) (left_of_and (is_some (life_sets front)) (names_other end) e) in
     let p = named_end end (bytes_eq (map to_ascii_uppercase end) (codes "V")) (bytes_eq (map to_ascii_uppercase end) (codes "H")) refl refl
-    (second (is_some (life_sets front)) (names_other end) e) in
+    (right_of_and (is_some (life_sets front)) (names_other end) e) in
     let w : word ≡ front ++ p.0 ∷ [] = sym (take-append-drop (length word - 1) word) ∙ ap (λ (t : List ℕ). front ++ t) p.1 in
     absurd (h.no_neighbours front p.0 s.0 w p.2 (life_is_form front s.0 s.1))
 
@@ -615,7 +599,7 @@ is_accepted text rule says =
     let word = says.word in
     let is = says.is_word in
     let good : is_bad_text word ≡ false =
-    made_false (is_empty word) (nat_lt 255 (length word)) (list_all visible word) (no_empty word is.some) (below_bound (length word) is.short) is.visible in
+    made_false (is_empty word) (nat_lt 255 (length word)) (list_all visible word) (no_empty word is.some) (le-ltb 255 (length word) is.short) is.visible in
     ap rule_of_trimmed (around_trim text word says.around is.some (all_pass visible solid visible_solid word is.visible))
     ∙ ap (λ v. cond v (Err BadRule) (cond (list_any (λ b. b == 58) word) (Err BoundedGrid) (life_or_other word (life_sets word)))) good
     ∙ ap (λ v. cond v (Err BoundedGrid) (life_or_other word (life_sets word))) (no_any (λ b. b == 58) word is.unbounded)

@@ -1,17 +1,18 @@
 -- What a rule text says is a rule.
-use Rattle.std.proofs.Common.{◌≡◌, ℕ, ◌<◌, ◌≤◌, ◌+◌, ◌-◌, ◌^◌, ◌&&◌, length, take, List, [], ◌∷◌, Bool, true, false, cond, refl, ap, subst, ◌∙◌, arith}
+use Rattle.std.proofs.Common.{◌≡◌, ℕ, ◌<◌, ◌+◌, ◌-◌, ◌^◌, ◌&&◌, length, take, List, [], ◌∷◌, Bool, true, false, cond, refl, ap, subst, ◌∙◌, arith}
 use Rattle.std.specs.Prelude.{◌==◌, nat_lt, codes, bytes_eq, Option, Some, None, Ok, Err}
 use Rattle.std.specs.List.{list_any}
 use Rattle.life_base.proofs.NamesRead.{rule_text_trimmed}
 use Rattle.life_base.specs.Sets.{DigitSets, OuterTotalistic}
 use Rattle.life_base.specs.Text.{trim}
-use Rattle.life_base.specs.Rules.{rule_of, rule_of_trimmed, is_bad_text, has_digit, digit_set, digit_groups, marks, sets, life_form, life_sets, four_sets, up_to_four, life_or_other, four_or_other, names_other_neighbours, counting, most_neighbours, IsLifeRule, IsRule}
+use Rattle.life_base.specs.Rules.{rule_of, rule_of_trimmed, is_bad_text, has_digit, digit_set, digit_groups, marks, sets, life_form, life_sets, four_sets, up_to_four, life_or_other, four_or_other, names_other_neighbours, counting, most_neighbours, IsLifeRule, IsRule, default_rule}
 use Rattle.life_base.specs.declared.kind.Kind.TheVariants.{BadRule, BoundedGrid, UnsupportedRule, BirthOnZero}
 use Rattle.life_base.specs.declared.rule.Near.{Near}
 use Rattle.life_base.specs.declared.rule.Near.TheVariants.{Moore, VonNeumann}
 use Rattle.life_base.specs.declared.rule.Rule.{Rule}
 use Rattle.life_base.specs.declared.rule.Rule.TheVariants.{Life, Named}
 use Rattle.life_base.proofs.RuleForms.{below_32}
+use Rattle.life_base.proofs.Basics.{cond_le}
 
 -- ---- a name
 
@@ -46,22 +47,18 @@ trimmed_again text h = ap rule_of_trimmed (rule_text_trimmed (trim text) h)
 
 -- ---- the sets of a B/S rule
 
-bit_within : (v : Bool) (n : ℕ) → cond v n 0 ≤ n
-bit_within true n = omega arith
-bit_within false n = omega arith
-
 set_small : (text : List ℕ) → digit_set text < 512
 set_small text = omega (
   arith,
-  bit_within (list_any (λ b. b == 48) text) 1,
-  bit_within (list_any (λ b. b == 49) text) 2,
-  bit_within (list_any (λ b. b == 50) text) 4,
-  bit_within (list_any (λ b. b == 51) text) 8,
-  bit_within (list_any (λ b. b == 52) text) 16,
-  bit_within (list_any (λ b. b == 53) text) 32,
-  bit_within (list_any (λ b. b == 54) text) 64,
-  bit_within (list_any (λ b. b == 55) text) 128,
-  bit_within (list_any (λ b. b == 56) text) 256,
+  cond_le (list_any (λ b. b == 48) text) 1,
+  cond_le (list_any (λ b. b == 49) text) 2,
+  cond_le (list_any (λ b. b == 50) text) 4,
+  cond_le (list_any (λ b. b == 51) text) 8,
+  cond_le (list_any (λ b. b == 52) text) 16,
+  cond_le (list_any (λ b. b == 53) text) 32,
+  cond_le (list_any (λ b. b == 54) text) 64,
+  cond_le (list_any (λ b. b == 55) text) 128,
+  cond_le (list_any (λ b. b == 56) text) 256,
 )
 
 abbrev AreBelow : ℕ → Option DigitSets → Type 0
@@ -160,3 +157,13 @@ rule_values text (Named name) h =
     let p = named_is text name h in
     let P : List ℕ → Type 0 = λ t. rule_of t ≡ Ok (Named name) in
     subst P p.1 (trimmed_again text p.0 ∙ h)
+
+-- ---- values of rules
+
+pub default_is_rule : IsRule default_rule
+default_is_rule = record { births = omega arith; survivals = omega arith; no_birth_on_zero = refl }
+
+-- a set of counts of neighbours is a set of nine digits
+pub set_below_512 : (near : Near) (set : ℕ) → set < 2 ^ (most_neighbours near + 1) → set < 512
+set_below_512 Moore set h = h
+set_below_512 VonNeumann set h = omega (arith, h)

@@ -1,15 +1,15 @@
 -- Lines of bytes that go on.
-use Rattle.std.proofs.Common.{◌≡◌, ℕ, List, [], ◌∷◌, ◌++◌, Bool, true, false, cond, not, ◌&&◌, refl, ap, sym, subst, ◌∙◌, append_assoc, arith}
+use Rattle.std.proofs.Common.{◌≡◌, ℕ, List, [], ◌∷◌, ◌++◌, Bool, true, false, cond, not, refl, ap, sym, subst, ◌∙◌, append_assoc, arith}
 use Rattle.std.specs.Prelude.{◌==◌}
 use Rattle.std.specs.List.{list_all}
 use Rattle.std.proofs.lemmas.List.{append-nil}
 use Rattle.std.proofs.lemmas.List.Folds.{list_all-append}
-use Rattle.std.proofs.lemmas.Bool.{not-true, and_from}
+use Rattle.std.proofs.lemmas.Bool.{not-true, and_from, and_right}
 use Rattle.std.proofs.lemmas.Bool.Decides.{nat_tests}
-use Rattle.life_base.proofs.Numbers.{first, second}
 use Rattle.life_base.specs.Text.{lines_of, onto_first}
 use Rattle.life_base.specs.Lines.{has_no_feed, onto_next, whole_lines, rest_line, one_line, IsContinued, IsLonger, IsEnded, joined, AreJoined, AreOnlyJoined}
 use Rattle.life_base.proofs.LineEnds.{onto_alone}
+use Rattle.life_base.proofs.Basics.{right_of_and, left_of_and}
 
 -- ---- one line
 
@@ -17,13 +17,13 @@ use Rattle.life_base.proofs.LineEnds.{onto_alone}
 whole_step : (b : ℕ) (bytes : List ℕ) → not (b == 10) ≡ true → whole_lines (b ∷ bytes) ≡ onto_next b (whole_lines bytes)
 whole_step b bytes h = ap (λ v. cond v ([] ∷ whole_lines bytes) (onto_next b (whole_lines bytes))) (not-true (b == 10) h)
 
-lines_step : (b : ℕ) (bytes : List ℕ) → not (b == 10) ≡ true → lines_of (b ∷ bytes) ≡ onto_first b (lines_of bytes)
+pub lines_step : (b : ℕ) (bytes : List ℕ) → not (b == 10) ≡ true → lines_of (b ∷ bytes) ≡ onto_first b (lines_of bytes)
 lines_step b bytes h = ap (λ v. cond v ([] ∷ lines_of bytes) (onto_first b (lines_of bytes))) (not-true (b == 10) h)
 
 -- without a line feed no line has ended, and all are the rest
 pub none_whole : (bytes : List ℕ) → has_no_feed bytes ≡ true → whole_lines bytes ≡ []
 none_whole [] h = refl
-none_whole (b ∷ bytes) h = whole_step b bytes (first _ _ h) ∙ ap (onto_next b) (none_whole bytes (second _ _ h))
+none_whole (b ∷ bytes) h = whole_step b bytes (left_of_and _ _ h) ∙ ap (onto_next b) (none_whole bytes (right_of_and _ _ h))
 
 pub all_rest : (bytes : List ℕ) → has_no_feed bytes ≡ true → rest_line bytes ≡ bytes
 all_rest [] h = refl
@@ -31,24 +31,20 @@ all_rest (b ∷ bytes) h = ap (λ v. cond v (b ∷ bytes) (rest_line bytes)) h
 
 lone_line : (bytes : List ℕ) → has_no_feed bytes ≡ true → lines_of bytes ≡ one_line bytes
 lone_line [] h = refl
-lone_line (b ∷ bytes) h = lines_step b bytes (first _ _ h) ∙ ap (onto_first b) (lone_line bytes (second _ _ h)) ∙ onto_alone b bytes
+lone_line (b ∷ bytes) h = lines_step b bytes (left_of_and _ _ h) ∙ ap (onto_first b) (lone_line bytes (right_of_and _ _ h)) ∙ onto_alone b bytes
 
 -- up to its line feed it is the first line
 first_whole : (line more : List ℕ) → has_no_feed line ≡ true → whole_lines (line ++ 10 ∷ more) ≡ line ∷ whole_lines more
 first_whole [] more h = refl
-first_whole (b ∷ line) more h = whole_step b (line ++ 10 ∷ more) (first _ _ h) ∙ ap (onto_next b) (first_whole line more (second _ _ h))
+first_whole (b ∷ line) more h = whole_step b (line ++ 10 ∷ more) (left_of_and _ _ h) ∙ ap (onto_next b) (first_whole line more (right_of_and _ _ h))
 
-first_of_lines : (line more : List ℕ) → has_no_feed line ≡ true → lines_of (line ++ 10 ∷ more) ≡ line ∷ lines_of more
+pub first_of_lines : (line more : List ℕ) → has_no_feed line ≡ true → lines_of (line ++ 10 ∷ more) ≡ line ∷ lines_of more
 first_of_lines [] more h = refl
-first_of_lines (b ∷ line) more h = lines_step b (line ++ 10 ∷ more) (first _ _ h) ∙ ap (onto_first b) (first_of_lines line more (second _ _ h))
-
-falls : (a b : Bool) → b ≡ false → (a && b) ≡ false
-falls true b h = h
-falls false b h = refl
+first_of_lines (b ∷ line) more h = lines_step b (line ++ 10 ∷ more) (left_of_and _ _ h) ∙ ap (onto_first b) (first_of_lines line more (right_of_and _ _ h))
 
 has_feed : (bytes more : List ℕ) → has_no_feed (bytes ++ 10 ∷ more) ≡ false
 has_feed [] more = refl
-has_feed (b ∷ bytes) more = falls (not (b == 10)) (has_no_feed (bytes ++ 10 ∷ more)) (has_feed bytes more)
+has_feed (b ∷ bytes) more = and_right (not (b == 10)) (has_no_feed (bytes ++ 10 ∷ more)) (has_feed bytes more)
 
 -- the rest is behind each line feed
 rest_behind : (bytes more : List ℕ) → rest_line (bytes ++ 10 ∷ more) ≡ rest_line more
@@ -64,14 +60,14 @@ over line lines more = append_assoc line (10 ∷ joined lines) more
 pub whole-joined : (lines : List (List ℕ)) (more : List ℕ) → list_all has_no_feed lines ≡ true → whole_lines (joined lines ++ more) ≡ lines ++ whole_lines more
 whole-joined [] more h = refl
 whole-joined (line ∷ lines) more h =
-    ap whole_lines (over line lines more) ∙ first_whole line (joined lines ++ more) (first _ _ h)
-    ∙ ap (λ (ls : List (List ℕ)). line ∷ ls) (whole-joined lines more (second (has_no_feed line) _ h))
+    ap whole_lines (over line lines more) ∙ first_whole line (joined lines ++ more) (left_of_and _ _ h)
+    ∙ ap (λ (ls : List (List ℕ)). line ∷ ls) (whole-joined lines more (right_of_and (has_no_feed line) _ h))
 
 pub lines-joined : (lines : List (List ℕ)) (more : List ℕ) → list_all has_no_feed lines ≡ true → lines_of (joined lines ++ more) ≡ lines ++ lines_of more
 lines-joined [] more h = refl
 lines-joined (line ∷ lines) more h =
-    ap lines_of (over line lines more) ∙ first_of_lines line (joined lines ++ more) (first _ _ h)
-    ∙ ap (λ (ls : List (List ℕ)). line ∷ ls) (lines-joined lines more (second (has_no_feed line) _ h))
+    ap lines_of (over line lines more) ∙ first_of_lines line (joined lines ++ more) (left_of_and _ _ h)
+    ∙ ap (λ (ls : List (List ℕ)). line ∷ ls) (lines-joined lines more (right_of_and (has_no_feed line) _ h))
 
 pub rest-joined : (lines : List (List ℕ)) (more : List ℕ) → rest_line (joined lines ++ more) ≡ rest_line more
 rest-joined [] more = refl
@@ -123,7 +119,8 @@ one_more b bytes e (line ∷ lines) rest are = record {
   rest = rest;
   are = record {
     is = ap (λ (bs : List ℕ). b ∷ bs) are.is;
-    whole = and_from (has_no_feed (b ∷ line)) _ (and_from _ _ (ap not e) (first (has_no_feed line) _ are.whole)) (second (has_no_feed line) _ are.whole);
+    whole = and_from (has_no_feed (b ∷ line)) _ (and_from _ _ (ap not e) (left_of_and (has_no_feed line) _ are.whole))
+        (right_of_and (has_no_feed line) _ are.whole);
     behind = are.behind;
   };
 }

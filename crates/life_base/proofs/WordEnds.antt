@@ -7,6 +7,7 @@ use Rattle.std.proofs.lemmas.List.Sums.{position_or_len_is}
 use Rattle.std.proofs.lemmas.List.{take_all, drop_all, take-append-drop, length-append}
 use Rattle.std.proofs.lemmas.Bool.{ltb-false}
 use Rattle.life_base.specs.Text.{is_empty, is_whitespace, is_blank, trim_start, words_of, onto_first, with_word}
+use Rattle.life_base.proofs.Basics.{false_from_none}
 
 skip : (v : Bool) (b : ℕ) (text : List ℕ) → is_whitespace b ≡ v → words_of (trim_start text) ≡ words_of text
     → words_of (cond v (trim_start text) (b ∷ text)) ≡ words_of (b ∷ text)
@@ -61,9 +62,6 @@ starts : (text : List ℕ) → Starts (trim_start text)
 starts [] = tt
 starts (b ∷ text) = starts_by (is_whitespace b) b text refl (starts text)
 
-some_front : (i b : ℕ) (text : List ℕ) (words : List (List ℕ)) → take (suc i) (b ∷ text) ∷ words ≡ with_word (take (suc i) (b ∷ text)) words
-some_front i b text words = refl
-
 words_cut : (text : List ℕ) → Starts text → words_of text ≡ with_word (take (ends text) text) (words_of (drop (ends text) text))
 words_cut [] s = refl
 words_cut (b ∷ text) s =
@@ -85,15 +83,11 @@ words_at text i h =
     let p = position-Some is_whitespace t i 0 h in
     words_in text i (position_or_len_is is_whitespace t i 0 (omega (arith, p.0)) p.2 (λ _. p.1))
 
-none : (v : Bool) (i : ℕ) → cond v (Some i) None ≡ None → v ≡ false
-none true i h = cc
-none false i h = refl
-
 -- there is one word at most
 pub words_without : (text : List ℕ) → position is_whitespace (trim_start text) ≡ None → words_of text ≡ with_word (trim_start text) []
 words_without text h =
     let t = trim_start text in
-    let l : length t ≤ ends t = ltb-false _ _ (none (ltb (ends t) (length t)) _ h) in
+    let l : length t ≤ ends t = ltb-false _ _ (false_from_none (ltb (ends t) (length t)) _ h) in
     let a : take (ends t) t ≡ t = take_all (ends t) t l in
     let b : drop (ends t) t ≡ [] = drop_all (ends t) t l in
     sym (trimmed_words text) ∙ words_cut t (starts text) ∙ ap (λ (x : List ℕ). with_word x (words_of (drop (ends t) t))) a

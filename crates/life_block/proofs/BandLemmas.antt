@@ -13,7 +13,8 @@ use Rattle.life_lanes.specs.Places.{place_in}
 use Rattle.life_lanes.proofs.WordLemmas.{bit-mod, bit-shr, shl-high}
 use Rattle.life_block.specs.Bits.{RowWords, counted_in, HasSquare, HasBand}
 use Rattle.life_block.specs.Pieces.{ahead}
-use Rattle.life_block.proofs.CountLemmas.{four, eight}
+use Rattle.life_block.proofs.CountLemmas.{four}
+use Rattle.life_sweep.proofs.LawLemmas.{eight}
 use Rattle.life_block.proofs.SquareLemmas.{place-small}
 
 pub HasBand-moved : (cells : ℤ → ℤ → ℕ) (x y z : ℤ) (word : ℕ) → y ≡ z → HasBand cells x y word → HasBand cells x z word
@@ -22,7 +23,7 @@ HasBand-moved cells x y z word e h r i lr li = h r i lr li ∙ ap (λ u. cells (
 -- ---- four squares side by side
 
 -- the bits of a word behind another one
-behind : (low high n m i : ℕ) → low < 2 ^ n → i ≡ n + m → bit_at (high * 2 ^ n + low) i ≡ bit_at high m
+pub behind : (low high n m i : ℕ) → low < 2 ^ n → i ≡ n + m → bit_at (high * 2 ^ n + low) i ≡ bit_at high m
 behind low high n m i small is =
     let back : i - n ≡ m = omega arith in
     bit_at_cat_high high n low i small (omega arith) ∙ ap (bit_at high) back

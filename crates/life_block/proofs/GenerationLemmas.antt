@@ -19,7 +19,7 @@ use Rattle.life_block.proofs.RootLemmas.{cell-outside}
 pub same-state : (a b : ℕ) → Becomes a ≡ Becomes b → a ≡ b
 same-state a b e = cc
 
-one-state : (a line : ℕ) → Ambiguous line ≡ Becomes a → ⊥
+pub one-state : (a line : ℕ) → Ambiguous line ≡ Becomes a → ⊥
 one-state a line e = cc
 
 below-two : (n : ℕ) → n < 2 → 2 ≤ n → ⊥

@@ -5,6 +5,7 @@ use Rattle.std.proofs.lemmas.Int.{ints, by_lt_z}
 use Rattle.std.proofs.Math.Pow.{pow_pos}
 use Rattle.life_base.specs.Tree.{Tree, point, quad, depth, blank, half_side, tree_cell, IsFull}
 use Rattle.life_base.proofs.Squares.{Inside, is_inside, inside_facts, inside_test, cell_outside, depth-blank}
+use Rattle.life_base.proofs.Basics.{double, halves}
 use Rattle.life_quad.specs.Keeping.{KeepsSquares}
 use Rattle.life_quad.specs.Memory.{Recalls}
 use Rattle.life_quad.specs.declared.id.Id.{Id}
@@ -13,7 +14,7 @@ use Rattle.life_quad.proofs.KeepingLemmas.{keeps-then}
 use Rattle.life_sweep.specs.Generation.{before, after, states_at, zeros}
 use Rattle.life_table.specs.Meaning.{Answer, Becomes}
 use Rattle.life_block.specs.declared.grid.Three.{Three}
-use Rattle.life_block.specs.Laws.{IsPieceBy, IsNextAt, IsNextOfNine, IsAnswerBy, RemembersBy}
+use Rattle.life_block.specs.Laws.{IsPieceBy, IsNextAt, IsAnswerBy, RemembersBy}
 use Rattle.life_block.specs.Needed.{HasClearEdge}
 use Rattle.life_block.specs.Pieces.{Nine, IsPiece, IsAt, InThree, InNine, AreThree, AreNine, back, ahead}
 use Rattle.life_block.specs.Remembered.{ids_of}
@@ -32,20 +33,6 @@ of-some P (Err y) e h = absurd (cc)
 pub both-some : {T : Type 0} {P Q R : T → Type 0} (o : Option T) → ((x : T) → P x → Q x → R x) → IfSome o P → IfSome o Q → IfSome o R
 both-some (Some x) f p q = f x p q
 both-some None f p q = tt
-
-pub both-ok : {T E : Type 0} {P Q R : T → Type 0} (r : Result T E) → ((x : T) → P x → Q x → R x) → IfOk r P → IfOk r Q → IfOk r R
-both-ok (Ok x) f p q = f x p q
-both-ok (Err x) f p q = tt
-
-double : (n : ℕ) → 2 ^ suc n ≡ 2 ^ n + 2 ^ n
-double n = grind arith
-
--- twice the half of a side
-halves : (k : ℕ) → 1 ≤ k → 2 ^ (k - 1) + 2 ^ (k - 1) ≡ 2 ^ k
-halves zero h = absurd (omega (arith, h))
-halves (suc k) h =
-    let e : suc k - 1 ≡ k = omega arith in
-    (λ j. 2 ^ e j + 2 ^ e j) ∙ sym (double k)
 
 -- ---- pieces
 
@@ -307,15 +294,3 @@ module _ {knows : Id → Type 0} {content : Id → Tree} {answers : List ℕ →
         by other q (inr e) =
             subst (λ n. IsAnswerBy knows content knows_next next answers bound n q) (sym e.0)
             (subst (λ a. IsAnswerBy knows content knows_next next answers bound nine a) (sym e.1) here)
-
-    -- what is recalled for nine squares of a level
-    module _ {memory : List Slot} {nine : Nine} {answer : Id} {k : ℕ} (h : RemembersBy knows content knows_next next answers bound memory)
-        (recalls : Recalls memory (ids_of nine) answer) (known : InNine (IsAt knows content k) nine) where
-      level : (h.answers_by nine answer recalls).level ≡ k
-      level = sym (h.answers_by nine answer recalls).known.here.here.level ∙ known.here.here.level
-
-      pub recalled-at_by : IsAt knows_next next k answer
-      recalled-at_by = subst (λ l. IsAt knows_next next l answer) level (h.answers_by nine answer recalls).at
-
-      pub recalled-next_by : IsNextOfNine answers bound content k nine (next answer)
-      recalled-next_by = subst (λ l. IsNextOfNine answers bound content l nine (next answer)) level (h.answers_by nine answer recalls).right

@@ -1,9 +1,5 @@
 -- The next generation of a pattern by a law: it isn't refused, and its parts are squares of the plane.
-use Rattle.std.proofs.Common.{◌≡◌, ℕ, ◌<◌, ◌≤◌, false, inr, List, ℤ, Option, Some, None, IfSome, Result, Err, refl, ◌∙◌, ap, subst, arith}
-use Rattle.life_base.specs.Refusal.{fault_of}
-use Rattle.life_base.specs.declared.fault.Fault.{Fault}
-use Rattle.life_base.specs.declared.kind.Kind.{Kind}
-use Rattle.life_base.specs.declared.kind.Kind.TheVariants.{Full}
+use Rattle.std.proofs.Common.{◌≡◌, ℕ, ◌<◌, ◌≤◌, false, inr, List, ℤ, Option, Some, None, IfSome, refl, ◌∙◌, subst, arith}
 use Rattle.life_base.specs.Tree.{Tree, point, quad, depth, tree_cell, IsFull}
 use Rattle.life_base.specs.declared.cell.TheConstants.{MAX_LEVEL}
 use Rattle.life_quad.specs.Cells.{population}
@@ -13,10 +9,10 @@ use Rattle.life_quad.specs.declared.turning.Turn.{Turn}
 use Rattle.life_strip.specs.Given.{IsOnPlane}
 use Rattle.life_sweep.specs.Refused.{GenerationRefusal, HasStateFrom, SomeAmbiguous, SomeNext, of_plane}
 use Rattle.life_sweep.specs.Sweep.{IsLeft}
-use Rattle.life_table.specs.Meaning.{Answer, Becomes, Ambiguous}
+use Rattle.life_table.specs.Meaning.{Answer}
 use Rattle.life_block.specs.Laws.{IsNextAt}
 use Rattle.life_block.specs.Needed.{square_from}
-use Rattle.life_block.proofs.GenerationLemmas.{on-plane, same-state}
+use Rattle.life_block.proofs.GenerationLemmas.{on-plane, same-state, one-state}
 use Rattle.life_block.proofs.LawPieceLemmas.{cell-small}
 use Rattle.life_block.proofs.NeedLemmas.{piece-is}
 use Rattle.life_block.proofs.PlaneLemmas.{whole-part}
@@ -38,14 +34,6 @@ of-option P is h = subst (λ o. IfSome o P) is h
 pub of-equals : {A B : Type 0} (P : A → B → Type 0) {a c : A} {b d : B} → a ≡ c → b ≡ d → P a b → P c d
 of-equals P {c = c} {b = b} e f h = subst (P c) f (subst (λ a. P a b) e h)
 
--- the fault that names no line has its kind
-pub kind-of-full : {T U : Type 0} (kind : Kind) → ◌≡◌ {A = Result T Fault} (Err (fault_of kind)) (Err (fault_of Full))
-    → ◌≡◌ {A = Result U Kind} (Err kind) (Err Full)
-kind-of-full kind e = let same : fault_of kind ≡ fault_of Full = cc in ap (λ (f : Fault). Err f.kind) same
-
-not-both : (state line : ℕ) → Ambiguous line ≡ Becomes state → ⊥
-not-both state line e = cc
-
 module _ (answers : List ℕ → Answer → Type 0) (bound : ℕ) (t r : Tree) (full : IsFull r) (whole : depth r ≡ MAX_LEVEL)
     (next : (x y : ℤ) → IsNextAt answers bound (tree_cell t) x y (tree_cell r x y)) where
   outside : (x y : ℤ) → ¬ (IsOnPlane x y 1) → tree_cell r x y ≡ 0
@@ -66,7 +54,7 @@ module _ (answers : List ℕ → Answer → Type 0) (bound : ℕ) (t r : Tree) (
           omega (arith, below, above)
 
       ambiguous : ¬ (SomeAmbiguous answers (tree_cell t))
-      ambiguous h = not-both (tree_cell r h.0 h.1) h.2 (one _ _ _ h.3 (next h.0 h.1).answer)
+      ambiguous h = one-state (tree_cell r h.0 h.1) h.2 (one _ _ _ h.3 (next h.0 h.1).answer)
 
       left : ¬ (IsLeft answers (tree_cell t))
       left h = h.nonzero (same-state h.next (tree_cell r h.x h.y) (one _ _ _ h.answer (next h.x h.y).answer) ∙ outside h.x h.y h.outside)

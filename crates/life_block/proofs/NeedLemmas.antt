@@ -1,5 +1,5 @@
 -- The squares that a call stores, and those that a refused call lacked, are parts of the square with the states of the plane.
-use Rattle.std.proofs.Common.{◌≡◌, ◌⊎◌, ℕ, zero, suc, ◌+◌, ◌^◌, inl, inr, ℤ, List, refl, sym, ◌∙◌, ap, subst, arith, add-one, Result, Ok, Err, OnErr}
+use Rattle.std.proofs.Common.{◌≡◌, ◌⊎◌, ℕ, zero, suc, ◌+◌, ◌^◌, inl, inr, ℤ, List, refl, sym, ◌∙◌, ap, subst, arith, add-one}
 use Rattle.life_base.specs.Tree.{Tree, point, quad, depth, IsFull}
 use Rattle.life_base.specs.Sets.{OuterTotalistic}
 use Rattle.life_quad.specs.Keeping.{KeepsSquares}
@@ -12,9 +12,7 @@ use Rattle.life_block.specs.Pieces.{IsPiece, IsAt, Nine, Sixteen, InSixteen, Are
 use Rattle.life_block.specs.declared.grid.Three.{Three}
 use Rattle.life_block.specs.declared.grid.Four.{Four}
 use Rattle.life_block.proofs.PieceLemmas.{IsPiece-moved, IsPiece-joined, AreSixteen-kept, first-of_four, last-of_four, western-nine, eastern-nine}
-
-pub quads : (a b c d s t u v : Tree) → a ≡ s → b ≡ t → c ≡ u → d ≡ v → quad a b c d ≡ quad s t u v
-quads a b c d s t u v ea eb ec ed = λ i. quad (ea i) (eb i) (ec i) (ed i)
+use Rattle.life_base.proofs.Squares.{same_quads}
 
 -- a piece is the square of its level
 pub piece-is : (f : ℤ → ℤ → ℕ) (k : ℕ) (x y : ℤ) (t : Tree) → IsFull t → depth t ≡ k → IsPiece f x y t → t ≡ square_from f k x y
@@ -27,7 +25,7 @@ piece-is f (suc k) x y (quad a b c d) full level h =
     let side : 2 ^ depth a ≡ 2 ^ k = ap (λ n. 2 ^ n) one in
     let ex : ahead x (2 ^ depth a) ≡ ahead x (2 ^ k) = ap (ahead x) side in
     let ey : ahead y (2 ^ depth a) ≡ ahead y (2 ^ k) = ap (ahead y) side in
-    quads a b c d _ _ _ _
+    same_quads
     (piece-is f k x y a full.0 one h.0)
     (piece-is f k (ahead x (2 ^ k)) y b full.1 (full.4 ∙ one) (IsPiece-moved f _ _ y y b ex refl h.1))
     (piece-is f k x (ahead y (2 ^ k)) c full.2 (full.5 ∙ one) (IsPiece-moved f x x _ _ c refl ey h.2))
@@ -60,7 +58,7 @@ pub record AreParts (f : ℤ → ℤ → ℕ) (k : ℕ) (x y : ℤ) (a b c d : T
 
 pub joined-is : {f : ℤ → ℤ → ℕ} {k : ℕ} {x y : ℤ} {a b c d : Tree} → AreParts f k x y a b c d → quad a b c d ≡ square_from f (suc k) x y
 unfolding square_from
-joined-is p = quads _ _ _ _ _ _ _ _ p.nw p.ne p.sw p.se
+joined-is p = same_quads p.nw p.ne p.sw p.se
 
 -- one of four squares of a level has such a part
 abbrev pub SomeOfFour : (Tree → Type 0) → (ℤ → ℤ → ℕ) → ℕ → ℕ → ℤ → ℤ → Type 0
@@ -147,8 +145,3 @@ of_quarters P rule content j {nine = nine} level pieces some =
 -- in a store that stayed as it was
 pub still-needs : {X : Type 0} (N : X → Tree → Type 0) (old new : X) (t : Tree) → new ≡ old → N old t → N new t
 still-needs N old new t e = subst (λ s. N s t) (sym e)
-
--- what follows from a refusal
-pub on_err_map : {T E P Q : Type 0} (r : Result T E) → (P → Q) → OnErr r P → OnErr r Q
-on_err_map (Ok x) f p = tt
-on_err_map (Err e) f p = f p

@@ -104,12 +104,12 @@ module _ {S : Type 0} {knows : S → Id → Type 0} {content : S → Id → Tree
 pub record IsZero (cells : ℤ → ℤ → ℕ) (west north east south : ℤ) : Type 0 where
   pub zero_at : (x y : ℤ) → west ≤ℤ x → x <ℤ east → north ≤ℤ y → y <ℤ south → cells x y ≡ 0
 
-IsZero-beside : (cells : ℤ → ℤ → ℕ) (west middle north east south : ℤ) → IsZero cells west north middle south → IsZero cells middle north east south
+pub IsZero-beside : (cells : ℤ → ℤ → ℕ) (west middle north east south : ℤ) → IsZero cells west north middle south → IsZero cells middle north east south
     → IsZero cells west north east south
 IsZero-beside cells west middle north east south p q =
     record { zero_at = λ x y w e n s. by_lt_z x middle (λ l. p.zero_at x y w l n s) (λ l. q.zero_at x y l e n s) }
 
-IsZero-below : (cells : ℤ → ℤ → ℕ) (west north middle east south : ℤ) → IsZero cells west north east middle → IsZero cells west middle east south
+pub IsZero-below : (cells : ℤ → ℤ → ℕ) (west north middle east south : ℤ) → IsZero cells west north east middle → IsZero cells west middle east south
     → IsZero cells west north east south
 IsZero-below cells west north middle east south p q =
     record { zero_at = λ x y w e n s. by_lt_z y middle (λ l. p.zero_at x y w e n l) (λ l. q.zero_at x y w e l s) }

@@ -23,7 +23,7 @@ each_row = refl
 pub rows-place : (r q i : ℕ) → r < 4 → q < 4 → i < 4 → row_from (63 - (16 * r + 4 * q + i)) ≡ 63 - (16 * q + place_in r i)
 unfolding rows_test
 rows-place r q i lr lq li =
-    equal _ _
+    eqb-true _ _
     (all_below_at 4 (rows_test r q) i
     (all_below_at 4 (λ q. all_below 4 (rows_test r q)) q (all_below_at 4 (λ r. all_below 4 (λ q. all_below 4 (rows_test r q))) r each_row lr) lq) li)
 
@@ -37,7 +37,7 @@ each_square = refl
 pub squares-place : (r q i : ℕ) → r < 4 → q < 4 → i < 4 → square_from_row (63 - (16 * q + place_in r i)) ≡ 63 - (16 * r + 4 * q + i)
 unfolding squares_test
 squares-place r q i lr lq li =
-    equal _ _
+    eqb-true _ _
     (all_below_at 4 (squares_test r q) i
     (all_below_at 4 (λ q. all_below 4 (squares_test r q)) q
     (all_below_at 4 (λ r. all_below 4 (λ q. all_below 4 (squares_test r q))) r each_square lr) lq) li)

@@ -16,8 +16,9 @@ use Rattle.life_block.specs.Pieces.{ahead}
 use Rattle.life_block.proofs.GenerationLemmas.{on-plane}
 use Rattle.life_block.proofs.NeedLemmas.{depth-square, square-piece}
 use Rattle.life_block.proofs.RootLemmas.{cells-of_piece, next-outside}
+use Rattle.life_base.proofs.Basics.{double}
 
-full-square : (f : ℤ → ℤ → ℕ) → ((x y : ℤ) → f x y < 256) → (k : ℕ) (x y : ℤ) → IsFull (square_from f k x y)
+pub full-square : (f : ℤ → ℤ → ℕ) → ((x y : ℤ) → f x y < 256) → (k : ℕ) (x y : ℤ) → IsFull (square_from f k x y)
 unfolding square_from
 full-square f small zero x y = small x y
 full-square f small (suc k) x y =
@@ -40,9 +41,6 @@ last c m = omega arith
 
 less : (c m : ℕ) → (c + c + 1) * m ≤ (c + c + 1 + 1) * m
 less c m = omega arith
-
-double : (k : ℕ) → 2 ^ suc k ≡ 2 ^ k + 2 ^ k
-double k = grind arith
 
 module _ (P : Tree → Type 0) (f : ℤ → ℤ → ℕ) (small : (x y : ℤ) → f x y < 256) where
   own-square : (k column row : ℕ) → (column + 1) * 2 ^ suc k ≤ 2 ^ MAX_LEVEL → (row + 1) * 2 ^ suc k ≤ 2 ^ MAX_LEVEL

@@ -1,12 +1,13 @@
 -- A square about the middle of the plane, its pieces, and the four corners of the square one level higher.
-use Rattle.std.proofs.Common.{◌≡◌, ◌≢◌, ◌⊎◌, inl, inr, ℕ, zero, suc, ◌+◌, ◌-◌, ◌^◌, ◌<◌, ◌≤◌, Bool, true, false, true≢false, ℤ, pos, neg_ℤ, ◌+ℤ◌, ◌≤ℤ◌, ◌<ℤ◌, List, refl, sym, ◌∙◌, ap, subst, arith, add-one}
+use Rattle.std.proofs.Common.{◌≡◌, ◌≢◌, ◌⊎◌, inl, inr, ℕ, suc, ◌+◌, ◌-◌, ◌^◌, ◌<◌, ◌≤◌, Bool, true, false, true≢false, ℤ, pos, neg_ℤ, ◌+ℤ◌, ◌≤ℤ◌, ◌<ℤ◌, List, refl, sym, ◌∙◌, ap, subst, arith, add-one}
 use Rattle.std.proofs.lemmas.Int.{ints}
-use Rattle.std.proofs.lemmas.Bool.{cases_lt}
+use Rattle.std.proofs.lemmas.Bool.{cases_lt, cases_eq}
 use Rattle.std.proofs.Math.Pow.{pow_pos}
 use Rattle.life_base.specs.Rules.{has_digit}
 use Rattle.life_base.specs.Sets.{OuterTotalistic}
 use Rattle.life_base.specs.Tree.{Tree, point, quad, depth, blank, state_at, half_side, tree_cell, IsFull}
-use Rattle.life_base.proofs.Squares.{at_nw, at_ne, at_sw, at_se, Inside, is_inside, inside_facts, inside_test, inside_offset, cell_inside, cell_outside}
+use Rattle.life_base.proofs.Squares.{Inside, is_inside, inside_facts, inside_test, inside_offset, cell_inside, cell_outside, state_nw, state_ne, state_sw, state_se}
+use Rattle.life_base.proofs.Basics.{double, halves}
 use Rattle.life_quad.specs.Keeping.{KeepsSquares}
 use Rattle.life_quad.specs.Refused.{SomePart}
 use Rattle.life_quad.specs.declared.id.Id.{Id}
@@ -18,42 +19,6 @@ use Rattle.life_block.specs.Needed.{HasClearEdge, square_from}
 use Rattle.life_block.specs.Pieces.{Sixteen, IsPiece, IsAt, InFour, InSixteen, AreFour, AreSixteen, back, ahead, four_of, at_corner, in_middle}
 use Rattle.life_block.proofs.NeedLemmas.{SomeOfFour, quarter-part}
 use Rattle.life_block.proofs.PieceLemmas.{twice, IsPiece-moved, AreFour-moved, IsAt-kept, IsPiece-kept, blank-of_zero, next-zero}
-
-zero-or-not : (n : ℕ) → (n ≡ 0) ⊎ (n ≢ 0)
-zero-or-not n = grind arith
-
-double : (n : ℕ) → 2 ^ suc n ≡ 2 ^ n + 2 ^ n
-double n = grind arith
-
--- the state of a place in each quarter
-module _ (a b c d : Tree) (full : IsFull (quad a b c d)) where
-  state_nw : (i j : ℕ) → i < 2 ^ depth a → j < 2 ^ depth a → state_at (quad a b c d) i j ≡ state_at a i j
-  state_nw i j li lj = at_nw a b c d i j (grind arith) (grind arith)
-
-  state_ne : (i m j : ℕ) → i ≡ 2 ^ depth a + m → j < 2 ^ depth b → state_at (quad a b c d) i j ≡ state_at b m j
-  state_ne i m j e lj =
-      let s = ap (λ k. 2 ^ k) full.4 in
-      let less : i - 2 ^ depth a ≡ m = omega arith in
-      at_ne a b c d i j (grind arith) (grind arith) ∙ ap (λ z. state_at b z j) less
-
-  state_sw : (i j n : ℕ) → j ≡ 2 ^ depth a + n → i < 2 ^ depth c → state_at (quad a b c d) i j ≡ state_at c i n
-  state_sw i j n e li =
-      let s = ap (λ k. 2 ^ k) full.5 in
-      let less : j - 2 ^ depth a ≡ n = omega arith in
-      at_sw a b c d i j (grind arith) (grind arith) ∙ ap (λ z. state_at c i z) less
-
-  state_se : (i m j n : ℕ) → i ≡ 2 ^ depth a + m → j ≡ 2 ^ depth a + n → state_at (quad a b c d) i j ≡ state_at d m n
-  state_se i m j n e f =
-      let less_i : i - 2 ^ depth a ≡ m = omega arith in
-      let less_j : j - 2 ^ depth a ≡ n = omega arith in
-      at_se a b c d i j (grind arith) (grind arith) ∙ (λ z. state_at d (less_i z) (less_j z))
-
--- twice the half of a side
-side : (k : ℕ) → 1 ≤ k → 2 ^ (k - 1) + 2 ^ (k - 1) ≡ 2 ^ k
-side zero h = absurd (omega arith)
-side (suc k) h =
-    let e : suc k - 1 ≡ k = omega arith in
-    (λ j. 2 ^ e j + 2 ^ e j) ∙ sym (double k)
 
 -- ---- a square is a piece exactly if its cells have the states of the plane
 
@@ -124,7 +89,7 @@ pub piece-of_root : (t : Tree) → IsFull t → 1 ≤ depth t → IsPiece (tree_
 piece-of_root t full high =
     piece-of_cells (tree_cell t) t (corner t) (corner t) full
     (λ i j li lj.
-    let twice = side (depth t) high in
+    let twice = halves (depth t) high in
     let x = corner t +ℤ pos i in
     let y = corner t +ℤ pos j in
     let inside : Inside (half_side t) x y = record {
@@ -144,12 +109,12 @@ cell-outside t x y apart = by (is_inside (half_side t) x y) refl
     by false e = cell_outside t x y e
 
 -- the whole of a plane is in a square that is a piece of it, where all is 0 outside
-cells-of_root : (cells : ℤ → ℤ → ℕ) (r : Tree) (start : ℤ) → IsFull r → 1 ≤ depth r → start ≡ corner r → IsPiece cells start start r
+pub cells-of_root : (cells : ℤ → ℤ → ℕ) (r : Tree) (start : ℤ) → IsFull r → 1 ≤ depth r → start ≡ corner r → IsPiece cells start start r
     → ((x y : ℤ) → (Inside (half_side r) x y → ⊥) → cells x y ≡ 0) → (x y : ℤ) → tree_cell r x y ≡ cells x y
 cells-of_root cells r start full high from piece outside x y = by (is_inside (half_side r) x y) refl
   where
     whole : half_side r + half_side r ≡ 2 ^ depth r
-    whole = side (depth r) high
+    whole = halves (depth r) high
 
     by : (b : Bool) → is_inside (half_side r) x y ≡ b → tree_cell r x y ≡ cells x y
     by true e =
@@ -178,24 +143,24 @@ root-next rule t r quiet high full level piece =
     same : depth r - 1 ≡ depth t
     same = omega arith
 
-    halves : half_side r ≡ half_side t + half_side t
-    halves = ap (λ n. 2 ^ n) same ∙ sym (side (depth t) high)
+    sides : half_side r ≡ half_side t + half_side t
+    sides = ap (λ n. 2 ^ n) same ∙ sym (halves (depth t) high)
 
     some : 0 < half_side t
     some = pow_pos (depth t - 1)
 
     outside : (x y : ℤ) → (Inside (half_side r) x y → ⊥) → next_life rule (tree_cell t) x y ≡ 0
     outside x y apart = next-zero rule (tree_cell t) x y quiet (λ u v a b c d. cell-outside t u v (λ i. apart (record {
-      west = omega (arith, ints, halves, some, i.west, b);
-      east = omega (arith, ints, halves, some, i.east, a);
-      north = omega (arith, ints, halves, some, i.north, d);
-      south = omega (arith, ints, halves, some, i.south, c);
+      west = omega (arith, ints, sides, some, i.west, b);
+      east = omega (arith, ints, sides, some, i.east, a);
+      north = omega (arith, ints, sides, some, i.north, d);
+      south = omega (arith, ints, sides, some, i.south, c);
     })))
 
 -- outside a square whose edge is clear the next states are 0
 pub next-outside : (rule : OuterTotalistic) (t : Tree) → has_digit rule.sets.births 0 ≡ false → HasClearEdge t → (x y : ℤ)
     → (Inside (half_side t) x y → ⊥) → next_life rule (tree_cell t) x y ≡ 0
-next-outside rule t quiet clear x y apart = next-zero rule (tree_cell t) x y quiet (λ u v a b c d. by u v a b c d (zero-or-not (tree_cell t u v)))
+next-outside rule t quiet clear x y apart = next-zero rule (tree_cell t) x y quiet (λ u v a b c d. by u v a b c d (cases_eq (tree_cell t u v) 0))
   where
     by : (u v : ℤ) → before x ≤ℤ u → u ≤ℤ after x → before y ≤ℤ v → v ≤ℤ after y → (tree_cell t u v ≡ 0) ⊎ (tree_cell t u v ≢ 0) → tree_cell t u v ≡ 0
     by u v a b c d (inl e) = e

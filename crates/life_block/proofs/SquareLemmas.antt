@@ -8,7 +8,7 @@ use Rattle.life_lanes.specs.Places.{place_in}
 use Rattle.life_block.specs.Bits.{HasSquare}
 use Rattle.life_block.specs.Needed.{square_from}
 use Rattle.life_block.specs.Pieces.{IsPiece}
-use Rattle.life_block.proofs.NeedLemmas.{quads}
+use Rattle.life_base.proofs.Squares.{same_quads}
 
 pub place-small : (r i : ℕ) → r < 4 → i < 4 → place_in r i < 16
 place-small r i lr li = omega (arith, lr, li)
@@ -49,7 +49,7 @@ module _ (f : ℤ → ℤ → ℕ) (x y : ℤ) (n : ℕ) (small : n < 65536) whe
       → m % 2 ≡ bit_at n (15 - place_in (r + 1) (i + 1)) → two m ≡ square_from f 1 s t
   unfolding square_from
   quarter m h r i lr li es et nw ne sw se =
-      quads _ _ _ _ _ _ _ _
+      same_quads
       (cell-of h r i (omega (arith, lr)) (omega (arith, li)) nw es et)
       (cell-of h r (i + 1) (omega (arith, lr)) (omega (arith, li)) ne (omega (arith, ints, es)) et)
       (cell-of h (r + 1) i (omega (arith, lr)) (omega (arith, li)) sw es (omega (arith, ints, et)))
@@ -58,7 +58,7 @@ module _ (f : ℤ → ℤ → ℕ) (x y : ℤ) (n : ℕ) (small : n < 65536) whe
   pub square-is : HasSquare f x y n → four n ≡ square_from f 2 x y
   unfolding square_from
   square-is h =
-      quads _ _ _ _ _ _ _ _
+      same_quads
       (quarter _ h 0 0 (omega arith) (omega arith) (omega (arith, ints)) (omega (arith, ints)) (omega (arith, small)) (omega arith) (omega arith) (omega arith))
       (quarter _ h 0 2 (omega arith) (omega arith) (omega (arith, ints)) (omega (arith, ints)) (omega arith) (omega arith) (omega arith) (omega arith))
       (quarter _ h 2 0 (omega arith) (omega arith) (omega (arith, ints)) (omega (arith, ints)) (omega arith) (omega arith) (omega arith) (omega arith))

@@ -25,12 +25,13 @@ use Rattle.life_canon.specs.Listing.{canonical_file, canon_text}
 use Rattle.life_canon.specs.Store.{content, Keeps, IsRead, IsWant, RefusesIn, universe_in}
 use Rattle.life_canon.specs.Texts.{IsCanonical, AreCellsOf, HasMoreCells, IsRleOf}
 use Rattle.life_canon.specs.declared.pattern.Pattern.{Pattern}
-use Rattle.life_canon.proofs.Canonical.{same-whole, same-canonical, same-sym, same-trans}
+use Rattle.life_canon.proofs.Canonical.{same-whole, same-canonical}
 use Rattle.life_canon.proofs.CellFacts.{cells-of, sorted-cells, listed-cells}
 use Rattle.life_canon.proofs.Fits.{read-fits, read-same, root-high}
 use Rattle.life_canon.proofs.Formats.{files_say_one, reads-plane}
 use Rattle.life_canon.proofs.TreeWords.{below_top}
 use Rattle.life_canon.proofs.TextLaws as laws
+use Rattle.life_canon.proofs.Sameness.{same-sym, same-trans}
 
 -- ---- one store after another
 

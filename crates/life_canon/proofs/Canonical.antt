@@ -18,12 +18,13 @@ use Rattle.life_canon.specs.Universe.{Universe, IsSame, macrocell_universe, leas
 use Rattle.life_canon.specs.Listing.{is_small, walk, is_in, with_all, listed, place, number_of, line_of, lines_for, square_file, canonical_file}
 use Rattle.life_canon.proofs.TreeWords.{HasDepth, point_depth, quad_depth, StatesBelow, is_within, trimmed_to}
 use Rattle.life_canon.proofs.LineWords.{state_bound, line_at, IsValidLine}
-use Rattle.life_canon.proofs.LineFacts.{less_one, squares-valid, valid-squares, root_level-last}
-use Rattle.life_canon.proofs.Trees.{bool_cases, true_false, and_left, and_right, and_both, depth_is, is_within-true, is_within-is, centred-depth, trimmed-centred, square-same, square-blank, centred_same-cells, is_blank-blank, centred-trimmed}
+use Rattle.life_canon.proofs.LineFacts.{squares-valid, valid-squares, root_level-last}
+use Rattle.life_canon.proofs.Trees.{bool_cases, and_both, depth_is, is_within-true, is_within-is, centred-depth, trimmed-centred, square-same, square-blank, centred_same-cells, is_blank-blank, centred-trimmed}
 use Rattle.life_canon.proofs.ListFacts.{place-last, with_new-fresh, with_all-from}
 use Rattle.life_canon.proofs.Walk.{listed-itself, listed-quarters, walk-level, walk-small, with_walk}
 use Rattle.life_canon.proofs.Content.{tree_of-number, lines_for-valid, least-one, length-lines_for, level-line_of, number-place, not_small, point-big}
 use Rattle.life_canon.proofs.Planes.{full-depth, states-below, trimmed-is, centred-tree_cell, tree_cell-outside, below-upto}
+use Rattle.life_base.proofs.Basics.{right_of_and, left_of_and, less_one, true_false}
 
 -- ---- a square stands last in its list
 
@@ -180,8 +181,8 @@ canonical-valid top u le h =
 -- two planes with one square in the middle, and blank outside
 pub same-cells : (f g : ℤ → ℤ → ℕ) (k : ℕ) → centred f k ≡ centred g k → IsBlankOutside k f → IsBlankOutside k g → (x y : ℤ) → f x y ≡ g x y
 same-cells f g k e p q x y = elim (bool_cases (is_within k x && is_within k y)) [
-  | inl i ↦ centred_same-cells f g k e x y (is_within-true k x (and_left (is_within k x) (is_within k y) i))
-      (is_within-true k y (and_right (is_within k x) (is_within k y) i))
+  | inl i ↦ centred_same-cells f g k e x y (is_within-true k x (left_of_and (is_within k x) (is_within k y) i))
+      (is_within-true k y (right_of_and (is_within k x) (is_within k y) i))
   | inr i ↦
       let n : ¬ (IsWithin k x × IsWithin k y) = λ w. true_false _ (and_both _ _ (is_within-is k x w.0) (is_within-is k y w.1)) i in
       p x y n ∙ sym (q x y n)
@@ -292,12 +293,6 @@ unfolding canonical_file
 same-canonical top u v s =
     let w = same-whole top u v s in
     λ i. square_file (s.rule i) (s.generation i) (w i)
-
-pub same-sym : (u v : Universe) → IsSame u v → IsSame v u
-same-sym u v s = record { rule = sym s.rule; generation = sym s.generation; cells = λ x y. sym (s.cells x y) }
-
-pub same-trans : (u v w : Universe) → IsSame u v → IsSame v w → IsSame u w
-same-trans u v w s t = record { rule = s.rule ∙ t.rule; generation = s.generation ∙ t.generation; cells = λ x y. s.cells x y ∙ t.cells x y }
 
 -- a wider plane gives the same canonical file
 pub canonical-wider : (n top : ℕ) (u : Universe) → least_level u.rule ≤ suc top → IsOnPlane (suc top) u

@@ -17,7 +17,8 @@ use Rattle.life_rle.specs.States.{is_state_of}
 use Rattle.life_canon.specs.Texts.{AreCellsOf}
 use Rattle.life_canon.specs.Universe.{Universe, corner, IsWithin, IsBlankOutside, IsOnPlane}
 use Rattle.life_canon.proofs.TreeWords.{is_within}
-use Rattle.life_canon.proofs.Trees.{and_both, and_left, and_right, bool_cases, true_false, is_within-true, is_within-is, pow_suc}
+use Rattle.life_canon.proofs.Trees.{and_both, bool_cases, is_within-true, is_within-is}
+use Rattle.life_base.proofs.Basics.{right_of_and, left_of_and, double, true_false}
 
 -- the list of a square's cells is that of a function with the same cells
 pub cells-of : (f : ℤ → ℤ → ℕ) (t : Tree) (cells : List Cell) → ((x y : ℤ) → f x y ≡ tree_cell t x y) → IsCellList t cells → AreCellsOf f cells
@@ -60,7 +61,7 @@ coordinate : (top : ℕ) (x : ℤ) → IsWithin (suc top) x → is_coordinate (s
 unfolding corner
 coordinate top x h =
     let one : suc top - 1 ≡ top = omega arith in
-    rw one (coordinate-of (2 ^ top) x h.0 (subst (λ n. x <ℤ (neg_ℤ (pos (2 ^ top)) +ℤ pos n)) (pow_suc top) h.1))
+    rw one (coordinate-of (2 ^ top) x h.0 (subst (λ n. x <ℤ (neg_ℤ (pos (2 ^ top)) +ℤ pos n)) (double top) h.1))
 
 state-of : (rule : Rule) (state : ℕ) → state ≢ 0 → state ≤ largest_state rule → (nat_lt 0 state && is_state_of rule state) ≡ true
 state-of (Life sets) state some h = grind (arith, nat_tests)
@@ -89,7 +90,7 @@ pair-cases f (c ∷ cells) true_cells x y = by (bool_cases (int_eq y c.y && int_
     behind b (k, lt, e) = (suc k, omega arith, e)
 
     at : (int_eq y c.y && int_eq x c.x) ≡ true → (y ≡ c.y) × (x ≡ c.x)
-    at h = (same y c.y (and_left (int_eq y c.y) (int_eq x c.x) h), same x c.x (and_right (int_eq y c.y) (int_eq x c.x) h))
+    at h = (same y c.y (left_of_and (int_eq y c.y) (int_eq x c.x) h), same x c.x (right_of_and (int_eq y c.y) (int_eq x c.x) h))
       where
         same : (m n : ℤ) → int_eq m n ≡ true → m ≡ n
         same m n e = grind (arith, ints)

@@ -1,5 +1,5 @@
 -- The first line feed of a piece, and the bytes before and behind it.
-use Rattle.std.proofs.Common.{◌≡◌, ℕ, zero, suc, ◌+◌, ◌<◌, ◌≤◌, Bool, true, false, cond, not, ◌&&◌, List, [], ◌∷◌, ◌++◌, length, take, drop, get_or, refl, ap, sym, ◌∙◌, arith, ltb, Option, Some, None, append_assoc, drop-cons}
+use Rattle.std.proofs.Common.{◌≡◌, ℕ, zero, suc, ◌+◌, ◌<◌, ◌≤◌, Bool, true, false, not, ◌&&◌, List, [], ◌∷◌, ◌++◌, length, take, drop, get_or, refl, ap, sym, ◌∙◌, arith, ltb, Option, Some, None, append_assoc, drop-cons}
 use Rattle.std.specs.Prelude.{◌==◌, position}
 use Rattle.std.specs.List.{position_or_len}
 use Rattle.std.proofs.lemmas.Bool.{ltb-false}
@@ -7,14 +7,13 @@ use Rattle.std.proofs.lemmas.Bool.Decides.{nat_tests}
 use Rattle.std.proofs.lemmas.List.{take-append-drop}
 use Rattle.std.proofs.lemmas.List.Quantifiers.{position-Some}
 use Rattle.life_base.specs.Lines.{has_no_feed}
+use Rattle.life_base.proofs.LineEnds.{further}
+use Rattle.life_base.proofs.Basics.{false_from_none}
 
 abbrev is_feed : ℕ → Bool
 is_feed b = b == 10
 
 -- ---- no line feed
-
-further : (b : ℕ) (bytes : List ℕ) → is_feed b ≡ false → position_or_len is_feed (b ∷ bytes) ≡ suc (position_or_len is_feed bytes)
-further b bytes e = ap (λ v. cond (not v) (1 + position_or_len is_feed bytes) 0) e ∙ omega arith
 
 none-step : (v : Bool) (b : ℕ) (bytes : List ℕ) → is_feed b ≡ v → (length bytes ≤ position_or_len is_feed bytes → has_no_feed bytes ≡ true)
     → length (b ∷ bytes) ≤ position_or_len is_feed (b ∷ bytes) → has_no_feed (b ∷ bytes) ≡ true
@@ -28,12 +27,8 @@ none-behind : (bytes : List ℕ) → length bytes ≤ position_or_len is_feed by
 none-behind [] h = refl
 none-behind (b ∷ bytes) h = none-step (is_feed b) b bytes refl (none-behind bytes) h
 
-no-place : (v : Bool) (i : ℕ) → cond v (Some i) None ≡ None → v ≡ false
-no-place true i h = cc
-no-place false i h = refl
-
 pub no-feed : (bytes : List ℕ) → position is_feed bytes ≡ None → has_no_feed bytes ≡ true
-no-feed bytes h = none-behind bytes (ltb-false _ _ (no-place (ltb (position_or_len is_feed bytes) (length bytes)) _ h))
+no-feed bytes h = none-behind bytes (ltb-false _ _ (false_from_none (ltb (position_or_len is_feed bytes) (length bytes)) _ h))
 
 -- ---- the first line feed
 

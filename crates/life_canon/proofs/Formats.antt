@@ -26,15 +26,17 @@ use Rattle.life_base.specs.declared.cell.Run.{Run}
 use Rattle.life_rle.proofs.RunsLaws.{runs_are_cells, blank_outside}
 use Rattle.life_rle.proofs.Unique.{IsRle-unique}
 use Rattle.life_rle.proofs.ValidFiles.{files_are_valid as rles_are_valid}
+use Rattle.life_rle.proofs.FrontLaws.{first_of}
 use Rattle.life_canon.specs.Universe.{Universe, macrocell_universe, rle_universe, corner, IsBlankOutside, IsOnPlane}
 use Rattle.life_canon.specs.Files.{Says, as_macrocell, as_rle, Reads, is_macrocell}
 use Rattle.life_canon.specs.Laws.{FormatsDiffer, FilesAreUnique}
 use Rattle.life_canon.proofs.LineWords.{state_bound}
 use Rattle.life_canon.proofs.Canonical.{rooted, root-most, no-lines}
-use Rattle.life_canon.proofs.Least.{reach, sum_back}
+use Rattle.life_canon.proofs.Least.{sum_back}
 use Rattle.life_canon.proofs.Planes.{tree_cell-below, states-below, upto-below}
 use Rattle.life_mc.proofs.Squares.{lines_stand_for_squares}
-use Rattle.life_canon.proofs.Trees.{true_false, outside-by, pow_suc}
+use Rattle.life_canon.proofs.Trees.{outside-by}
+use Rattle.life_base.proofs.Basics.{le_or_lt, double, true_false}
 
 -- ---- the two formats differ by their first line
 
@@ -51,9 +53,6 @@ unfolding broken
 macrocell-first top [] file a = absurd (omega (arith, a.header))
 macrocell-first top (line ∷ lines) file a =
     none_if (begins_with line (codes "[M2]")) NoHeader (passes (is_too_long line) LineTooLong _ (a.unbroken 0 (omega arith))).1
-
-first_of : (b : ℕ) (rest : List ℕ) → begins_with (b ∷ rest) (codes "[M2]") ≡ true → b ≡ 91
-first_of b rest h = grind (arith, nat_tests)
 
 not_ok : {X E : Type 0} (b : Bool) (e f : E) (x : X) → cond b (Err e) (Err f) ≡ Ok x → ⊥
 not_ok true e f x h = cc
@@ -140,7 +139,7 @@ rle-outside top lines file r x y n =
     let h : ¬ (((neg_ℤ (pos (2 ^ top)) ≤ℤ x) × (x <ℤ (neg_ℤ (pos (2 ^ top)) +ℤ pos (2 ^ top + 2 ^ top))))
     × ((neg_ℤ (pos (2 ^ top)) ≤ℤ y) × (y <ℤ (neg_ℤ (pos (2 ^ top)) +ℤ pos (2 ^ top + 2 ^ top))))) =
     subst (λ v. ¬ (((neg_ℤ (pos (2 ^ top)) ≤ℤ x) × (x <ℤ (neg_ℤ (pos (2 ^ top)) +ℤ pos v)))
-    × ((neg_ℤ (pos (2 ^ top)) ≤ℤ y) × (y <ℤ (neg_ℤ (pos (2 ^ top)) +ℤ pos v))))) (pow_suc top) n in
+    × ((neg_ℤ (pos (2 ^ top)) ≤ℤ y) × (y <ℤ (neg_ℤ (pos (2 ^ top)) +ℤ pos v))))) (double top) n in
     let o = outside-of (2 ^ top) x y h in
     let one : top ≡ suc top - 1 = omega arith in
     blank_outside (suc top) lines file x y r
@@ -160,7 +159,7 @@ rle-on_plane top lines file r =
 
 -- every state of a file's root is below the bound, and so is every cell
 macrocell-on_plane : (top : ℕ) (file : Macrocell) → 3 ≤ suc top → IsValid (suc top) file → IsOnPlane (suc top) (macrocell_universe file)
-macrocell-on_plane top file high v = elim (reach 1 (length file.lines)) [
+macrocell-on_plane top file high v = elim (le_or_lt 1 (length file.lines)) [
   | inl l ↦
       let r = rooted (suc top) file v l in
       let most = root-most (suc top) file high v l in

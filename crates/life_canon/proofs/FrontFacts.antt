@@ -7,6 +7,9 @@ use Rattle.std.proofs.lemmas.List.{append-nil, take-append-le, length-append}
 use Rattle.std.proofs.Math.Seq.{take-append_seam, get_or-append_seam}
 use Rattle.life_base.specs.Lines.{has_no_feed, whole_lines, rest_line, one_line}
 use Rattle.life_base.proofs.WholeLines.{lines_are_whole, lines_continue, lines_longer, lines_ended}
+use Rattle.life_base.proofs.Texts.{too_long}
+use Rattle.life_base.proofs.LineEnds.{alone_of_some}
+use Rattle.life_base.proofs.Basics.{le_or_lt, true_false}
 use Rattle.life_base.specs.Refusal.{Prefix, fault_at, fault_of, is_placeless}
 use Rattle.life_base.specs.Text.{lines_of, is_too_long}
 use Rattle.life_base.specs.declared.cell.TheConstants.{MAX_LEVEL}
@@ -34,7 +37,7 @@ use Rattle.life_canon.specs.declared.progress.Progress.{Progress}
 use Rattle.life_canon.specs.declared.progress.Progress.TheVariants as progress
 use Rattle.life_canon.proofs.FeedFacts.{no-feed}
 use Rattle.life_canon.proofs.Formats.{macrocell-first}
-use Rattle.life_canon.proofs.Unions.{macrocell-front, rle-front, no_lines, taken-front, not-both, line-refused, line-refused-n, end-refused}
+use Rattle.life_canon.proofs.Unions.{macrocell-front, rle-front, no_lines, taken-front, line-refused, line-refused-n, end-refused}
 
 -- ---- the lines that were taken
 
@@ -166,13 +169,6 @@ line-refuses bytes kept end ended p fault o g h b rest =
       told = inl (omega (arith, n, ap length (whole-at bytes kept end rest ended (taken p) g h), length-append (taken p) ((kept ++ end) ∷ whole_lines rest)));
     }
 
-one-some : (bytes : List ℕ) → 0 < length bytes → one_line bytes ≡ bytes ∷ []
-one-some [] h = absurd (omega arith)
-one-some (b ∷ bytes) h = refl
-
-pub is-long : (line : List ℕ) → 2 ^ 20 < length line → is_too_long line ≡ true
-is-long line h = grind (arith, nat_tests)
-
 -- a rest is refused that is too long
 pub rest-refuses : (bytes kept more : List ℕ) (ended : ℕ) (p : Progress) (fault : Fault) → IsOpen p → (IsOver p → ⊥) → IsGoing bytes kept ended (taken p)
     → has_no_feed more ≡ true
@@ -184,12 +180,12 @@ rest-refuses bytes kept more ended p fault o n g h l f =
     lines_are_whole (bytes ++ more)
     ∙ ap (λ (ls : List (List ℕ)). ls ++ one_line (rest_line (bytes ++ more))) (e.whole ∙ sym g.whole)
     ∙ ap (λ (r : List ℕ). taken p ++ one_line r) (e.rest ∙ ap (λ (r : List ℕ). r ++ more) (sym g.rest))
-    ∙ ap (λ (ls : List (List ℕ)). taken p ++ ls) (one-some (kept ++ more) (omega arith)) in
+    ∙ ap (λ (ls : List (List ℕ)). taken p ++ ls) (alone_of_some (kept ++ more) (omega arith)) in
     let kind : fault.kind ≡ LineTooLong = ap (λ (f : Fault). f.kind) f in
     let place : fault.place.line ≡ min (ended + 1) (2 ^ 64 - 1) = ap (λ (f : Fault). f.place.line) f in
     record {
       refuses = line-refused MAX_LEVEL (lines_of (bytes ++ more)) (taken p) (kept ++ more) [] fault whole (open-front p o)
-          (subst (Breaks MAX_LEVEL (taken p) (kept ++ more)) (sym kind) (long-breaks p (kept ++ more) o n (is-long (kept ++ more) long)))
+          (subst (Breaks MAX_LEVEL (taken p) (kept ++ more)) (sym kind) (long-breaks p (kept ++ more) o n (too_long (kept ++ more) long)))
           (omega (arith, place, g.count));
       told = inr kind;
     }
@@ -200,7 +196,7 @@ pub breaks-long : (lines : List (List ℕ)) (line : List ℕ) → Breaks MAX_LEV
 breaks-long lines line = by (is_macrocell (lines ++ line ∷ []))
   where
     by : (m : Bool) → MatchBool m (broken MAX_LEVEL lines line ≡ Some LineTooLong) (BreaksRle MAX_LEVEL lines line LineTooLong) → is_too_long line ≡ true
-    by true h = is-long line ((long_lines_break_macrocell MAX_LEVEL lines line).0 h)
+    by true h = too_long line ((long_lines_break_macrocell MAX_LEVEL lines line).0 h)
     by false h = (long_lines_break MAX_LEVEL lines line).0 h
 
 not-missing : (lines : List (List ℕ)) → missing lines ≡ Some LineTooLong → ⊥
@@ -210,15 +206,12 @@ not-missing lines = by (is_macrocell lines)
     by true e = cc
     by false e = cc
 
-within-or-behind : (m n : ℕ) → (m ≤ n) ⊎ (n < m)
-within-or-behind m n = grind arith
-
 -- where a line is refused that is too long: among those that have ended, or behind them
 pub long-place : (bytes : List ℕ) (fault : Fault) (r : Refuses MAX_LEVEL bytes fault) → fault.kind ≡ LineTooLong
     → (r.n ≤ length (whole_lines bytes))
     ⊎ ((r.n ≡ length (whole_lines bytes) + 1) × (0 < length (rest_line bytes)) × Breaks MAX_LEVEL (whole_lines bytes) (rest_line bytes) LineTooLong)
-long-place bytes fault r k = elim (within-or-behind r.n (length (lines_of bytes))) [
-  | inl within ↦ elim (within-or-behind r.n (length (whole_lines bytes))) [
+long-place bytes fault r k = elim (le_or_lt r.n (length (lines_of bytes))) [
+  | inl within ↦ elim (le_or_lt r.n (length (whole_lines bytes))) [
     | inl early ↦ inl early
     | inr last ↦ inr (by (rest_line bytes) refl within last)
   ]
@@ -314,7 +307,7 @@ front-unrefused bytes kept ended p f fault r =
 not-over-at : (p : Progress) → IsOpen p → (IsOver p → ⊥) → is_macrocell (taken p) ≡ false → (file : Rle) → IsMarked MAX_LEVEL (taken p) file → ⊥
 not-over-at progress.Undecided o n m file h = no-mark file h
 not-over-at (progress.Rle reader builder runs) o n m file h = n (file, h)
-not-over-at (progress.Macrocell reader ids waiting) o n m file h = not-both (is_macrocell reader.lines) o.format m
+not-over-at (progress.Macrocell reader ids waiting) o n m file h = true_false (is_macrocell reader.lines) o.format m
 
 some-none : (b : ℕ) (bytes : List ℕ) → b ∷ bytes ≡ [] → ⊥
 some-none b bytes e = cc
@@ -336,7 +329,7 @@ pub rest-lines : (bytes kept : List ℕ) (ended : ℕ) (lines : List (List ℕ))
     ++ kept ∷ []
 rest-lines bytes kept ended lines g h =
     lines_are_whole bytes ∙ ap (λ (ls : List (List ℕ)). ls ++ one_line (rest_line bytes)) (sym g.whole)
-    ∙ ap (λ (r : List ℕ). lines ++ one_line r) (sym g.rest) ∙ ap (λ (ls : List (List ℕ)). lines ++ ls) (one-some kept h)
+    ∙ ap (λ (r : List ℕ). lines ++ one_line r) (sym g.rest) ∙ ap (λ (ls : List (List ℕ)). lines ++ ls) (alone_of_some kept h)
 
 pub kept-refuses : (bytes kept : List ℕ) (ended : ℕ) (p : Progress) (fault : Fault) → IsFront bytes kept ended p → 0 < length kept
     → IsLineFault MAX_LEVEL (taken p) kept ended fault → Refuses MAX_LEVEL bytes fault
@@ -395,7 +388,7 @@ end-says bytes ended (progress.Rle reader builder runs) u e s = by u s
     unmarked file other b m = mark_is_decided MAX_LEVEL reader.lines file other b m
 
     by : (u : Universe) → Says MAX_LEVEL reader.lines u → Says MAX_LEVEL (lines_of bytes) u
-    by _ (as_macrocell file are) = absurd (not-both (is_macrocell reader.lines) (macrocell-first MAX_LEVEL reader.lines file are) e.begun.format)
+    by _ (as_macrocell file are) = absurd (true_false (is_macrocell reader.lines) (macrocell-first MAX_LEVEL reader.lines file are) e.begun.format)
     by _ (as_rle file (inl b)) = going (rle_universe file) (as_rle file (inl b)) (λ v. unmarked file v.0 b v.1)
     by _ (as_rle file (inr m)) =
         let v = e.over (file, m) in
@@ -422,7 +415,7 @@ end-lines bytes ended (progress.Rle reader builder runs) u e s = by u s
     by : (u : Universe) → Says MAX_LEVEL reader.lines u
         → (free : List (List ℕ)) × (lines_of bytes ≡ reader.lines ++ free) × (is_macrocell (reader.lines ++ free) ≡ is_macrocell reader.lines)
         × (level_of_root MAX_LEVEL (lines_of bytes) ≡ level_of_root MAX_LEVEL reader.lines)
-    by _ (as_macrocell file are) = absurd (not-both (is_macrocell reader.lines) (macrocell-first MAX_LEVEL reader.lines file are) e.begun.format)
+    by _ (as_macrocell file are) = absurd (true_false (is_macrocell reader.lines) (macrocell-first MAX_LEVEL reader.lines file are) e.begun.format)
     by _ (as_rle file (inl b)) = with_free [] ((e.going (λ v. mark_is_decided MAX_LEVEL reader.lines file v.0 b v.1)).0 ∙ sym (append-nil reader.lines))
     by _ (as_rle file (inr m)) = let v = e.over (file, m) in with_free v.0 v.1
 
@@ -469,7 +462,7 @@ pub keep-fault : (store : Nodes) (p : Progress) (kept more : List ℕ) (ended : 
     → IsWant store fault ⊎ IsLineFault MAX_LEVEL (taken p) (kept ++ more) ended fault
 keep-fault store p kept more ended fault o n (inl m) = inl (inl m)
 keep-fault store p kept more ended fault o n (inr (e, long)) =
-    let b = long-breaks p (kept ++ more) o n (is-long (kept ++ more) (omega (arith, long, length-append kept more))) in
+    let b = long-breaks p (kept ++ more) o n (too_long (kept ++ more) (omega (arith, long, length-append kept more))) in
     inr (record {
       breaks = subst (Breaks MAX_LEVEL (taken p) (kept ++ more)) (sym (ap (λ (f : Fault). f.kind) e)) b;
       place = ap (λ (f : Fault). f.place.line) e;

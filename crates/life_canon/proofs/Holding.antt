@@ -40,10 +40,11 @@ use Rattle.life_canon.proofs.Known.{known-held, part-held}
 use Rattle.life_canon.proofs.NeedFacts.{grown-centred, is-centred}
 use Rattle.life_canon.proofs.PatternFacts.{next-square}
 use Rattle.life_canon.proofs.PlaneParts.{plane-part}
-use Rattle.life_canon.proofs.RoomLaw.{file-states, no-nodes, no-runs, none-of-none, true-false}
+use Rattle.life_canon.proofs.RoomLaw.{file-states, no-nodes, no-runs, none-of-none}
 use Rattle.life_canon.proofs.RoomRoots.{least-three}
 use Rattle.life_canon.proofs.RoomRuns.{squares-of-runs}
 use Rattle.life_canon.proofs.TreeWords.{below_top}
+use Rattle.life_base.proofs.Basics.{true_false}
 
 -- ---- node lines
 
@@ -147,7 +148,7 @@ macrocell-held store lines file ids m is good are roots t live (of_lines (of_nod
     node-held store file ids good are lines before behind line square is.squares e prefix squares t live some
 macrocell-held store lines file ids m is good are roots t live (of_lines (of_runs front behind runs e h some)) =
     absurd (none-of-none (λ v. v ≡ t) runs (no-runs lines front behind runs m e h) some)
-macrocell-held store lines file ids m is good are roots t live (at_end (of_plane u says rle some)) = absurd (true-false m rle)
+macrocell-held store lines file ids m is good are roots t live (at_end (of_plane u says rle some)) = absurd (true_false _ m rle)
 macrocell-held store lines file ids m is good are roots t live (at_end (of_root u says some)) =
     let same = files_say_one MAX_LEVEL lines u (macrocell_universe file) says (as_macrocell file is) in
     root-held store (macrocell_universe file) (level_of_root MAX_LEVEL lines) roots t live
@@ -164,14 +165,14 @@ module _ (store : Nodes) (lines : List (List ℕ)) (u : Universe) (rle : is_macr
   states = by u says
     where
       by : (v : Universe) → Says MAX_LEVEL lines v → rle_state_by (few_blocks_in_fronts MAX_LEVEL lines).runs ≡ v.cell
-      by _ (as_macrocell file a) = absurd (true-false (macrocell-first MAX_LEVEL lines file a) rle)
+      by _ (as_macrocell file a) = absurd (true_false _ (macrocell-first MAX_LEVEL lines file a) rle)
       by _ (as_rle file h) = sym (file-states lines rle (few_blocks_in_fronts MAX_LEVEL lines) file h)
 
   pub rle-held : (t : Tree) → is_blank_tree t ≡ false → SomeOfFile MAX_LEVEL (λ v. v ≡ t) lines → Contains (held store) t
   rle-held t live (of_lines (of_node_line before line behind square e prefix squares some)) =
       let longer = length-append before (line ∷ []) in
       let file = (fronts_are_files MAX_LEVEL (before ++ line ∷ []) (omega (arith, longer))).0 prefix in
-      absurd (true-false (no-nodes lines before behind line e file) rle)
+      absurd (true_false _ (no-nodes lines before behind line e file) rle)
   rle-held t live (of_lines (of_runs front behind runs e h some)) =
       let few = few_blocks_in_fronts MAX_LEVEL lines in
       let more = few.most front behind runs e h in

@@ -2,6 +2,7 @@
 use Rattle.std.proofs.Common.{◌≡◌, ℕ, suc, ◌≤◌, true, false, true≢false, length, ap, sym, ◌∙◌, subst, arith, inl, inr}
 use Rattle.std.specs.Prelude.{Contains}
 use Rattle.life_base.proofs.Squares.{is_blank-blank, quad_nw, quad_ne, quad_sw, quad_se, point≢quad}
+use Rattle.life_base.proofs.Basics.{contains-map}
 use Rattle.life_base.specs.Tree.{Tree, point, quad, depth, is_blank_tree}
 use Rattle.life_quad.specs.Refused.{SomePart}
 use Rattle.life_quad.specs.Store.{Nodes, held, id_of, IsEarlier, IsIdOf, as_small, as_node}
@@ -10,11 +11,10 @@ use Rattle.life_quad.specs.declared.id.Id.{Id}
 use Rattle.life_quad.specs.declared.id.Node.{Node}
 use Rattle.life_canon.specs.Store.{IsKnown, content}
 use Rattle.life_canon.proofs.GrowFacts.{get-within}
-use Rattle.life_canon.proofs.RoomLists.{contains-map}
 use Rattle.life_canon.proofs.Trees.{four_parts}
 
 -- the parts of a blank square are blank
-part-blank : (t u : Tree) → is_blank_tree t ≡ true → SomePart (λ v. v ≡ u) t → is_blank_tree u ≡ true
+pub part-blank : (t u : Tree) → is_blank_tree t ≡ true → SomePart (λ v. v ≡ u) t → is_blank_tree u ≡ true
 part-blank (point s) u blank p = absurd p
 part-blank (quad a b c d) u blank (inl e) = sym (ap is_blank_tree e) ∙ blank
 part-blank (quad a b c d) u blank (inr rest) =

@@ -1,7 +1,7 @@
 -- The canonical file has no more node lines than any macrocell file of its pattern: each of its squares has a line of that file.
 use Rattle.std.proofs.Common.{◌≡◌, ℕ, zero, suc, ◌+◌, ◌-◌, ◌<◌, ◌≤◌, Bool, true, false, ◌&&◌, List, [], ◌∷◌, ◌++◌, length, refl, ap, sym, ◌∙◌, subst, arith, ◌⊎◌, inl, inr, length-append}
 use Rattle.std.specs.Prelude.{nat_lt, if◌then◌else◌, Some}
-use Rattle.std.proofs.lemmas.Bool.{or_cases, or_left, or_right}
+use Rattle.std.proofs.lemmas.Bool.{or_cases, or_left, or_right, and_right}
 use Rattle.std.proofs.lemmas.Bool.Decides.{nat_tests}
 use Rattle.life_base.specs.Tree.{Tree, quad, depth, blank, is_blank_tree as is_blank}
 use Rattle.life_base.specs.declared.rule.Rule.{Rule}
@@ -17,13 +17,14 @@ use Rattle.life_canon.specs.Listing.{same_tree, is_small, walk, is_in, with_all,
 use Rattle.life_canon.specs.Least.{IsRival, IsLineOf, HasPlaces}
 use Rattle.life_canon.proofs.TreeWords.{HasDepth, point_depth, quad_depth, has_blank_border, middle, trim_times, trimmed_to as trimmed}
 use Rattle.life_canon.proofs.LineWords.{line_at, IsQuarter, IsValidLine}
-use Rattle.life_canon.proofs.LineFacts.{tree_of-line, get-line_at, less_one, squares-valid, root_level-last}
-use Rattle.life_canon.proofs.Trees.{centred-trimmed, centred-depth, outside-by, square-same, trim_times-once, trim_times-stop, blank-blank, blank-depth, bool_cases, true_false, depth_is, same_tree-refl, same_tree-true}
+use Rattle.life_canon.proofs.LineFacts.{tree_of-line, get-line_at, squares-valid, root_level-last}
+use Rattle.life_canon.proofs.Trees.{centred-trimmed, centred-depth, outside-by, square-same, trim_times-once, trim_times-stop, blank-blank, blank-depth, bool_cases, depth_is, same_tree-refl, same_tree-true}
 use Rattle.life_canon.proofs.ListFacts.{is_in-left, is_in-right, is_in-append_cases, is_in-one, NoRepeats, no_longer}
 use Rattle.life_canon.proofs.Walk.{le-more, listed-walk, listed-once, walk-small, walk-big, walk-level, walk-cases, WalkCase, root_case, nw_case, ne_case, sw_case, se_case}
 use Rattle.life_canon.proofs.Content.{not_small, least-one, length-lines_for}
 use Rattle.life_canon.proofs.Planes.{full-depth}
 use Rattle.life_canon.proofs.Canonical.{rooted, root-most, no-lines, listed-last, listed-blank, least-high, whole-is, whole-trimmed, nowhere, nowhere-zero, centred-nowhere}
+use Rattle.life_base.proofs.Basics.{le_or_lt, lt_or_eq, less_one, true_false}
 
 -- the square of line i, by its own level
 pub line_square : List Line → ℕ → Tree
@@ -39,13 +40,10 @@ unfolding line_squares
 line_squares-length lines zero = refl
 line_squares-length lines (suc n) = ap suc (line_squares-length lines n)
 
-below_cases : (i n : ℕ) → i < suc n → (i < n) ⊎ (i ≡ n)
-below_cases i n h = grind (arith, nat_tests)
-
 line_squares-has : (lines : List Line) (n i : ℕ) → i < n → is_in (line_squares lines n) (line_square lines i) ≡ true
 unfolding line_squares
 line_squares-has lines zero i h = absurd (omega arith)
-line_squares-has lines (suc n) i h = elim (below_cases i n h) [
+line_squares-has lines (suc n) i h = elim (lt_or_eq i n h) [
   | inl l ↦ or_right (same_tree (line_square lines n) (line_square lines i)) _ (line_squares-has lines n i l)
   | inr e ↦ or_left _ _ (subst (λ v. same_tree (line_square lines n) (line_square lines v) ≡ true) (sym e) (same_tree-refl (line_square lines n)))
 ]
@@ -53,7 +51,7 @@ line_squares-has lines (suc n) i h = elim (below_cases i n h) [
 line_squares-more : (lines : List Line) (n j : ℕ) (t : Tree) → j ≤ n → is_in (line_squares lines j) t ≡ true → is_in (line_squares lines n) t ≡ true
 unfolding line_squares
 line_squares-more lines zero j t h i = let e : j ≡ 0 = omega arith in subst (λ v. is_in (line_squares lines v) t ≡ true) e i
-line_squares-more lines (suc n) j t h i = elim (below_cases j (suc n) (omega arith)) [
+line_squares-more lines (suc n) j t h i = elim (lt_or_eq j (suc n) (omega arith)) [
   | inl l ↦ or_right (same_tree (line_square lines n) t) _ (line_squares-more lines n j t (omega arith) i)
   | inr e ↦ subst (λ v. is_in (line_squares lines v) t ≡ true) e i
 ]
@@ -174,9 +172,6 @@ big-parts m k t e h = record { shown = grind (arith, nat_tests); deep = grind (a
 and_first : (a b : Bool) → a ≡ false → (a && b) ≡ false
 and_first a b h = grind arith
 
-and_second : (a b : Bool) → b ≡ false → (a && b) ≡ false
-and_second a b h = grind arith
-
 -- the walk of a quarter is part of the walk
 module _ (a b c d : Tree) (m : ℕ) (t : Tree) where
   into-nw : is_small m (quad a b c d) ≡ false → is_in (walk a m) t ≡ true → is_in (walk (quad a b c d) m) t ≡ true
@@ -201,15 +196,15 @@ module _ {k : ℕ} {a b c d : Tree} (p : HasDepth k a) (q : HasDepth k b) (r : H
 
   from-ne : is_in (walk b m) t ≡ true → is_in (walk (quad a b c d) m) t ≡ true
   from-ne h = let v = big-parts m k b (depth_is q) (walked-big b m t h) in
-      into-ne a b c d m t (quad-big (and_first _ _ (and_first _ _ (and_second (is_blank a) _ v.shown))) v.deep) h
+      into-ne a b c d m t (quad-big (and_first _ _ (and_first _ _ (and_right (is_blank a) _ v.shown))) v.deep) h
 
   from-sw : is_in (walk c m) t ≡ true → is_in (walk (quad a b c d) m) t ≡ true
   from-sw h = let v = big-parts m k c (depth_is r) (walked-big c m t h) in
-      into-sw a b c d m t (quad-big (and_first _ _ (and_second (is_blank a && is_blank b) _ v.shown)) v.deep) h
+      into-sw a b c d m t (quad-big (and_first _ _ (and_right (is_blank a && is_blank b) _ v.shown)) v.deep) h
 
   from-se : is_in (walk d m) t ≡ true → is_in (walk (quad a b c d) m) t ≡ true
   from-se h = let v = big-parts m k d (depth_is s) (walked-big d m t h) in
-      into-se a b c d m t (quad-big (and_second (is_blank a && is_blank b && is_blank c) _ v.shown) v.deep) h
+      into-se a b c d m t (quad-big (and_right (is_blank a && is_blank b && is_blank c) _ v.shown) v.deep) h
 
 record IsInner (m : ℕ) (root trim t : Tree) : Type 0 where
   in_root : is_in (walk root m) t ≡ true
@@ -405,9 +400,6 @@ record IsFromRoot (f : Macrocell) (top m : ℕ) : Type 0 where
 pub sum_back : (a b c : ℕ) → a ≡ suc b → a ≤ suc c → suc ((c - b) + b) ≡ suc c
 sum_back a b c p q = omega arith
 
-pub reach : (m k : ℕ) → (m ≤ k) ⊎ (k < m)
-reach m k = grind (arith, nat_tests)
-
 from_root : (top m : ℕ) (f : Macrocell) → 3 ≤ suc top → 1 ≤ m → m ≤ suc top → IsValid (suc top) f → 0 < length f.lines → IsFromRoot f (suc top) m
 from_root top m f high le most v h =
     let g = macrocell_cell f in
@@ -418,7 +410,7 @@ from_root top m f high le most v h =
     let e : k ≡ suc j = r.is in
     let out : IsBlankOutside (suc j) g = r.outside in
     record {
-      shape = elim (reach m k) [
+      shape = elim (le_or_lt m k) [
         | inl d ↦ inl (
           d,
           ap (λ n. trimmed (centred g n) m) (sym (sum_back k j top e top_k))
@@ -550,7 +542,7 @@ apart top u f high h v same rival l =
 -- the squares of the list have lines, no two of them one line
 pub has-places : (top : ℕ) (u : Universe) (f : Macrocell) → 3 ≤ suc top → IsOnPlane (suc top) u → IsValid (suc top) f → IsSame u (macrocell_universe f)
     → IsRival f → HasPlaces (suc top) u f
-has-places top u f high h v same rival = elim (reach 1 (length f.lines)) [
+has-places top u f high h v same rival = elim (le_or_lt 1 (length f.lines)) [
   | inl l ↦
       let w = whole (suc top) u in
       let m = least_level u.rule in
@@ -613,7 +605,7 @@ least top u f high h v same rival =
     let m = least_level u.rule in
     let w = whole (suc top) u in
     let n : length (lines_for u.rule (listed w m)) ≡ length (listed w m) = length-lines_for u.rule (listed w m) in
-    let few : length (listed w m) ≤ length f.lines = elim (reach 1 (length f.lines)) [
+    let few : length (listed w m) ≤ length f.lines = elim (le_or_lt 1 (length f.lines)) [
       | inl l ↦ (apart top u f high h v same rival l).few
       | inr l ↦ subst (λ y. length y ≤ length f.lines) (sym (no_lines-blank top u f (least-high u.rule (suc top) high) h same (omega arith))) (omega arith)
     ] in

@@ -9,6 +9,7 @@ mod LeafWords
 mod Content
 mod Planes
 mod Canonical
+pub mod Sameness
 mod CentredFacts
 mod Least
 mod Keys
@@ -32,7 +33,7 @@ mod PatternFacts
 pub mod Fits
 mod RefusalKinds
 mod Standing
-mod Known
+pub mod Known
 mod PlaneParts
 mod Holding
 mod Stored

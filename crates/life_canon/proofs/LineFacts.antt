@@ -1,6 +1,6 @@
 -- Node lines by their index, and the squares of their numbers.
-use Rattle.std.proofs.Common.{◌≡◌, ℕ, zero, suc, ◌-◌, ◌<◌, ◌≤◌, Bool, true, false, List, [], ◌∷◌, length, take, map, refl, ap, sym, ◌∙◌, subst, arith, inl, inr}
-use Rattle.std.specs.Prelude.{nat_le, ◌==◌, Option, Some, None, slice_get}
+use Rattle.std.proofs.Common.{◌≡◌, ℕ, zero, suc, ◌-◌, ◌<◌, ◌≤◌, Bool, true, List, [], ◌∷◌, length, take, map, refl, ap, sym, ◌∙◌, subst, arith, inl, inr}
+use Rattle.std.specs.Prelude.{nat_le, Option, Some, None, slice_get}
 use Rattle.std.specs.List.{list_all}
 use Rattle.std.proofs.lemmas.Bool.Decides.{nat_tests}
 use Rattle.life_base.specs.Tree.{Tree, blank}
@@ -11,6 +11,7 @@ use Rattle.life_mc.specs.Squares.{line_tree, tree_of}
 use Rattle.life_mc.specs.declared.line.Line.{Line}
 use Rattle.life_mc.specs.declared.line.Line.TheVariants.{Leaf, Quad}
 use Rattle.life_canon.proofs.LineWords.{line_at, IsChild, IsQuarter, IsValidLine, AreValidLines}
+use Rattle.life_base.proofs.Basics.{less_one, suc_not_zero, suc_suc_not_one}
 
 -- the line of an index within
 pub get-line_at : (lines : List Line) (i : ℕ) → i < length lines → slice_get lines i ≡ Some (line_at lines i)
@@ -45,20 +46,11 @@ take-level [] (suc i) j level h l e = absurd (omega arith)
 take-level (line ∷ lines) (suc i) zero level h l e = grind (arith, nat_tests)
 take-level (line ∷ lines) (suc i) (suc j) level h l e = take-level lines i j level (omega arith) (omega arith) e
 
-pub less_one : (j : ℕ) → suc j - 1 ≡ j
-less_one j = omega arith
-
-no_zero : (j : ℕ) → (suc j == 0) ≡ false
-no_zero j = grind (arith, nat_tests)
-
-no_one : (j : ℕ) → (suc (suc j) == 1) ≡ false
-no_one j = grind (arith, nat_tests)
-
 child-suc : (levels : List ℕ) (level j : ℕ) → is_child levels level (suc j) ≡ is_level level (slice_get levels j)
-child-suc levels level j = rw (no_zero j) refl
+child-suc levels level j = rw (suc_not_zero j) refl
 
 quarter-high : (rule : Rule) (levels : List ℕ) (k number : ℕ) → is_quarter rule levels (suc (suc k)) number ≡ is_child levels (suc k) number
-quarter-high rule levels k number = rw (no_one k, less_one (suc k)) refl
+quarter-high rule levels k number = rw (suc_suc_not_one k, less_one (suc k)) refl
 
 child-test : (lines : List Line) (i level number : ℕ) → i ≤ length lines → is_child (map level_of (take i lines)) level number ≡ true
     → IsChild lines i level number

@@ -2,7 +2,6 @@
 use Rattle.std.proofs.Common.{◌≡◌, ◌⊎◌, inl, inr, ℕ, zero, suc, ◌+◌, ◌-◌, ◌<◌, ◌≤◌, true, List, [], ◌∷◌, ◌++◌, length, take, drop, get_or, max, ap, sym, ◌∙◌, subst, arith, append_assoc, drop-cons, refl, ℤ, ◌+ℤ◌, pos}
 use Rattle.std.specs.Prelude.{nat_abs}
 use Rattle.std.proofs.lemmas.List.{append-nil, take-append-drop}
-use Rattle.life_base.proofs.Squares.{depth-blank}
 use Rattle.life_base.specs.Lines.{has_no_feed, whole_lines}
 use Rattle.life_base.specs.Refusal.{Prefix, fault_at, fault_of}
 use Rattle.life_base.specs.Text.{lines_of}
@@ -11,7 +10,7 @@ use Rattle.life_base.specs.declared.cell.Run.{Run}
 use Rattle.life_base.specs.declared.fault.Fault.{Fault}
 use Rattle.life_base.specs.declared.kind.Kind.{Kind}
 use Rattle.life_base.specs.declared.kind.Kind.TheVariants.{Full}
-use Rattle.life_base.specs.Tree.{Tree, point, quad, depth, tree_cell, IsFull}
+use Rattle.life_base.specs.Tree.{Tree, depth, tree_cell, IsFull}
 use Rattle.life_base.proofs.WholeLines.{lines_are_whole, lines_continue}
 use Rattle.life_base.specs.Lines.{rest_line, one_line}
 use Rattle.life_mc.specs.Reading.{Accepts, squares_of}
@@ -25,7 +24,7 @@ use Rattle.life_canon.specs.declared.progress.Progress.{Progress}
 use Rattle.life_canon.specs.declared.progress.Progress.TheVariants as progress
 use Rattle.life_canon.proofs.Unions.{not-both}
 use Rattle.life_canon.proofs.FrontFacts.{whole-at, end-says, end-lines}
-use Rattle.life_quad.proofs.LawLemmas.{trimming_stops}
+use Rattle.life_quad.proofs.LawLemmas.{trimming_stops, depth_grown}
 use Rattle.life_quad.specs.Moves.{grown, trimmed}
 use Rattle.life_quad.specs.Refused.{SomePart, TrimmedTo}
 use Rattle.life_quad.specs.declared.id.Id.{Id}
@@ -41,18 +40,14 @@ use Rattle.life_canon.proofs.Trees.{square-same, centred-grown, outside-more}
 
 -- ---- a square that is grown
 
-depth-grown : (t : Tree) → 1 ≤ depth t → depth (grown t) ≡ suc (depth t)
-depth-grown (point s) h = absurd (omega arith)
-depth-grown (quad a b c d) h = ap (λ (n : ℕ). suc (suc n)) (depth-blank (depth a))
-
 pub SomeGrown-next : (P : Tree → Type 0) (t : Tree) (level : ℕ) → 1 ≤ depth t → SomeGrown P (grown t) level → SomeGrown P t level
-SomeGrown-next P t level h s = let d = depth-grown t h in record { more = suc s.more; low = omega (arith, d, s.low); part = s.part }
+SomeGrown-next P t level h s = let d = depth_grown t h in record { more = suc s.more; low = omega (arith, d, s.low); part = s.part }
 
 -- the squares of one growth more
 pub grown-next : {X : Type 0} (S : Ghosts X) (squares : X) (t : Tree) (level : ℕ) → 1 ≤ depth t → HasSquare S squares (grown t)
     → HasGrown S squares (grown t) level → HasGrown S squares t level
 grown-next S squares t level high one rest zero low = one
-grown-next S squares t level high one rest (suc more) low = rest more (let d = depth-grown t high in omega (arith, d, low))
+grown-next S squares t level high one rest (suc more) low = rest more (let d = depth_grown t high in omega (arith, d, low))
 
 -- they stay while the store keeps its Ids
 pub grown-stays : {X : Type 0} (S : Ghosts X) (old new : X) (t : Tree) (level : ℕ)

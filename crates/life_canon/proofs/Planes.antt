@@ -11,7 +11,9 @@ use Rattle.life_mc.specs.Squares.{HasStatesUpTo}
 use Rattle.life_quad.specs.Moves.{trim_up_to, can_trim, outer, inner, trimmed}
 use Rattle.life_canon.specs.Universe.{corner, centred, IsBlankOutside}
 use Rattle.life_canon.proofs.TreeWords.{HasDepth, point_depth, quad_depth, StatesBelow, middle, has_blank_border, trim_times, trimmed_to}
-use Rattle.life_canon.proofs.Trees.{depth_is, trees_equal, centred-depth, state_at-centred, trim_times-once, trim_times-stop, pow_suc, bool_cases, and_left, and_right}
+use Rattle.life_canon.proofs.Trees.{depth_is, trees_equal, centred-depth, state_at-centred, trim_times-once, trim_times-stop, bool_cases}
+use Rattle.life_base.proofs.Basics.{right_of_and, left_of_and, double}
+use Rattle.life_quad.proofs.LawLemmas.{cannot_trim}
 
 -- ---- full squares
 
@@ -68,9 +70,6 @@ two-deep k t (quad_depth (quad_depth {nw = a} {ne = b} {sw = c} {se = d} ha hb h
       inner_depth = quad_depth hd hg hj hn;
     }
 
-pub can-not : (t : Tree) (m : ℕ) → depth t ≤ m → can_trim t m ≡ false
-can-not t m h = let e : nat_lt m (depth t) ≡ false = grind (arith, nat_tests) in rw e refl
-
 pub can-by : (t : Tree) (m : ℕ) → m < depth t → can_trim t m ≡ list_all is_blank (outer t)
 can-by t m h = let e : nat_lt m (depth t) ≡ true = grind (arith, nat_tests) in rw e refl
 
@@ -83,19 +82,19 @@ go n t m h = rw h refl
 
 -- enough steps with the test of the level are as many as the levels above the least one
 steps-same : (m : ℕ) → 1 ≤ m → (k n : ℕ) (t : Tree) → HasDepth k t → k ≤ n → trim_up_to n t m ≡ trim_times (k - m) t
-steps-same m le zero n t h l = stop n t m (can-not t m (subst (λ d. d ≤ m) (sym (depth_is h)) (omega arith)))
+steps-same m le zero n t h l = stop n t m (cannot_trim t m (subst (λ d. d ≤ m) (sym (depth_is h)) (omega arith)))
     ∙ ap (λ d. trim_times d t) (none m)
   where
     none : (m : ℕ) → 0 ≡ 0 - m
     none m = omega arith
-steps-same m le (suc zero) n t h l = stop n t m (can-not t m (subst (λ d. d ≤ m) (sym (depth_is h)) (omega arith)))
+steps-same m le (suc zero) n t h l = stop n t m (cannot_trim t m (subst (λ d. d ≤ m) (sym (depth_is h)) (omega arith)))
     ∙ ap (λ d. trim_times d t) (none m le)
   where
     none : (m : ℕ) → 1 ≤ m → 0 ≡ 1 - m
     none m h = omega arith
 steps-same m le (suc (suc k)) zero t h l = absurd (omega arith)
 steps-same m le (suc (suc k)) (suc n) t h l = elim (reach m (suc (suc k))) [
-  | inl low ↦ stop (suc n) t m (can-not t m (subst (λ d. d ≤ m) (sym (depth_is h)) low)) ∙ ap (λ d. trim_times d t) (nothing m (suc (suc k)) low)
+  | inl low ↦ stop (suc n) t m (cannot_trim t m (subst (λ d. d ≤ m) (sym (depth_is h)) low)) ∙ ap (λ d. trim_times d t) (nothing m (suc (suc k)) low)
   | inr high ↦
       let two = two-deep k t h in
       let test : can_trim t m ≡ has_blank_border t = can-by t m (subst (λ d. m < d) (sym (depth_is h)) high) ∙ two.border in
@@ -153,7 +152,7 @@ unfolding corner
 centred-tree_cell {k = k} {t = t} h =
     trees_equal (centred-depth (tree_cell t) (suc k)) h
     (λ i j p q. state_at-centred (tree_cell t) (suc k) i j p q
-    ∙ tree_cell-at t (2 ^ k) i j (half-of t k (depth_is h)) (omega (arith, pow_suc k)) (omega (arith, pow_suc k)))
+    ∙ tree_cell-at t (2 ^ k) i j (half-of t k (depth_is h)) (omega (arith, double k)) (omega (arith, double k)))
 
 within_of : (n : ℕ) (x : ℤ) → int_le (neg_ℤ (pos n)) x ≡ true → int_lt x (pos n) ≡ true → (neg_ℤ (pos n) ≤ℤ x) × (x <ℤ (neg_ℤ (pos n) +ℤ pos (n + n)))
 within_of n x p q = (le, lt)
@@ -172,14 +171,15 @@ tree_cell-outside {k = k} {t = t} h x y n =
     let test : Bool = int_le (neg_ℤ (pos m)) x && int_lt x (pos m) && int_le (neg_ℤ (pos m)) y && int_lt y (pos m) in
     rw e (elim (bool_cases test) [
       | inl b ↦
-          let b3 = and_left (int_le (neg_ℤ (pos m)) x && int_lt x (pos m) && int_le (neg_ℤ (pos m)) y) (int_lt y (pos m)) b in
-          let b2 = and_left (int_le (neg_ℤ (pos m)) x && int_lt x (pos m)) (int_le (neg_ℤ (pos m)) y) b3 in
-          let xs = within_of m x (and_left (int_le (neg_ℤ (pos m)) x) (int_lt x (pos m)) b2) (and_right (int_le (neg_ℤ (pos m)) x) (int_lt x (pos m)) b2) in
-          let ys = within_of m y (and_right (int_le (neg_ℤ (pos m)) x && int_lt x (pos m)) (int_le (neg_ℤ (pos m)) y) b3)
-          (and_right (int_le (neg_ℤ (pos m)) x && int_lt x (pos m) && int_le (neg_ℤ (pos m)) y) (int_lt y (pos m)) b) in
+          let b3 = left_of_and (int_le (neg_ℤ (pos m)) x && int_lt x (pos m) && int_le (neg_ℤ (pos m)) y) (int_lt y (pos m)) b in
+          let b2 = left_of_and (int_le (neg_ℤ (pos m)) x && int_lt x (pos m)) (int_le (neg_ℤ (pos m)) y) b3 in
+          let xs = within_of m x (left_of_and (int_le (neg_ℤ (pos m)) x) (int_lt x (pos m)) b2)
+          (right_of_and (int_le (neg_ℤ (pos m)) x) (int_lt x (pos m)) b2) in
+          let ys = within_of m y (right_of_and (int_le (neg_ℤ (pos m)) x && int_lt x (pos m)) (int_le (neg_ℤ (pos m)) y) b3)
+          (right_of_and (int_le (neg_ℤ (pos m)) x && int_lt x (pos m) && int_le (neg_ℤ (pos m)) y) (int_lt y (pos m)) b) in
           absurd (n (
-            subst (λ v. (neg_ℤ (pos m) ≤ℤ x) × (x <ℤ (neg_ℤ (pos m) +ℤ pos v))) (sym (pow_suc k)) xs,
-            subst (λ v. (neg_ℤ (pos m) ≤ℤ y) × (y <ℤ (neg_ℤ (pos m) +ℤ pos v))) (sym (pow_suc k)) ys,
+            subst (λ v. (neg_ℤ (pos m) ≤ℤ x) × (x <ℤ (neg_ℤ (pos m) +ℤ pos v))) (sym (double k)) xs,
+            subst (λ v. (neg_ℤ (pos m) ≤ℤ y) × (y <ℤ (neg_ℤ (pos m) +ℤ pos v))) (sym (double k)) ys,
           ))
       | inr b ↦ cond-false test _ _ b
     ])

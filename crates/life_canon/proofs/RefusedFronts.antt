@@ -1,13 +1,14 @@
 -- A front that is refused stays refused, whatever bytes follow, and the fault of a longer input is that of its front.
-use Rattle.std.proofs.Common.{◌≡◌, ℕ, suc, ◌+◌, ◌-◌, ◌^◌, ◌<◌, ◌≤◌, min, Bool, true, false, cond, not, List, [], ◌∷◌, ◌++◌, length, take, drop, get_or, refl, ap, sym, ◌∙◌, subst, arith, inl, inr, Some, append_assoc, drop-cons, codes}
-use Rattle.std.specs.Prelude.{MatchBool, ◌==◌, bytes_eq}
+use Rattle.std.proofs.Common.{◌≡◌, ℕ, suc, ◌+◌, ◌-◌, ◌^◌, ◌<◌, ◌≤◌, min, Bool, true, false, List, [], ◌∷◌, ◌++◌, length, take, drop, get_or, refl, ap, sym, ◌∙◌, subst, arith, inl, inr, Some, append_assoc, drop-cons, codes}
+use Rattle.std.specs.Prelude.{MatchBool, bytes_eq}
 use Rattle.std.specs.List.{slice_index_or}
 use Rattle.std.proofs.lemmas.Bool.Decides.{nat_tests}
 use Rattle.std.proofs.lemmas.List.{append-nil, take-append-drop, take-append-le, length-append, length-take-le}
 use Rattle.std.proofs.Math.ListN.{get_or-append}
 use Rattle.life_base.specs.Lines.{has_no_feed, whole_lines, rest_line, one_line}
-use Rattle.life_base.proofs.WholeLines.{lines_are_whole, lines_continue, rest_has_no_feed}
-use Rattle.life_base.proofs.Numbers.{first, second}
+use Rattle.life_base.proofs.WholeLines.{lines_are_whole, lines_continue, rest_has_no_feed, lines_step}
+use Rattle.life_base.proofs.Texts.{too_long}
+use Rattle.life_base.proofs.Basics.{right_of_and, left_of_and}
 use Rattle.life_base.specs.Refusal.{Prefix}
 use Rattle.life_base.specs.Text.{lines_of, onto_first, is_too_long, begins_with}
 use Rattle.life_base.specs.declared.cell.TheConstants.{MAX_LEVEL}
@@ -20,7 +21,7 @@ use Rattle.life_rle.proofs.FrontLaws.{lines_behind_mark_are_free, long_lines_bre
 use Rattle.life_canon.specs.Feeding.{RefusesFront}
 use Rattle.life_canon.specs.Files.{Accepts, Breaks, Refuses, RefusesLines, is_macrocell}
 use Rattle.life_canon.specs.Laws.{FaultsStay, LengthHidesNoFault}
-use Rattle.life_canon.proofs.FrontFacts.{long-place, breaks-long, long-macrocell, is-long}
+use Rattle.life_canon.proofs.FrontFacts.{long-place, breaks-long, long-macrocell}
 use Rattle.life_canon.proofs.Unions.{line-refused, line-refused-n}
 
 -- ---- a longer line is too long too
@@ -44,7 +45,7 @@ breaks-longer front line more b =
     long = length-of-long line (breaks-long front line b)
 
     longer : is_too_long (line ++ more) ≡ true
-    longer = is-long (line ++ more) (omega (arith, long, length-append line more))
+    longer = too_long (line ++ more) (omega (arith, long, length-append line more))
 
     by : (m : Bool) → MatchBool m (broken MAX_LEVEL front line ≡ Some LineTooLong) (BreaksRle MAX_LEVEL front line LineTooLong)
         → MatchBool m (broken MAX_LEVEL front (line ++ more) ≡ Some LineTooLong) (BreaksRle MAX_LEVEL front (line ++ more) LineTooLong)
@@ -56,13 +57,6 @@ breaks-longer front line more b =
         LineTooLong).1 refl
 
 -- ---- the first line of bytes that go on
-
-not-feed : (v : Bool) → not v ≡ true → v ≡ false
-not-feed true h = cc
-not-feed false h = refl
-
-onto-line : (b : ℕ) (bytes : List ℕ) → not (b == 10) ≡ true → lines_of (b ∷ bytes) ≡ onto_first b (lines_of bytes)
-onto-line b bytes h = ap (λ v. cond v ([] ∷ lines_of bytes) (onto_first b (lines_of bytes))) (not-feed (b == 10) h)
 
 -- a first line begins with these bytes
 pub record BeginsWith (front : List ℕ) (lines : List (List ℕ)) : Type 0 where
@@ -76,10 +70,10 @@ begins-first b (line ∷ lines) = record { rest = line; more = lines; is = refl 
 
 pub begins : (front more : List ℕ) → has_no_feed front ≡ true → 0 < length front → BeginsWith front (lines_of (front ++ more))
 begins [] more h some = absurd (omega arith)
-begins (b ∷ []) more h some = subst (BeginsWith (b ∷ [])) (sym (onto-line b more (first _ _ h))) (begins-first b (lines_of more))
+begins (b ∷ []) more h some = subst (BeginsWith (b ∷ [])) (sym (lines_step b more (left_of_and _ _ h))) (begins-first b (lines_of more))
 begins (b ∷ (c ∷ front)) more h some =
-    let r = begins (c ∷ front) more (second _ _ h) (omega arith) in
-    record { rest = r.rest; more = r.more; is = onto-line b ((c ∷ front) ++ more) (first _ _ h) ∙ ap (onto_first b) r.is }
+    let r = begins (c ∷ front) more (right_of_and _ _ h) (omega arith) in
+    record { rest = r.rest; more = r.more; is = lines_step b ((c ∷ front) ++ more) (left_of_and _ _ h) ∙ ap (onto_first b) r.is }
 
 -- ---- refusals
 

@@ -1,5 +1,5 @@
 -- A file needs few squares.
-use Rattle.std.proofs.Common.{◌≡◌, ℕ, suc, ◌+◌, ◌*◌, ◌^◌, ◌<◌, ◌≤◌, Bool, true, false, cond, List, [], ◌∷◌, ◌++◌, length, map, max, refl, ap, sym, ◌∙◌, subst, arith, inl, inr, length-append, ℤ}
+use Rattle.std.proofs.Common.{◌≡◌, ℕ, suc, ◌+◌, ◌*◌, ◌^◌, ◌<◌, ◌≤◌, true, false, cond, List, [], ◌∷◌, ◌++◌, length, map, max, refl, ap, sym, ◌∙◌, subst, arith, inl, inr, length-append, ℤ}
 use Rattle.std.specs.Prelude.{◌==◌, Contains, if◌then◌else◌}
 use Rattle.std.proofs.lemmas.List.{length-map}
 use Rattle.std.proofs.lemmas.List.Elements.{Contains-append_left, Contains-append_right}
@@ -33,6 +33,7 @@ use Rattle.life_canon.proofs.RoomRoots.{trimmed_roots, plane-root, all_roots, al
 use Rattle.life_canon.proofs.RoomRuns.{squares-of-runs}
 use Rattle.life_canon.proofs.RoomTrees.{block_tree, square-of-block}
 use Rattle.life_canon.proofs.Trees.{bool_cases}
+use Rattle.life_base.proofs.Basics.{true_false}
 
 -- ---- bytes
 
@@ -71,9 +72,6 @@ no-runs lines (line ∷ front) behind runs m e (inr h) = absurd (rle-first MAX_L
 pub none-of-none : (P : Tree → Type 0) (runs : List Run) → runs ≡ [] → SomeOfRuns P runs → ⊥
 none-of-none P runs e s = none s.before _ _ (sym e ∙ s.are)
 
-pub true-false : {b : Bool} → b ≡ true → b ≡ false → ⊥
-true-false p q = cc
-
 -- ---- a macrocell file
 
 module _ (lines : List (List ℕ)) (m : is_macrocell lines ≡ true) where
@@ -95,7 +93,7 @@ module _ (lines : List (List ℕ)) (m : is_macrocell lines ≡ true) where
       Contains-append_left (nodes [] lines) (all_roots states) t
       (contains-among (nodes [] lines) t (subst (λ (ls : List (List ℕ)). Among (nodes [] ls) t) (sym e) has))
   node-squares-have t (of_lines (of_runs front behind runs e h some)) = absurd (none-of-none (λ v. v ≡ t) runs (no-runs lines front behind runs m e h) some)
-  node-squares-have t (at_end (of_plane u says rle some)) = absurd (true-false m rle)
+  node-squares-have t (at_end (of_plane u says rle some)) = absurd (true_false _ m rle)
   node-squares-have t (at_end (of_root u says some)) =
       Contains-append_right (nodes [] lines) (all_roots states) t (contains-among (all_roots states) t (node-root u t says some))
 
@@ -127,12 +125,12 @@ module _ (lines : List (List ℕ)) (m : is_macrocell lines ≡ false) (few : Has
 
   plane-square : (u : Universe) (t : Tree) → is_blank_tree t ≡ false → Says MAX_LEVEL lines u → SomeSquare (λ v. v ≡ t) (2 ^ MAX_LEVEL) (by_columns u.cell)
       → Contains run_squares t
-  plane-square _ t some (as_macrocell file a) s = absurd (true-false (macrocell-first MAX_LEVEL lines file a) m)
+  plane-square _ t some (as_macrocell file a) s = absurd (true_false _ (macrocell-first MAX_LEVEL lines file a) m)
   plane-square u t some (as_rle file h) s =
       of-block t some (subst (λ (f : ℤ → ℤ → ℕ). SomeSquare (λ v. v ≡ t) (2 ^ MAX_LEVEL) (by_columns f)) (file-states file h) s)
 
   run-root : (u : Universe) (t : Tree) → Says MAX_LEVEL lines u → SomeRoot MAX_LEVEL (λ v. v ≡ t) u (level_of_root MAX_LEVEL lines) → Contains run_squares t
-  run-root _ t (as_macrocell file a) s = absurd (true-false (macrocell-first MAX_LEVEL lines file a) m)
+  run-root _ t (as_macrocell file a) s = absurd (true_false _ (macrocell-first MAX_LEVEL lines file a) m)
   run-root u t (as_rle file h) s =
       let level : level_of_root MAX_LEVEL lines ≡ MAX_LEVEL = ap (λ b. cond b (max 1 (root_level (squares_of lines))) MAX_LEVEL) m in
       let has = plane-root u t (subst (SomeRoot MAX_LEVEL (λ v. v ≡ t) u) level s) in
@@ -142,7 +140,7 @@ module _ (lines : List (List ℕ)) (m : is_macrocell lines ≡ false) (few : Has
   run-squares-have : (t : Tree) → is_blank_tree t ≡ false → SomeOfFile MAX_LEVEL (λ v. v ≡ t) lines → Contains run_squares t
   run-squares-have t live (of_lines (of_node_line before line behind square e prefix squares some)) =
       let n : 0 < length (before ++ line ∷ []) = let k = length-append before (line ∷ []) in omega (arith, k) in
-      absurd (true-false (no-nodes lines before behind line e ((fronts_are_files MAX_LEVEL (before ++ line ∷ []) n).0 prefix)) m)
+      absurd (true_false _ (no-nodes lines before behind line e ((fronts_are_files MAX_LEVEL (before ++ line ∷ []) n).0 prefix)) m)
   run-squares-have t live (of_lines (of_runs front behind runs e h some)) =
       let more = few.most front behind runs e h in
       of-block t live (squares-of-runs (λ v. v ≡ t) few.rule runs more.0 few.runs more.1 few.good few.order some)

@@ -1,15 +1,10 @@
 -- Lists of squares that hold no square twice, and what is among elements.
-use Rattle.std.proofs.Common.{◌≡◌, ◌≢◌, ℕ, zero, suc, ◌<◌, ◌≤◌, List, [], ◌∷◌, length, map, get_or, refl, ap, sym, ◌∙◌, subst, arith, inl, inr, AllPairs}
+use Rattle.std.proofs.Common.{◌≡◌, ◌≢◌, ℕ, zero, suc, ◌<◌, ◌≤◌, List, [], ◌∷◌, length, get_or, refl, ap, sym, ◌∙◌, subst, arith, inl, inr, AllPairs}
 use Rattle.std.specs.Prelude.{Contains}
 use Rattle.life_base.specs.Tree.{Tree}
 pub use Rattle.life_rle.proofs.BlockItems.{Among}
 pub use Rattle.life_rle.proofs.BlockCover.{among-left, among-right}
 pub use Rattle.life_rle.proofs.BlockLaw.{contains-among}
-
-pub contains-map : {A B : Type 0} (f : A → B) (xs : List A) (a : A) → Contains xs a → Contains (map f xs) (f a)
-contains-map f [] a h = absurd (omega (arith, h.1))
-contains-map f (x ∷ xs) a (zero, lt, e) = (0, omega arith, ap f e)
-contains-map f (x ∷ xs) a (suc k, lt, e) = let rest = contains-map f xs a (k, omega (arith, lt), e) in (suc rest.0, omega (arith, rest.1), rest.2)
 
 -- ---- distinct squares of a list are no more than it has
 

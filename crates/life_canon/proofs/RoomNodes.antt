@@ -3,11 +3,10 @@ use Rattle.std.proofs.Common.{◌≡◌, ℕ, ◌+◌, ◌*◌, ◌≤◌, List,
 use Rattle.std.specs.Prelude.{◌-◌}
 use Rattle.std.specs.List.{cons_option}
 use Rattle.std.proofs.lemmas.List.{append-nil}
-use Rattle.std.proofs.lemmas.List.Elements.{filter_map-append}
 use Rattle.life_base.specs.Lines.{joined}
 use Rattle.life_base.specs.Tree.{Tree, quad}
 use Rattle.life_mc.specs.Cells.{leaf_cell}
-use Rattle.life_mc.specs.Reading.{squares_of, square_on, square_behind}
+use Rattle.life_mc.specs.Reading.{squares_of, square_behind}
 use Rattle.life_mc.specs.Squares.{tree_of, leaf_tree}
 use Rattle.life_mc.specs.declared.line.Line.{Line}
 use Rattle.life_mc.specs.declared.line.Line.TheVariants.{Leaf, Quad}
@@ -15,6 +14,7 @@ use Rattle.life_canon.specs.Needs.{SomeOfLine}
 use Rattle.life_canon.proofs.Leaves.{tree_at-depth}
 use Rattle.life_canon.proofs.RoomLists.{Among, among-left, among-right}
 use Rattle.life_canon.proofs.RoomRoots.{parts, parts-have, parts-few}
+use Rattle.life_mc.proofs.LinesTaken.{squares_taken}
 
 -- the squares of a line behind these
 abbrev pub squares_in : List Line → Option Line → List Tree
@@ -39,18 +39,13 @@ ends-same [] None x e = cc
 ends-same [] (Some y) x e = let same : y ≡ x = cc in ap Some same
 ends-same (z ∷ xs) o x e = ends-same xs o x (let tails : xs ++ cons_option o [] ≡ xs ++ x ∷ [] = cc in tails)
 
--- the squares of the lines so far, with that of one line more
-squares-taken : (before : List (List ℕ)) (line : List ℕ) → squares_of (before ++ line ∷ []) ≡ squares_of before ++ cons_option (square_behind before line) []
-squares-taken [] line = refl
-squares-taken (header ∷ before) line = filter_map-append square_on before (line ∷ [])
-
 pub nodes-have : (before b behind : List (List ℕ)) (line : List ℕ) (square : Line) (t : Tree)
     → squares_of ((before ++ b) ++ line ∷ []) ≡ squares_of (before ++ b) ++ square ∷ []
     → SomeOfLine (λ u. u ≡ t) (squares_of (before ++ b)) square → Among (nodes before (b ++ line ∷ behind)) t
 nodes-have before [] behind line square t e some =
     let none : before ++ [] ≡ before = append-nil before in
     let taken : squares_of before ++ cons_option (square_behind before line) [] ≡ squares_of before ++ square ∷ [] =
-    sym (squares-taken before line) ∙ subst (λ (bs : List (List ℕ)). squares_of (bs ++ line ∷ []) ≡ squares_of bs ++ square ∷ []) none e in
+    sym (squares_taken before line) ∙ subst (λ (bs : List (List ℕ)). squares_of (bs ++ line ∷ []) ≡ squares_of bs ++ square ∷ []) none e in
     let is = ends-same (squares_of before) (square_behind before line) square taken in
     among-left (squares_in (squares_of before) (square_behind before line)) (nodes (before ++ line ∷ []) behind) t
     (subst (λ (o : Option Line). Among (squares_in (squares_of before) o) t) (sym is)

@@ -1,9 +1,8 @@
 -- The squares of a plane that has few different blocks of cells are few.
-use Rattle.std.proofs.Common.{◌≡◌, ℕ, ◌+◌, ◌*◌, ◌^◌, ◌<◌, ◌≤◌, Bool, true, false, ◌&&◌, List, map, refl, ap, sym, ◌∙◌, subst, arith, ◌⊎◌, inl, inr, ℤ, pos, ◌+ℤ◌}
+use Rattle.std.proofs.Common.{◌≡◌, ℕ, ◌+◌, ◌*◌, ◌^◌, ◌<◌, ◌≤◌, Bool, true, false, ◌&&◌, List, map, refl, ap, sym, ◌∙◌, subst, arith, ◌⊎◌, inl, inr, ℤ, pos}
 use Rattle.std.specs.Prelude.{◌==◌, ◌-ℤ◌, Contains}
 use Rattle.std.proofs.lemmas.Bool.Decides.{nat_tests}
 use Rattle.std.proofs.lemmas.Bool.{cases_lt}
-use Rattle.std.proofs.lemmas.Int.{ints}
 use Rattle.std.proofs.lemmas.Nat.{pow_below}
 use Rattle.std.proofs.Math.Nat.{add-sub_cancel}
 use Rattle.life_base.specs.declared.cell.TheConstants.{MAX_LEVEL}
@@ -14,9 +13,9 @@ use Rattle.life_strip.specs.Given.{by_columns}
 use Rattle.life_strip.specs.Needed.{SomeSquare}
 use Rattle.life_canon.specs.Universe.{square}
 use Rattle.life_canon.proofs.Planes.{full-depth}
-use Rattle.life_canon.proofs.RoomLists.{contains-map}
 use Rattle.life_canon.proofs.TreeWords.{HasDepth, point_depth, quad_depth}
-use Rattle.life_canon.proofs.Trees.{depth_is, pow_suc, square-depth, state_at-square, state_at-nw, state_at-ne, state_at-sw, state_at-se, trees_equal}
+use Rattle.life_canon.proofs.Trees.{depth_is, square-depth, state_at-square, state_at-nw, state_at-ne, state_at-sw, state_at-se, trees_equal}
+use Rattle.life_base.proofs.Basics.{double, contains-map, offset_plus}
 
 -- ---- a square that isn't blank has a nonzero cell
 
@@ -45,7 +44,7 @@ some_cell (point_depth {state = s}) h =
     }
 some_cell (quad_depth {k = k} {nw = a} {ne = b} {sw = c} {se = d} p q r s) h =
     let is : depth a ≡ k = depth_is p in
-    let two = pow_suc k in
+    let two = double k in
     elim (one_of_four (is_blank_tree a) (is_blank_tree b) (is_blank_tree c) (is_blank_tree d) h) [
       | inl e ↦
           let z = some_cell p e in
@@ -99,9 +98,6 @@ low_level level column h = elim (cases_lt MAX_LEVEL level) [
   | inr le ↦ le
 ]
 
-moved : (e : ℤ) (a i : ℕ) → (pos a -ℤ e) +ℤ pos i ≡ pos (a + i) -ℤ e
-moved e a i = omega (arith, ints)
-
 -- each square of the plane that isn't blank is that of one of the blocks
 pub square-of-block : (f : ℤ → ℤ → ℕ) (blocks : List Block) (t : Tree) (rows : ℕ) → AreAllBlocks MAX_LEVEL f blocks → is_blank_tree t ≡ false
     → SomeSquare (λ u. u ≡ t) rows (by_columns f) → Contains (map (block_tree f) blocks) t
@@ -119,5 +115,5 @@ square-of-block f blocks t rows all some s =
     trees_equal full (square-depth f k (pos (found.column * m) -ℤ e) (pos (s.row * m) -ℤ e))
     (λ i j li lj. s.cells i j li lj ∙ found.same i j li lj
     ∙ sym (state_at-square f k (pos (found.column * m) -ℤ e) (pos (s.row * m) -ℤ e) i j li lj
-    ∙ (λ x. f (moved e (found.column * m) i x) (moved e (s.row * m) j x)))) in
+    ∙ (λ x. f (offset_plus e (found.column * m) i x) (offset_plus e (s.row * m) j x)))) in
     subst (Contains (map (block_tree f) blocks)) (sym same ∙ s.property) (contains-map (block_tree f) blocks there found.one)

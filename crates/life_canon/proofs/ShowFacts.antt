@@ -17,18 +17,20 @@ use Rattle.life_canon.specs.Store.{content, IsRead, universe_in}
 use Rattle.life_canon.specs.Texts.{IsBoxOf, AreOrdered, IsShown, box_text, show_text}
 use Rattle.life_canon.specs.declared.pattern.Pattern.{Pattern}
 use Rattle.life_canon.proofs.TreeWords.{HasDepth}
-use Rattle.life_canon.proofs.Trees.{is_blank-blank, state_at-blank, pow_suc}
+use Rattle.life_canon.proofs.Trees.{is_blank-blank}
 use Rattle.life_canon.proofs.Planes.{full-depth, tree_cell-outside}
 use Rattle.life_canon.proofs.Canonical.{same-canonical}
 use Rattle.life_canon.proofs.CellFacts.{inside}
 use Rattle.life_canon.proofs.CallFacts.{cells-read, root-cells}
 use Rattle.life_canon.proofs.Fits.{read-same}
+use Rattle.life_base.proofs.Basics.{double}
+use Rattle.life_base.proofs.Squares.{state_at-blank}
 
 -- ---- the sides of a box of the plane
 
 within-bounds : (k : ℕ) (x : ℤ) → k ≤ 61 → IsWithin (suc k) x → (neg_ℤ (pos (2 ^ 61)) ≤ℤ x) × (x <ℤ pos (2 ^ 61))
 unfolding corner
-within-bounds k x le h = bounds (2 ^ k) (2 ^ 61) (2 ^ suc k) (pow_mono le) (pow_suc k) h.0 h.1
+within-bounds k x le h = bounds (2 ^ k) (2 ^ 61) (2 ^ suc k) (pow_mono le) (double k) h.0 h.1
   where
     bounds : (m n w : ℕ) → m ≤ n → w ≡ m + m → neg_ℤ (pos m) ≤ℤ x → x <ℤ (neg_ℤ (pos m) +ℤ pos w) → (neg_ℤ (pos n) ≤ℤ x) × (x <ℤ pos n)
     bounds m n w le e low high = (omega (arith, ints), omega (arith, ints))

@@ -13,15 +13,7 @@ use Rattle.life_canon.specs.Calls.{ReadsInto, Stores}
 use Rattle.life_canon.specs.Feeding.{RefusesFront}
 use Rattle.life_canon.specs.Running.{ReadsSource}
 use Rattle.life_canon.proofs.RunFacts.{front-kind, full-not}
-
--- the refusal that is handed on
-pub error-is : {T E : Type 0} {e : E} (r : Result T E) → IsErrAnd r (λ f. f ≡ e) → r ≡ Err e
-error-is (Ok x) h = absurd h
-error-is (Err f) h = ap Err h
-
--- the same refusal of another call
-pub err_again : {T U E : Type 0} {x y : E} → ◌≡◌ {A = Result T E} (Err x) (Err y) → ◌≡◌ {A = Result U E} (Err x) (Err y)
-err_again {x = x} {y = y} e = let same : x ≡ y = cc in ap Err same
+use Rattle.life_base.proofs.Results.{err_again}
 
 -- want of memory is no want of room
 apart : {fault : Fault} → fault ≡ fault_of Memory → fault ≡ fault_of Full → ⊥

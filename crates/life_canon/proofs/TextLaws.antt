@@ -1,11 +1,12 @@
 -- The laws of canonical texts and of refusals.
-use Rattle.std.proofs.Common.{◌≡◌, ℕ, zero, suc, ◌+◌, ◌-◌, ◌*◌, ◌^◌, ◌<◌, ◌≤◌, Bool, true, false, List, [], ◌∷◌, ◌++◌, length, refl, ap, sym, subst, arith, lit≤, ◌⊎◌, inl, inr, length-append, Option, Some}
+use Rattle.std.proofs.Common.{◌≡◌, ℕ, zero, suc, ◌+◌, ◌-◌, ◌*◌, ◌^◌, ◌<◌, ◌≤◌, Bool, true, false, List, [], ◌∷◌, ◌++◌, length, refl, ap, sym, subst, arith, lit≤, ◌⊎◌, inl, inr, length-append, Some}
 use Rattle.std.specs.Prelude.{MatchBool}
 use Rattle.std.proofs.lemmas.Bool.Decides.{nat_tests}
 use Rattle.life_base.specs.Text.{lines_of}
 use Rattle.life_base.specs.Tree.{Tree, quad}
 use Rattle.life_base.specs.declared.kind.Kind.{Kind}
 use Rattle.life_base.proofs.Refusals.{one_refusal}
+use Rattle.life_base.proofs.Basics.{some_same}
 use Rattle.life_mc.specs.Reading.{IsMacrocell, broken}
 use Rattle.life_mc.specs.Writing.{mc_text}
 use Rattle.life_mc.proofs.Accepted.{files_are_valid}
@@ -21,9 +22,10 @@ use Rattle.life_canon.proofs.Trees.{bool_cases, outside-by}
 use Rattle.life_canon.proofs.ListFacts.{with_new-known, with_new-fresh}
 use Rattle.life_canon.proofs.Walk.{walk-small, walk-big}
 use Rattle.life_canon.proofs.Content.{length-lines_for}
-use Rattle.life_canon.proofs.Canonical.{whole-is, canonical-valid, canonical-same, same-canonical, same-sym, same-trans, canonical-wider, least-high}
+use Rattle.life_canon.proofs.Canonical.{whole-is, canonical-valid, canonical-same, same-canonical, canonical-wider, least-high}
 use Rattle.life_canon.proofs.Least.{least, has-places}
 use Rattle.life_canon.proofs.Formats.{files_say_one, reads-plane}
+use Rattle.life_canon.proofs.Sameness.{same-sym, same-trans}
 
 -- ---- how many lines a canonical file has
 
@@ -203,9 +205,6 @@ wider_plane_keeps_texts = λ top wider u high le most h.
     room_of n l = through (four_to n) (four_to 62) (10 ^ 64) (four_to-more n 62 l) (lit≤ tt)
 
 -- ---- refusals
-
-some_same : (a b : Kind) (o : Option Kind) → o ≡ Some a → o ≡ Some b → a ≡ b
-some_same a b o h k = cc
 
 breaks-once : (top : ℕ) (front : List (List ℕ)) (line : List ℕ) (a b : Kind) → Breaks top front line a → Breaks top front line b → a ≡ b
 breaks-once top front line a b = by (is_macrocell (front ++ line ∷ []))

@@ -21,7 +21,7 @@ use Rattle.life_rle.proofs.FrontLaws.{fronts_of_fronts, fronts_are_files}
 use Rattle.life_canon.specs.Files.{Says, as_macrocell, as_rle, Accepts, Breaks, RefusesLines, missing, is_macrocell}
 use Rattle.life_canon.specs.Universe.{Universe, macrocell_universe, rle_universe}
 use Rattle.life_canon.proofs.Formats.{macrocell-first, rle-first}
-pub use Rattle.life_canon.proofs.Trees.{true_false as not-both}
+use Rattle.life_base.proofs.Basics.{true_false}
 
 -- ---- fronts
 
@@ -82,7 +82,7 @@ for_good top front line kind more b a = by (is_macrocell (front ++ line ∷ []))
         → (u : Universe) → Says top ((front ++ line ∷ []) ++ more) u → ⊥
     by true e h _ (as_macrocell file are) = at_once file are h
     by true e h _ (as_rle file is) = rle-first top _ file is (same-format front line more ∙ e)
-    by false e h _ (as_macrocell file are) = not-both _ (macrocell-first top _ file are) (same-format front line more ∙ e)
+    by false e h _ (as_macrocell file are) = true_false _ (macrocell-first top _ file are) (same-format front line more ∙ e)
     by false e h _ (as_rle file is) = (broken_for_good top front line kind h).2 more file is
 
 -- so it is the place of the refusal
@@ -146,7 +146,7 @@ end-refused top lines fault h format kind at = record {
 }
   where
     by : (u : Universe) → Says top lines u → ⊥
-    by _ (as_macrocell file are) = not-both _ (macrocell-first top lines file are) format
+    by _ (as_macrocell file are) = true_false _ (macrocell-first top lines file are) format
     by _ (as_rle file is) = (decided top lines).1 (file, is) h
 
     lacks : missing lines ≡ Some fault.kind

@@ -15,13 +15,14 @@ use Rattle.life_canon.specs.Universe.{is_life, least_level}
 use Rattle.life_canon.specs.Listing.{is_small, is_in, with_new, with_all, walk, place, number_of, line_of, lines_for, quad_line, rows_of, listed}
 use Rattle.life_canon.specs.Closed.{IsClosed}
 use Rattle.life_canon.specs.Walking.{TakesNodeLine, BreaksOff, TakesOn, TakesWalk, MayWalk, Walked, BreaksIn}
-use Rattle.life_canon.proofs.Trees.{bool_cases, true_false}
+use Rattle.life_canon.proofs.Trees.{bool_cases}
 use Rattle.life_canon.proofs.ListFacts.{with_all-from, with_all-append, with_new-known, with_new-fresh, place-append, place-last}
 use Rattle.life_canon.proofs.Walk.{walk-level, walk-big, walked, none-closed, IsKnown, IsWalked}
 use Rattle.life_canon.proofs.Keys.{place-keys, in-keys, number-place_of, skip, step, least-step, still-closed}
 use Rattle.std.proofs.lemmas.Option.{slice_get_within, get_or_from_slice_get}
 use Rattle.life_canon.proofs.Content.{not_small, number-blank, number-place, least-one}
 use Rattle.life_canon.proofs.Planes.{full-depth}
+use Rattle.life_base.proofs.Basics.{true_false}
 
 -- ---- lists that begin with another
 

@@ -6,7 +6,8 @@ use Rattle.life_canon.specs.Laws.{SquaresAreCentred, CentredSquaresTellCells}
 use Rattle.life_canon.specs.Universe.{square, centred, corner, IsBlankOutside}
 use Rattle.life_quad.specs.Turning.{differ, one_of_four, side_of, end_of, turned_tree}
 use Rattle.life_forms.specs.Turns.{Turn, counted, column_of, row_of}
-use Rattle.life_forms.proofs.TurnFacts.{backwards-is, pow_suc, image_cells, image-outside}
+use Rattle.life_forms.proofs.TurnFacts.{backwards-is, image_cells, image-outside}
+use Rattle.life_base.proofs.Basics.{double}
 
 -- a coordinate, or the one so many further
 abbrev stepped : Bool → ℕ → ℤ → ℤ
@@ -21,8 +22,8 @@ begin true k x = neg_ℤ (x +ℤ pos (2 ^ k))
 -- half a side further, in the image and before
 axis : (c e : Bool) (n : ℕ) (x : ℤ) → stepped (differ c e) (2 ^ n) (begin c (suc n) x) ≡ begin c n (stepped e (2 ^ n) x)
 axis false e n x = refl
-axis true false n x = let p = pow_suc n in omega (arith, ints)
-axis true true n x = let p = pow_suc n in omega (arith, ints)
+axis true false n x = let p = double n in omega (arith, ints)
+axis true true n x = let p = double n in omega (arith, ints)
 
 single : (c : Bool) (x : ℤ) → begin c 0 x ≡ counted c x
 single false x = refl
@@ -88,7 +89,7 @@ begin-corner : (b : Bool) (k : ℕ) → 1 ≤ k → begin b k (corner k) ≡ cor
 unfolding corner
 begin-corner b zero high = absurd (omega arith)
 begin-corner false (suc k) high = refl
-begin-corner true (suc k) high = let p = pow_suc k in omega (arith, ints)
+begin-corner true (suc k) high = let p = double k in omega (arith, ints)
 
 line-itself : (e : Bool) (x : ℤ) → line e x x ≡ x
 line-itself false x = refl

@@ -3,12 +3,13 @@ use Rattle.std.proofs.Common.{◌≡◌, ◌⊎◌, inl, inr, ℕ, ◌≤◌, Bo
 use Rattle.life_canon.specs.Lesser.{IsUpTo}
 use Rattle.life_canon.specs.Universe.{Universe, IsSame, IsOnPlane}
 use Rattle.life_canon.proofs.OrderFacts.{up-to-itself, up-to-on, up-to-both, either-way}
+use Rattle.life_canon.proofs.Sameness.{same-sym}
 use Rattle.life_forms.specs.Forms.{Tells}
 use Rattle.life_forms.specs.Turns.{Turn, turn_of, image, after, back}
 use Rattle.life_forms.specs.Forms.{IsShift, IsTurned, IsTurnedShift}
 use Rattle.life_forms.specs.Laws.{TurnedFormsExist, TurnedFormsAreOnPlane, TurnedTextsTellTurns, TurnedFormsAreFixed}
 use Rattle.life_forms.proofs.TurnFacts.{turns-are-closed, turns-have-inverses, images-keep-shifts, images-stay-on-plane}
-use Rattle.life_forms.proofs.ShiftFacts.{same-refl, same-sym, still, shift-sym, shift-trans, moved-forms-exist, moved-on-plane, forms-of-shifts, shift-of-forms}
+use Rattle.life_forms.proofs.ShiftFacts.{same-refl, still, shift-sym, shift-trans, moved-forms-exist, moved-on-plane, forms-of-shifts, shift-of-forms}
 
 -- ---- a least one of eight
 
@@ -64,7 +65,7 @@ turned-on-plane top text some u v plane turned = moved-on-plane top (image turne
 
 -- ---- shifts behind turns
 
-turned-shift-sym : (u v : Universe) → IsTurnedShift u v → IsTurnedShift v u
+pub turned-shift-sym : (u v : Universe) → IsTurnedShift u v → IsTurnedShift v u
 turned-shift-sym u v s = record {
   turn = back s.turn;
   shift = shift-trans _ _ _ (images-keep-shifts (back s.turn) _ _ (shift-sym _ _ s.shift)) (still _ _ (turns-have-inverses s.turn u));

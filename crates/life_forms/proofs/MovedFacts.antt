@@ -1,12 +1,14 @@
 -- The plane of the moved cells of a square, and its root.
 use Rattle.std.proofs.Common.{◌≡◌, ◌≢◌, ◌⊎◌, ℕ, zero, suc, ◌^◌, ◌<◌, ◌≤◌, true, inl, inr, refl, sym, ◌∙◌, ap, subst, ℤ, pos, neg_ℤ, ◌+ℤ◌, ◌≤ℤ◌, ◌<ℤ◌, arith, pow_mono}
 use Rattle.std.proofs.lemmas.Int.{ints}
+use Rattle.std.proofs.lemmas.Bool.{cases_lt}
 use Rattle.life_base.specs.Tree.{Tree, depth, blank, tree_cell, is_blank_tree, IsFull}
 use Rattle.life_base.specs.declared.bounds.Bounds.{Bounds}
 use Rattle.life_base.specs.declared.cell.TheConstants.{MAX_LEVEL}
 use Rattle.life_base.specs.declared.rule.Rule.{Rule}
 use Rattle.life_mc.specs.Macrocell.{largest_state}
-use Rattle.life_base.proofs.Squares.{depth-blank, full-blank, is_blank-blank}
+use Rattle.life_base.proofs.Squares.{depth-blank, full-blank, is_blank-blank, same_quads}
+use Rattle.life_base.proofs.Basics.{halves}
 use Rattle.life_quad.specs.Cells as square
 use Rattle.life_quad.specs.Moves.{trimmed}
 use Rattle.life_quad.specs.Refused.{SomePart}
@@ -14,20 +16,21 @@ use Rattle.life_quad.specs.Store.{Nodes}
 use Rattle.life_quad.specs.declared.id.Id.{Id}
 use Rattle.life_quad.proofs.LawLemmas.{cells_lie_inside, trimmed_by_cells, trimming_stops}
 use Rattle.life_block.specs.Needed.{square_from}
-use Rattle.life_block.proofs.NeedLemmas.{depth-square, quads}
+use Rattle.life_block.proofs.NeedLemmas.{depth-square}
+use Rattle.life_block.proofs.PlaneLemmas.{full-square}
 use Rattle.life_canon.specs.Laws.{SquaresAreCentred}
 use Rattle.life_canon.specs.Store.{IsKnown, IsTrimmed, content}
 use Rattle.life_canon.specs.Universe.{Universe, IsSame, IsBlankOutside, centred, corner, least_level, square_universe, whole}
 use Rattle.life_canon.specs.Universe as canon
 use Rattle.life_slide.specs.Pieces.{cells_from, plane_from, root_from}
-use Rattle.life_slide.proofs.MovedLemmas.{cell-below, centre-cells, full-square, trim-reach}
-use Rattle.life_slide.proofs.PlaneLemmas.{side}
+use Rattle.life_slide.proofs.MovedLemmas.{cell-below, centre-cells, trim-reach}
 use Rattle.life_forms.specs.Cells.{IsWay}
 use Rattle.life_forms.specs.Forms.{IsInPlace, IsMoved, at_edge, at_zero}
 use Rattle.life_forms.specs.Needed.{IsMovedRoot, SomeOfMovedForm, SomeOfMovedRoot}
 use Rattle.life_forms.proofs.PatternFacts.{plane-moved, plane-trimmed, shift-up-to}
 use Rattle.life_forms.proofs.PlaneFacts.{blank-cell, box-of-square, form-outside, high-end, moved-same, outside-blank, way-moved, way-of-box}
 use Rattle.life_forms.proofs.ShiftFacts.{forms-of-shifts, same-refl, shifted, still}
+use Rattle.life_canon.proofs.Sameness.{same-is_one}
 
 -- ---- the square of the whole plane
 
@@ -36,7 +39,7 @@ square-same : (f : ℤ → ℤ → ℕ) (k : ℕ) (x y : ℤ) → square_from f 
 unfolding square_from canon.square
 square-same f zero x y = refl
 square-same f (suc k) x y =
-    quads _ _ _ _ _ _ _ _ (square-same f k x y) (square-same f k _ y) (square-same f k x _) (square-same f k _ _)
+    same_quads (square-same f k x y) (square-same f k _ y) (square-same f k x _) (square-same f k _ _)
 
 centred-is : (f : ℤ → ℤ → ℕ) → square_from f 62 (neg_ℤ (pos (2 ^ 61))) (neg_ℤ (pos (2 ^ 61))) ≡ centred f MAX_LEVEL
 unfolding centred corner
@@ -141,14 +144,11 @@ far-end : (low high : ℤ) → IsInPlace MAX_LEVEL low high → (low +ℤ pos (2
 far-end low high (at_zero first less) long = let e = high-end in absurd (omega (arith, ints, e, first, less, long))
 far-end low high (at_edge before end) long = let e = high-end in omega (arith, ints, e, end)
 
-less-or-not : (a b : ℕ) → (a < b) ⊎ (b ≤ a)
-less-or-not a b = grind arith
-
 -- a box that doesn't
 module _ (t : Tree) (box : Bounds) (least : square.IsLeastBox t box)
     (long : ((box.left +ℤ pos (2 ^ 61)) ≤ℤ box.right) ⊎ ((box.top +ℤ pos (2 ^ 61)) ≤ℤ box.bottom)) (full : IsFull t) (low : depth t ≤ MAX_LEVEL) where
   wide-level : (n : ℕ) → n ≤ 62 → 2 ^ 61 < 2 ^ n → n ≡ 62
-  wide-level n le more = by (less-or-not n 62)
+  wide-level n le more = by (cases_lt n 62)
     where
       by : (n < 62) ⊎ (62 ≤ n) → n ≡ 62
       by (inl l) = let short : 2 ^ n ≤ 2 ^ 61 = pow_mono {i = n} {j = 61} (omega (arith, l)) in absurd (omega (arith, short, more))
@@ -158,12 +158,12 @@ module _ (t : Tree) (box : Bounds) (least : square.IsLeastBox t box)
   beyond high (inl l) =
       let w = (cells_lie_inside t _ _ least.at_left.1).0 in
       let e = (cells_lie_inside t _ _ least.at_right.1).1 in
-      let twice = side (depth t) high in
+      let twice = halves (depth t) high in
       omega (arith, ints, l, w, e, twice)
   beyond high (inr l) =
       let w = (cells_lie_inside t _ _ least.at_top.1).2 in
       let e = (cells_lie_inside t _ _ least.at_bottom.1).3 in
-      let twice = side (depth t) high in
+      let twice = halves (depth t) high in
       omega (arith, ints, l, w, e, twice)
 
   -- the square is that of the whole plane
@@ -246,10 +246,6 @@ module _ (t : Tree) (full : IsFull t) (low : depth t ≤ MAX_LEVEL) (rule : Rule
 
 -- ---- one root
 
--- patterns that are the same are one
-one-universe : (v w : Universe) → IsSame v w → v ≡ w
-one-universe v w same = λ i. record { rule = same.rule i; generation = same.generation i; cell = λ x y. same.cells x y i }
-
 -- each moved form of a square has the root that is found
 pub root-of-form : (t : Tree) → depth t ≤ MAX_LEVEL → (rule : Rule) (generation : ℕ) (root : Tree)
     → IsMovedRoot (square_universe rule generation t) (least_level rule) root → (v : Universe) → IsMoved MAX_LEVEL (square_universe rule generation t) v
@@ -257,7 +253,7 @@ pub root-of-form : (t : Tree) → depth t ≤ MAX_LEVEL → (rule : Rule) (gener
 unfolding whole
 root-of-form t low rule generation root is v moved =
     let u = square_universe rule generation t in
-    let same = one-universe is.form v (forms-of-shifts MAX_LEVEL u u is.form v (outside-blank t low) is.moved moved (still u u (same-refl u))) in
+    let same = same-is_one is.form v (forms-of-shifts MAX_LEVEL u u is.form v (outside-blank t low) is.moved moved (still u u (same-refl u))) in
     is.square ∙ (λ i. trimmed (centred (same i).cell MAX_LEVEL) (least_level rule))
     ∙ ap (λ r. trimmed (centred v.cell MAX_LEVEL) (least_level r)) moved.shift.rule
 

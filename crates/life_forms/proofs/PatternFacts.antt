@@ -16,8 +16,9 @@ use Rattle.life_canon.specs.Store.{IsKnown, IsTrimmed, content}
 use Rattle.life_canon.specs.Universe.{Universe, IsSame, square, centred, corner, least_level, square_universe}
 pub use Rattle.life_canon.proofs.Fits.{least-one, root-high}
 use Rattle.life_forms.specs.Forms.{IsShift, IsMoved}
-use Rattle.life_forms.proofs.ShiftFacts.{same-sym, still, shift-trans, there-and-back}
+use Rattle.life_forms.proofs.ShiftFacts.{still, shift-trans, there-and-back}
 use Rattle.life_forms.proofs.PlaneFacts.{moved-same}
+use Rattle.life_canon.proofs.Sameness.{same-sym}
 
 -- ---- states
 

@@ -13,7 +13,9 @@ use Rattle.life_canon.specs.Texts.{IsLeastBox, IsOrdered, AreCellsOf}
 use Rattle.life_canon.specs.Universe.{Universe, IsSame, IsWithin, IsBlankOutside, corner, square_universe}
 use Rattle.life_forms.specs.Forms.{IsInPlace, edge, IsMoved}
 use Rattle.life_forms.specs.Cells.{IsWay}
-use Rattle.life_forms.proofs.ShiftFacts.{plus-zero, zero-unless, box-shifted, shift-sym, shift-of, shifted, still, same-sym, shift-trans, in-place-at, moved-seen, has-box, one-box, there-and-back}
+use Rattle.life_forms.proofs.ShiftFacts.{box-shifted, shift-sym, shift-of, shifted, still, shift-trans, in-place-at, moved-seen, has-box, one-box, there-and-back}
+use Rattle.life_canon.proofs.Sameness.{same-sym}
+use Rattle.life_base.proofs.Basics.{plus_zero, zero_unless}
 
 -- the plane's ends
 pub low-end : corner MAX_LEVEL ≡ neg_ℤ (pos (2 ^ 61))
@@ -35,7 +37,7 @@ lies-within t low x y some =
     ((omega (arith, ints), omega (arith, ints)), (omega (arith, ints), omega (arith, ints)))
 
 pub outside-blank : (t : Tree) → depth t ≤ MAX_LEVEL → IsBlankOutside MAX_LEVEL (tree_cell t)
-outside-blank t low x y out = zero-unless _ (λ some. out (lies-within t low x y some))
+outside-blank t low x y out = zero_unless _ (λ some. out (lies-within t low x y some))
 
 -- ---- blank squares
 
@@ -122,7 +124,7 @@ moved-same top u v w moved same = record {
   shift = shift-trans u v w moved.shift (still v w same);
   form = λ box least.
       let place = moved.form _ (box-shifted w v (still w v (same-sym v w same)) box least) in
-      (in-place-at top _ _ _ _ (plus-zero _) (plus-zero _) place.0, in-place-at top _ _ _ _ (plus-zero _) (plus-zero _) place.1);
+      (in-place-at top _ _ _ _ (plus_zero _) (plus_zero _) place.0, in-place-at top _ _ _ _ (plus_zero _) (plus_zero _) place.1);
 }
 
 -- a form of a square of the plane is on the plane
@@ -131,7 +133,7 @@ pub form-outside : (t : Tree) (rule : Rule) (generation : ℕ) (v : Universe) �
 form-outside t rule generation v low moved x y out =
     let u = square_universe rule generation t in
     let before = outside-blank t low in
-    zero-unless _ (λ some. out (moved-seen MAX_LEVEL u v moved before (has-box MAX_LEVEL u before) x y some))
+    zero_unless _ (λ some. out (moved-seen MAX_LEVEL u v moved before (has-box MAX_LEVEL u before) x y some))
 
 -- what the code computes with is the number
 pub place-read : (low high r : ℤ) → IsOrdered low high → SFits w64 r → IsInPlace MAX_LEVEL (to_z w64 (of_z w64 low) +ℤ r) (to_z w64 (of_z w64 high) +ℤ r)

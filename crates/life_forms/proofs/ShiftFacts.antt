@@ -11,22 +11,14 @@ use Rattle.life_mc.specs.Macrocell.{largest_state}
 use Rattle.life_forms.specs.Forms.{Tells}
 use Rattle.life_forms.specs.Forms.{IsShift, edge, IsInPlace, at_zero, at_edge, IsMovedForm, IsMoved}
 use Rattle.life_forms.specs.Laws.{MovedFormsExist, MovedFormsAreOnPlane, MovedFormsTellShifts, MovedFormsAreFixed, MovedTextsTellShifts}
+use Rattle.life_base.proofs.Basics.{plus_zero, zero_unless}
 
 -- ---- the same
 
 pub same-refl : (u : Universe) → IsSame u u
 same-refl u = record { rule = refl; generation = refl; cells = λ x y. refl }
 
-pub same-sym : (u v : Universe) → IsSame u v → IsSame v u
-same-sym u v s = record { rule = sym s.rule; generation = sym s.generation; cells = λ x y. sym (s.cells x y) }
-
-pub same-trans : (u v w : Universe) → IsSame u v → IsSame v w → IsSame u w
-same-trans u v w s t = record { rule = s.rule ∙ t.rule; generation = s.generation ∙ t.generation; cells = λ x y. s.cells x y ∙ t.cells x y }
-
 -- ---- shifts
-
-pub plus-zero : (x : ℤ) → x +ℤ pos 0 ≡ x
-plus-zero x = omega (arith, ints)
 
 pub there-and-back : (x a : ℤ) → (x +ℤ neg_ℤ a) +ℤ a ≡ x
 there-and-back x a = omega (arith, ints)
@@ -41,7 +33,7 @@ still u v s = record {
   generation = s.generation;
   columns = pos 0;
   rows = pos 0;
-  cells = λ x y. ap₂ v.cell (plus-zero x) (plus-zero y) ∙ sym (s.cells x y);
+  cells = λ x y. ap₂ v.cell (plus_zero x) (plus_zero y) ∙ sym (s.cells x y);
 }
 
 unfoldable pub shift-sym : (u v : Universe) → IsShift u v → IsShift v u
@@ -433,14 +425,11 @@ moved-seen top u v moved outside (inr (box, least)) x y some =
       in-place-within top _ _ y place.1 (width-fits top _ _ s.rows sides.2 sides.3) inside.2 inside.3,
     )
 
-pub zero-unless : (n : ℕ) → (n ≢ 0 → ⊥) → n ≡ 0
-zero-unless n h = elim (cases_Bool (lives n)) [ inl e ↦ absurd (h (lives-some n e)) | inr e ↦ none-lives n e ]
-
 same-limit : (a b : Rule) (m n : ℕ) → a ≡ b → m ≡ n → n ≤ largest_state a → m ≤ largest_state b
 same-limit a b m n e f h = subst₂ (λ (r : Rule) (k : ℕ). k ≤ largest_state r) e (sym f) h
 
 moved-outside : (top : ℕ) (u v : Universe) → IsBlankOutside top u.cell → IsMoved top u v → IsBlankOutside top v.cell
-moved-outside top u v outside moved x y out = zero-unless _ (λ some. out (moved-seen top u v moved outside (has-box top u outside) x y some))
+moved-outside top u v outside moved x y out = zero_unless _ (λ some. out (moved-seen top u v moved outside (has-box top u outside) x y some))
 
 pub moved-on-plane : (top : ℕ) → MovedFormsAreOnPlane top
 moved-on-plane top u v plane moved =

@@ -1,12 +1,11 @@
 -- How many squares are needed, by those that a store holds.
 --
 -- A `Needs` says of a property that a square which is needed has it; so `Needs (λ u. u ≡ t)` says that t is needed.
-use Rattle.std.proofs.Common.{◌≡◌, ◌≢◌, inl, inr, ℕ, zero, suc, ◌<◌, ◌≤◌, true, false, true≢false, List, [], ◌∷◌, length, AllPairs, sym, ap, subst, ◌∙◌, arith}
+use Rattle.std.proofs.Common.{◌≡◌, ◌≢◌, inl, inr, ℕ, zero, suc, ◌<◌, ◌≤◌, false, true≢false, List, [], ◌∷◌, length, AllPairs, sym, ap, subst, ◌∙◌, arith}
 use Rattle.std.specs.Prelude.{All, Contains}
 use Rattle.std.proofs.lemmas.List.{length-map}
 use Rattle.std.proofs.lemmas.List.Elements.{All-contains, All-contains_itself}
 use Rattle.std.proofs.lemmas.List.Kept.{AllPairs-cons}
-use Rattle.std.proofs.lemmas.Bool.{and_parts}
 use Rattle.life_base.proofs.Squares.{is_blank-blank, quad_nw, quad_ne, quad_sw, quad_se, point≢quad}
 use Rattle.life_base.specs.Tree.{Tree, point, quad, depth, is_blank_tree}
 use Rattle.life_base.specs.declared.cell.TheConstants.{MAX_LEVEL}
@@ -21,13 +20,16 @@ use Rattle.life_canon.specs.Store.{IsKnown}
 use Rattle.life_canon.specs.Universe.{Universe, least_level, square_universe}
 use Rattle.life_canon.proofs.RoomCount.{Found, found-as, find-part}
 use Rattle.life_canon.proofs.RoomLists.{Among, among-contains, contains-among, distinct-pairs, pigeons}
+use Rattle.life_canon.proofs.Sameness.{same-sym}
+use Rattle.life_canon.proofs.Known.{part-blank}
 use Rattle.life_forms.specs.Forms.{IsShift, IsTurnedShift}
 use Rattle.life_forms.specs.Laws.{ShiftsHaveOneSize, TurnsHaveOneSize}
-use Rattle.life_forms.specs.Turns.{Turn, after, back, image}
+use Rattle.life_forms.specs.Turns.{Turn, after, image}
 use Rattle.life_forms.specs.Needed.{HasLargerForm, IsMovedRoot, LacksForMoved, NeedsMore, SomeOfMovedForm}
 use Rattle.life_forms.proofs.MovedFacts.{root-of-form}
-use Rattle.life_forms.proofs.ShiftFacts.{same-sym, shift-sym, shift-trans, still}
-use Rattle.life_forms.proofs.TurnFacts.{images-keep-shifts, turns-are-closed, turns-have-inverses}
+use Rattle.life_forms.proofs.ShiftFacts.{shift-sym, shift-trans, still}
+use Rattle.life_forms.proofs.TurnFacts.{images-keep-shifts, turns-are-closed}
+use Rattle.life_forms.proofs.LeastFacts.{turned-shift-sym}
 
 -- what `len` of a store says: it holds each square once, and none that is blank
 pub record HoldsOnce (store : Nodes) : Type 0 where
@@ -95,20 +97,6 @@ enough Needs store shared all more =
 
 -- ---- parts of squares that a store knows
 
-blank-part : (t u : Tree) → is_blank_tree t ≡ true → SomePart (λ v. v ≡ u) t → is_blank_tree u ≡ true
-blank-part (point s) u blank p = absurd p
-blank-part (quad a b c d) u blank (inl e) = sym (ap is_blank_tree e) ∙ blank
-blank-part (quad a b c d) u blank (inr rest) =
-    let three = and_parts _ _ blank in
-    let two = and_parts _ _ three.0 in
-    let one = and_parts _ _ two.0 in
-    elim rest [
-      | inl p ↦ blank-part a u one.0 p
-      | inr (inl p) ↦ blank-part b u one.1 p
-      | inr (inr (inl p)) ↦ blank-part c u two.1 p
-      | inr (inr (inr p)) ↦ blank-part d u three.1 p
-    ]
-
 -- what `len` says of the squares of Ids
 abbrev pub HoldsKnown : Nodes → Type 0
 HoldsKnown store =
@@ -138,7 +126,7 @@ module _ (store : Nodes) (all : HoldsKnown store) (u : Tree) (live : is_blank_tr
       by : Names store id → Contains (held store) u
       by (the_state l e) = absurd (point≢quad (sym e ∙ is))
       by (the_blank k l i e) =
-          absurd (true≢false (sym (blank-part (quad a b c d) u (ap is_blank_tree (sym is ∙ e) ∙ is_blank-blank (suc k)) (inr rest)) ∙ live))
+          absurd (true≢false (sym (part-blank (quad a b c d) u (ap is_blank_tree (sym is ∙ e) ∙ is_blank-blank (suc k)) (inr rest)) ∙ live))
       by (the_node i n l le at node e) =
           let are = sym e ∙ is in
           elim rest [
@@ -196,12 +184,6 @@ images-of most u v s turn large =
     let there = shift-trans _ _ _ (still _ _ (same-sym _ _ (turns-are-closed s.turn turn u))) (images-keep-shifts turn _ _ s.shift) in
     (after s.turn turn, shifted-size most _ _ there large)
 
-turned-back : (u v : Universe) → IsTurnedShift u v → IsTurnedShift v u
-turned-back u v s = record {
-  turn = back s.turn;
-  shift = shift-trans _ _ _ (images-keep-shifts (back s.turn) _ _ (shift-sym _ _ s.shift)) (still _ _ (turns-have-inverses s.turn u));
-}
-
 pub turns-one-size : TurnsHaveOneSize
 turns-one-size most u v s =
-    (λ large. images-of most v u (turned-back u v s) large.0 large.1, λ large. images-of most u v s large.0 large.1)
+    (λ large. images-of most v u (turned-shift-sym u v s) large.0 large.1, λ large. images-of most u v s large.0 large.1)

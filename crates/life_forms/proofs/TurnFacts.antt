@@ -1,10 +1,11 @@
 -- The eight turns: their table, and what they do to shifts and to the plane.
-use Rattle.std.proofs.Common.{◌≡◌, ℕ, zero, suc, ◌+◌, ◌≤◌, ◌^◌, Bool, true, false, refl, ap₂, ◌∙◌, ℤ, pos, negsuc, neg_ℤ, ◌+ℤ◌, arith, Contains, lit<}
+use Rattle.std.proofs.Common.{◌≡◌, ℕ, zero, suc, ◌≤◌, Bool, true, false, refl, ap₂, ◌∙◌, ℤ, pos, negsuc, neg_ℤ, ◌+ℤ◌, arith, Contains, lit<}
 use Rattle.std.proofs.lemmas.Int.{ints}
 use Rattle.life_canon.specs.Universe.{Universe, IsBlankOutside, IsWithin, corner}
 use Rattle.life_forms.specs.Turns.{Turn, turn_of, turns, upright, backwards, counted, column_of, row_of, image, differ, after, back}
 use Rattle.life_forms.specs.Forms.{IsShift, edge}
 use Rattle.life_forms.specs.Laws.{TurnsAreEight, TurnsAreClosed, TurnsHaveInverses, ImagesStayOnPlane, ImagesKeepShifts}
+use Rattle.life_base.proofs.Basics.{double}
 
 pub backwards-twice : (x : ℤ) → backwards (backwards x) ≡ x
 backwards-twice (pos n) = refl
@@ -103,14 +104,11 @@ images-keep-shifts t u v s = shifts-kept t.exchange t.columns t.rows u v s
 
 -- ---- the plane
 
-pub pow_suc : (k : ℕ) → 2 ^ suc k ≡ 2 ^ k + 2 ^ k
-pow_suc k = omega arith
-
 -- the middle of the plane lies between -1 and 0
 pub middle : (top : ℕ) → 1 ≤ top → corner top +ℤ edge top ≡ pos 0
 unfolding corner
 middle zero h = absurd (omega arith)
-middle (suc k) h = let p = pow_suc k in omega (arith, ints)
+middle (suc k) h = let p = double k in omega (arith, ints)
 
 within-backwards : (top : ℕ) → 1 ≤ top → (x : ℤ) → IsWithin top (backwards x) → IsWithin top x
 within-backwards top h x w =

@@ -4,8 +4,8 @@ use Rattle.std.specs.Prelude.{codes, nat_le, nat_lt, ◌==◌, Option, Some, Non
 use Rattle.std.specs.List.{cons_option}
 use Rattle.std.specs.Result.{result_ok, result_err}
 use Rattle.std.proofs.lemmas.Bool.{leb-true}
-use Rattle.life_base.proofs.Numbers.{first, second}
-use Rattle.life_base.proofs.RuleValues.{rule_values}
+use Rattle.life_base.proofs.RuleValues.{rule_values, default_is_rule}
+use Rattle.life_base.proofs.Basics.{right_of_and, left_of_and}
 use Rattle.life_base.specs.Numbers.{u64_of}
 use Rattle.life_base.specs.Rules.{rule_of, default_rule, IsRule}
 use Rattle.life_base.specs.Text.{begins_with, is_blank, is_digit_text, is_too_long, is_whitespace, lines_of, trim, value_of}
@@ -38,9 +38,6 @@ last_rule (line ∷ lines) rule h = by (rule_on line) refl (λ r k. last_rule li
     by None e more = more rule h
     by (Some said) e more = more said (rule_said line said e)
 
-default_is_rule : IsRule default_rule
-default_is_rule = record { births = omega arith; survivals = omega arith; no_birth_on_zero = refl }
-
 rule_valid : (lines : List (List ℕ)) → IsRule (rule_in_force lines)
 rule_valid [] = default_is_rule
 rule_valid (header ∷ lines) = last_rule lines default_rule default_is_rule
@@ -50,15 +47,15 @@ rule_valid (header ∷ lines) = last_rule lines default_rule default_is_rule
 -- a generation line is neither blank nor tells a rule
 no_other : (line : List ℕ) → is_command 71 line ≡ true → (is_blank line ≡ false) × (is_command 82 line ≡ false)
 no_other [] h = cc
-no_other (a ∷ []) h = absurd (no (a == 35) (first _ _ h))
+no_other (a ∷ []) h = absurd (no (a == 35) (left_of_and _ _ h))
   where
     no : (v : Bool) → (v && false) ≡ true → ⊥
     no true e = cc
     no false e = cc
 no_other (a ∷ b ∷ rest) h =
-    let front : ((a == 35) && ((b == 71) && true)) ≡ true = first _ _ h in
-    let hash : a ≡ 35 = eqb-true a 35 (first _ _ front) in
-    let letter : b ≡ 71 = eqb-true b 71 (first _ _ (second (a == 35) _ front)) in (
+    let front : ((a == 35) && ((b == 71) && true)) ≡ true = left_of_and _ _ h in
+    let hash : a ≡ 35 = eqb-true a 35 (left_of_and _ _ front) in
+    let letter : b ≡ 71 = eqb-true b 71 (left_of_and _ _ (right_of_and (a == 35) _ front)) in (
       ap (λ n. is_whitespace n && is_blank (b ∷ rest)) hash,
       ap (λ n. ((n == 35) && ((b == 82) && true)) && is_blank (take 1 rest)) hash ∙ ap (λ n. ((n == 82) && true) && is_blank (take 1 rest)) letter,
     )

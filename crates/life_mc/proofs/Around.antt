@@ -11,11 +11,12 @@ use Rattle.std.proofs.lemmas.Bool.Decides.{nat_tests}
 use Rattle.std.proofs.Common.{arith}
 use Rattle.std.proofs.lemmas.Bool.{not-true}
 use Rattle.life_base.specs.Text.{is_whitespace, is_blank, begins_with, trim, trim_start, trim_end, words_of, onto_first, is_digit_text}
-use Rattle.life_base.proofs.Numbers.{first, second}
 use Rattle.life_base.proofs.NamesRead.{solid}
 use Rattle.life_mc.specs.Grammar.{Begins, IsCommand, Separates}
 use Rattle.life_mc.specs.Reading.{is_command, is_leaf_byte, square_on, square_of}
 use Rattle.life_base.proofs.WordEnds.{trimmed_words}
+use Rattle.life_base.proofs.Basics.{right_of_and, left_of_and}
+use Rattle.life_base.proofs.Texts.{blank_front, step_to, blank_words, blank_no_words, take_blank}
 
 -- ---- at the front
 
@@ -32,8 +33,8 @@ begun front line b = (bytes_eq-Decides (take (length front) line) front).1 (ap (
 pub commands : (letter : ℕ) (line : List ℕ) → is_command letter line ≡ true → IsCommand (35 ∷ letter ∷ []) (drop 2 line) line
 commands letter line h = (
   sym (take-append-drop 2 line) ∙ ap (λ (t : List ℕ). t ++ drop 2 line)
-      ((bytes_eq-Decides (take 2 line) (35 ∷ letter ∷ [])).0 (first (begins_with line (35 ∷ letter ∷ [])) _ h)),
-  second (begins_with line (35 ∷ letter ∷ [])) _ h,
+      ((bytes_eq-Decides (take 2 line) (35 ∷ letter ∷ [])).0 (left_of_and (begins_with line (35 ∷ letter ∷ [])) _ h)),
+  right_of_and (begins_with line (35 ∷ letter ∷ [])) _ h,
 )
 
 pub commanded : (letter : ℕ) (rest line : List ℕ) → IsCommand (35 ∷ letter ∷ []) rest line → is_command letter line ≡ true
@@ -44,11 +45,6 @@ pub behind_command : (letter : ℕ) (rest line : List ℕ) → IsCommand (35 ∷
 behind_command letter rest line c = ap (drop 2) c.0
 
 -- ---- between whitespace
-
-pub blank_front : (before text : List ℕ) → is_blank before ≡ true → trim_start (before ++ text) ≡ trim_start text
-blank_front [] text h = refl
-blank_front (b ∷ before) text h =
-    ap (λ v. cond v (trim_start (before ++ text)) (b ∷ (before ++ text))) (first (is_whitespace b) _ h) ∙ blank_front before text (second (is_whitespace b) _ h)
 
 end_split : (text : List ℕ) → (behind : List ℕ) × (text ≡ trim_end text ++ behind) × (is_blank behind ≡ true)
 end_split [] = ([], refl, refl)
@@ -63,22 +59,6 @@ pub blank_trimmed : (line : List ℕ) → is_blank line ≡ true → trim line �
 blank_trimmed line h = ap trim (sym (append-nil line)) ∙ ap trim_end (blank_front line [] h)
 
 -- ---- words
-
-abbrev step_to : ℕ → List ℕ → Bool → Bool → List (List ℕ)
-step_to b text v w = cond v (words_of text) (cond w ((b ∷ []) ∷ words_of text) (onto_first b (words_of text)))
-
-blank_words : (before text : List ℕ) → is_blank before ≡ true → words_of (before ++ text) ≡ words_of text
-blank_words [] text h = refl
-blank_words (b ∷ before) text h =
-    ap (λ v. step_to b (before ++ text) v (is_blank (take 1 (before ++ text)))) (first (is_whitespace b) _ h)
-    ∙ blank_words before text (second (is_whitespace b) _ h)
-
-pub blank_no_words : (text : List ℕ) → is_blank text ≡ true → words_of text ≡ []
-blank_no_words text h = ap words_of (sym (append-nil text)) ∙ blank_words text [] h
-
-take_blank : (text : List ℕ) → is_blank text ≡ true → is_blank (take 1 text) ≡ true
-take_blank [] h = refl
-take_blank (b ∷ text) h = ap (λ v. v && true) (first (is_whitespace b) _ h)
 
 same_take : (text behind : List ℕ) → is_blank behind ≡ true → is_blank (take 1 (text ++ behind)) ≡ is_blank (take 1 text)
 same_take [] behind h = take_blank behind h
@@ -99,11 +79,11 @@ words_trimmed line =
 pub first_word : (b : ℕ) (word rest : List ℕ) → list_all solid (b ∷ word) ≡ true → is_blank (take 1 rest) ≡ true
     → words_of ((b ∷ word) ++ rest) ≡ (b ∷ word) ∷ words_of rest
 first_word b [] rest h k =
-    ap (λ v. step_to b rest v (is_blank (take 1 rest))) (not-true (is_whitespace b) (first (solid b) _ h)) ∙ ap (λ w. step_to b rest false w) k
+    ap (λ v. step_to b rest v (is_blank (take 1 rest))) (not-true (is_whitespace b) (left_of_and (solid b) _ h)) ∙ ap (λ w. step_to b rest false w) k
 first_word b (c ∷ word) rest h k =
-    let more : list_all solid (c ∷ word) ≡ true = second (solid b) _ h in
-    ap (λ v. step_to b (c ∷ (word ++ rest)) v (is_whitespace c && true)) (not-true (is_whitespace b) (first (solid b) _ h))
-    ∙ ap (λ v. step_to b (c ∷ (word ++ rest)) false (v && true)) (not-true (is_whitespace c) (first (solid c) _ more))
+    let more : list_all solid (c ∷ word) ≡ true = right_of_and (solid b) _ h in
+    ap (λ v. step_to b (c ∷ (word ++ rest)) v (is_whitespace c && true)) (not-true (is_whitespace b) (left_of_and (solid b) _ h))
+    ∙ ap (λ v. step_to b (c ∷ (word ++ rest)) false (v && true)) (not-true (is_whitespace c) (left_of_and (solid c) _ more))
     ∙ ap (onto_first b) (first_word c word rest more k)
 
 digit_solid : (b : ℕ) → is_ascii_digit b ≡ true → solid b ≡ true
@@ -111,8 +91,8 @@ digit_solid b h = grind (arith, nat_tests)
 
 pub digits_solid : (text : List ℕ) → list_all is_ascii_digit text ≡ true → list_all solid text ≡ true
 digits_solid [] h = refl
-digits_solid (b ∷ text) h = ap (λ v. v && list_all solid text) (digit_solid b (first (is_ascii_digit b) _ h))
-    ∙ digits_solid text (second (is_ascii_digit b) _ h)
+digits_solid (b ∷ text) h = ap (λ v. v && list_all solid text) (digit_solid b (left_of_and (is_ascii_digit b) _ h))
+    ∙ digits_solid text (right_of_and (is_ascii_digit b) _ h)
 
 digit_word : (text rest : List ℕ) → is_digit_text text ≡ true → is_blank (take 1 rest) ≡ true → words_of (text ++ rest) ≡ text ∷ words_of rest
 digit_word [] rest h k = cc
@@ -122,8 +102,8 @@ digit_word (b ∷ text) rest h k = first_word b text rest (digits_solid (b ∷ t
 pub separated_words : (texts : List (List ℕ)) (line : List ℕ) → list_all is_digit_text texts ≡ true → Separates texts line → words_of line ≡ texts
 separated_words [] line d s = blank_no_words line s
 separated_words (text ∷ texts) line d s =
-    ap words_of s.2 ∙ blank_words s.0 (text ++ s.1) s.3 ∙ digit_word text s.1 (first (is_digit_text text) _ d) s.4
-    ∙ ap (λ (ws : List (List ℕ)). text ∷ ws) (separated_words texts s.1 (second (is_digit_text text) _ d) s.5)
+    ap words_of s.2 ∙ blank_words s.0 (text ++ s.1) s.3 ∙ digit_word text s.1 (left_of_and (is_digit_text text) _ d) s.4
+    ∙ ap (λ (ws : List (List ℕ)). text ∷ ws) (separated_words texts s.1 (right_of_and (is_digit_text text) _ d) s.5)
 
 one_blank : (b : ℕ) (texts : List (List ℕ)) (text : List ℕ) → is_whitespace b ≡ true → Separates texts text → Separates texts (b ∷ text)
 one_blank b [] text h s = ap (λ v. v && is_blank text) h ∙ s
@@ -135,7 +115,8 @@ one_byte b (t ∷ texts) text h s = by s.0 s.2 s.3
   where
     by : (before : List ℕ) → text ≡ before ++ (t ++ s.1) → is_blank before ≡ true → Separates ((b ∷ t) ∷ texts) (b ∷ text)
     by [] e w = ([], s.1, ap (λ (u : List ℕ). b ∷ u) e, refl, s.4, s.5)
-    by (c ∷ before) e w = absurd (true≢false (sym (ap (λ v. v && true) (first (is_whitespace c) _ w)) ∙ sym (ap (λ (u : List ℕ). is_blank (take 1 u)) e) ∙ h))
+    by (c ∷ before) e w =
+        absurd (true≢false (sym (ap (λ v. v && true) (left_of_and (is_whitespace c) _ w)) ∙ sym (ap (λ (u : List ℕ). is_blank (take 1 u)) e) ∙ h))
 
 step_word : (b : ℕ) (text : List ℕ) (v w : Bool) → is_whitespace b ≡ v → is_blank (take 1 text) ≡ w → Separates (words_of text) text
     → Separates (step_to b text v w) (b ∷ text)

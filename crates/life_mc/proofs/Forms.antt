@@ -5,6 +5,7 @@ use Rattle.std.specs.List.{list_all}
 use Rattle.std.specs.Result.{result_ok, result_err}
 use Rattle.std.proofs.lemmas.Bool.{leb-true, le-leb, false_from_ne_true}
 use Rattle.life_base.proofs.RuleForms.{around_trim, trimmed_around}
+use Rattle.life_base.proofs.Texts.{blank_no_words}
 use Rattle.life_base.specs.Text.{is_blank, begins_with, trim, words_of, is_digit_text, value_of, IsAround}
 use Rattle.life_base.specs.Numbers.{u64_of}
 use Rattle.life_base.specs.Rules.{rule_of}
@@ -16,13 +17,13 @@ use Rattle.life_mc.specs.Grammar.{IsCommand, IsComment, IsGenerationLine, IsLeaf
 use Rattle.life_mc.specs.Reading.{broken_behind, broken_by_node, broken_by_square, is_command, is_leaf_byte, is_leaf, leaf_bytes, quad_of, square_of, square_on, rule_on, generation_on, squares_of, rule_in_force}
 use Rattle.life_mc.specs.declared.line.Line.{Line}
 use Rattle.life_mc.specs.declared.line.Line.TheVariants.{Leaf, Quad}
-use Rattle.life_mc.proofs.Around.{begins, begun, commands, commanded, behind_command, blank_trimmed, words_trimmed, separated_words, words_separate, numbers_first, blank_no_words, hash_no_numbers, hash_trimmed, digits_solid, hash_no_square}
+use Rattle.life_mc.proofs.Around.{begins, begun, commands, commanded, behind_command, blank_trimmed, words_trimmed, separated_words, words_separate, numbers_first, hash_no_numbers, hash_trimmed, digits_solid, hash_no_square}
 use Rattle.life_mc.proofs.LeafLines.{leaf_says, is_leaf_line}
 use Rattle.life_mc.proofs.Valid.{command_is_hash, hash_not_blank, no_command}
 
 -- ---- the tests on a line, by its form
 
-blank_no_hash : (line : List ℕ) → is_blank line ≡ true → begins_with line (codes "#") ≡ false
+pub blank_no_hash : (line : List ℕ) → is_blank line ≡ true → begins_with line (codes "#") ≡ false
 blank_no_hash line h = false_from_ne_true _ (λ e. true≢false (sym h ∙ hash_not_blank 0 line e))
 
 no_hash_no_frame : (line : List ℕ) → begins_with line (codes "#") ≡ false → begins_with line (codes "#FRAME") ≡ false

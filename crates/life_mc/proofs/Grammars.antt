@@ -11,7 +11,7 @@ use Rattle.life_base.specs.Rules.{default_rule}
 use Rattle.life_base.specs.declared.kind.Kind.{Kind}
 use Rattle.life_base.specs.declared.kind.Kind.TheVariants.{LineTooLong, NoHeader}
 use Rattle.life_base.specs.declared.rule.Rule.{Rule}
-use Rattle.life_base.proofs.Numbers.{second, first}
+use Rattle.life_base.proofs.Basics.{right_of_and, left_of_and}
 use Rattle.life_mc.specs.Macrocell.{Macrocell, AreSquares, IsSquare, level_of}
 use Rattle.life_mc.specs.Grammar.{IsFile, Form, blank_line, comment_line, rule_line, generation_line, node_line, HasForm, form_rule, form_generation, form_square, is_no_command, are_in_order, GrammarsAgree}
 use Rattle.life_mc.specs.Reading.{AreMacrocell, broken, broken_behind, broken_by_square, last_or, rule_in_force, squares_of, rule_on, generation_on, square_on}
@@ -64,8 +64,8 @@ all_short (line ∷ lines) h =
 short_at : (lines : List (List ℕ)) → list_all (λ line. nat_le (length line) (2 ^ 20)) lines ≡ true → (k : ℕ) → k < length lines
     → is_too_long (get_or lines k []) ≡ false
 short_at [] h k l = absurd (omega arith)
-short_at (line ∷ lines) h zero l = no_long line (first (nat_le (length line) (2 ^ 20)) _ h)
-short_at (line ∷ lines) h (suc k) l = short_at lines (second (nat_le (length line) (2 ^ 20)) _ h) k (omega arith)
+short_at (line ∷ lines) h zero l = no_long line (left_of_and (nat_le (length line) (2 ^ 20)) _ h)
+short_at (line ∷ lines) h (suc k) l = short_at lines (right_of_and (nat_le (length line) (2 ^ 20)) _ h) k (omega arith)
 
 -- ---- what lines give
 
@@ -182,7 +182,7 @@ module _ (top : ℕ) (header : List ℕ) where
   next_order : (form : Form) (forms : List Form) (before : List (List ℕ)) (line : List ℕ) → square_on line ≡ form_square form
       → ((squares before ≡ []) × (are_in_order (form ∷ forms) ≡ true)) ⊎ (list_all is_no_command (form ∷ forms) ≡ true)
       → ((squares (before ++ line ∷ []) ≡ []) × (are_in_order forms ≡ true)) ⊎ (list_all is_no_command forms ≡ true)
-  next_order form forms before line g (inr q) = inr (second (is_no_command form) _ q)
+  next_order form forms before line g (inr q) = inr (right_of_and (is_no_command form) _ q)
   next_order (node_line square) forms before line g (inl p) = inr p.1
   next_order blank_line forms before line g (inl p) = inl (squares_none (header ∷ before) line g ∙ p.0, p.1)
   next_order comment_line forms before line g (inl p) = inl (squares_none (header ∷ before) line g ∙ p.0, p.1)

@@ -7,7 +7,7 @@ use Rattle.std.proofs.lemmas.Bool.Decides.{nat_tests}
 use Rattle.std.proofs.lemmas.Bool.{ltb-false, le-leb, and_from}
 use Rattle.std.proofs.lemmas.List.Folds.{list_all-append}
 use Rattle.life_base.proofs.NamesRead.{all_pass, good_text}
-use Rattle.life_base.proofs.RoundTrip.{visible}
+use Rattle.life_base.proofs.RoundTrip.{visible, visible_no_feed}
 use Rattle.life_base.proofs.ReadBack.{rules_read_back}
 use Rattle.life_base.proofs.RuleTexts.{texts_visible}
 use Rattle.life_base.proofs.RuleValues.{named_is}
@@ -60,9 +60,6 @@ moore_short sets =
       feed = list_all-append (λ b. not (b == 10)) ds (47 ∷ 83 ∷ es) ∙ and_from _ _ (digits_no_feed (filter (has_digit sets.births) counts))
           (digits_no_feed (filter (has_digit sets.survivals) counts));
     })
-
-visible_no_feed : (b : ℕ) → visible b ≡ true → not (b == 10) ≡ true
-visible_no_feed b h = grind (arith, nat_tests)
 
 not_bad : (text : List ℕ) → is_bad_text text ≡ false → IsShortText text
 not_bad text h =

@@ -4,9 +4,9 @@ use Rattle.std.specs.Prelude.{codes, slice_index, ◌==◌, nat_le, flat_map}
 use Rattle.std.specs.List.{list_all, AllByRecursion, onto_first as onto_first_byte, slice_index_or}
 use Rattle.std.proofs.lemmas.Bool.Decides.{nat_tests}
 use Rattle.std.proofs.lemmas.Bool.{not-true}
-use Rattle.life_base.proofs.Numbers.{first, second}
 use Rattle.life_base.proofs.NamesRead.{solid, all_pass}
 use Rattle.life_base.proofs.RuleForms.{around_trim, trimmed_around}
+use Rattle.life_base.proofs.Basics.{right_of_and, left_of_and}
 use Rattle.life_base.specs.Text.{trim, IsAround}
 use Rattle.life_mc.specs.Cells.{leaf_cell}
 use Rattle.life_mc.specs.Grammar.{IsLeafLine, state_in, is_row, is_cell}
@@ -23,13 +23,13 @@ abbrev ended : List ℕ → List ℕ
 ended row = row ++ codes "$"
 
 no_dollars : (row : List ℕ) → is_row row ≡ true → list_all (λ b. not (b == 36)) row ≡ true
-no_dollars row h = all_pass is_cell (λ b. not (b == 36)) cell_no_dollar row (first (list_all is_cell row) _ h)
+no_dollars row h = all_pass is_cell (λ b. not (b == 36)) cell_no_dollar row (left_of_and (list_all is_cell row) _ h)
 
 one_row : (row : List ℕ) → list_all (λ b. not (b == 36)) row ≡ true → leaf_rows row ≡ row ∷ []
 one_row [] h = refl
 one_row (b ∷ row) h =
-    let e : (b == 36) ≡ false = not-true (b == 36) (first _ _ h) in
-    ap (λ v. cond v ([] ∷ leaf_rows row) (onto_first_byte b (leaf_rows row))) e ∙ ap (onto_first_byte b) (one_row row (second (not (b == 36)) _ h))
+    let e : (b == 36) ≡ false = not-true (b == 36) (left_of_and _ _ h) in
+    ap (λ v. cond v ([] ∷ leaf_rows row) (onto_first_byte b (leaf_rows row))) e ∙ ap (onto_first_byte b) (one_row row (right_of_and (not (b == 36)) _ h))
 
 regroup : (row rest last : List ℕ) → (ended row ++ rest) ++ last ≡ row ++ 36 ∷ (rest ++ last)
 regroup row rest last = ap (λ (t : List ℕ). t ++ last) (append_assoc row (36 ∷ []) rest) ∙ append_assoc row (36 ∷ rest) last
@@ -37,10 +37,10 @@ regroup row rest last = ap (λ (t : List ℕ). t ++ last) (append_assoc row (36 
 -- the rows of a text that rows make
 split_again : (rows : List (List ℕ)) (last : List ℕ) → list_all is_row (rows ++ last ∷ []) ≡ true → leaf_rows (flat_map ended rows ++ last) ≡ rows
     ++ last ∷ []
-split_again [] last h = one_row last (no_dollars last (first (is_row last) _ h))
+split_again [] last h = one_row last (no_dollars last (left_of_and (is_row last) _ h))
 split_again (row ∷ rows) last h =
-    ap leaf_rows (regroup row (flat_map ended rows) last) ∙ row_ended row (flat_map ended rows ++ last) (no_dollars row (first (is_row row) _ h))
-    ∙ ap (λ (t : List (List ℕ)). row ∷ t) (split_again rows last (second (is_row row) _ h))
+    ap leaf_rows (regroup row (flat_map ended rows) last) ∙ row_ended row (flat_map ended rows ++ last) (no_dollars row (left_of_and (is_row row) _ h))
+    ∙ ap (λ (t : List (List ℕ)). row ∷ t) (split_again rows last (right_of_and (is_row row) _ h))
 
 -- all but the last of some rows, and the last
 front_rows : List (List ℕ) → List (List ℕ)
@@ -94,9 +94,9 @@ rows_may : (n : ℕ) (rows : List (List ℕ)) (last : List ℕ) → list_all is_
     → are_rows n (rows ++ last ∷ []) ≡ true
 rows_may zero [] last h l e = ap (λ (t : List ℕ). is_at_end (t ∷ [])) (e refl)
 rows_may zero (row ∷ rows) last h l e = absurd (omega arith)
-rows_may (suc n) [] last h l e = ap (λ v. v && are_rows n []) (first (is_row last) _ h) ∙ none_left n
+rows_may (suc n) [] last h l e = ap (λ v. v && are_rows n []) (left_of_and (is_row last) _ h) ∙ none_left n
 rows_may (suc n) (row ∷ rows) last h l e =
-    ap (λ v. v && are_rows n (rows ++ last ∷ [])) (first (is_row row) _ h) ∙ rows_may n rows last (second (is_row row) _ h) (omega arith)
+    ap (λ v. v && are_rows n (rows ++ last ∷ [])) (left_of_and (is_row row) _ h) ∙ rows_may n rows last (right_of_and (is_row row) _ h) (omega arith)
     (λ k. e (ap suc k))
 
 record Rows (n : ℕ) (rows : List (List ℕ)) (last : List ℕ) : Type 0 where
@@ -115,14 +115,14 @@ rows_are zero [] [] h = record { cells = refl; at_most = omega arith; full = λ 
 rows_are zero [] (b ∷ last) h = cc
 rows_are zero (row ∷ rows) last h = absurd (not_end row rows last h)
 rows_are (suc n) [] last h = record {
-  cells = ap (λ v. v && true) (first (is_row last) _ h);
+  cells = ap (λ v. v && true) (left_of_and (is_row last) _ h);
   at_most = omega arith;
   full = λ e. absurd (omega arith);
 }
 rows_are (suc n) (row ∷ rows) last h =
-    let r = rows_are n rows last (second (is_row row) _ h) in
+    let r = rows_are n rows last (right_of_and (is_row row) _ h) in
     record {
-      cells = ap (λ v. v && list_all is_row (rows ++ last ∷ [])) (first (is_row row) _ h) ∙ r.cells;
+      cells = ap (λ v. v && list_all is_row (rows ++ last ∷ [])) (left_of_and (is_row row) _ h) ∙ r.cells;
       at_most = omega (arith, r.at_most);
       full = λ e. r.full (omega arith);
     }
@@ -236,7 +236,8 @@ leaf_byte_solid : (b : ℕ) → is_leaf_byte b ≡ true → solid b ≡ true
 leaf_byte_solid b h = grind (arith, nat_tests)
 
 leaf_alone : (text : List ℕ) → is_leaf text ≡ true → list_all is_leaf_byte text ≡ true
-leaf_alone text h = first (list_all is_leaf_byte text) _ (first (list_all is_leaf_byte text && list_all (λ row. nat_le (length row) 8) (leaf_rows text)) _ h)
+leaf_alone text h =
+    left_of_and (list_all is_leaf_byte text) _ (left_of_and (list_all is_leaf_byte text && list_all (λ row. nat_le (length row) 8) (leaf_rows text)) _ h)
 
 all_solid : (text : List ℕ) → is_leaf text ≡ true → list_all solid text ≡ true
 all_solid text h = all_pass is_leaf_byte solid leaf_byte_solid text (leaf_alone text h)
@@ -249,7 +250,7 @@ some_text ((b ∷ row) ∷ rows) last h = omega arith
 
 first_leaf_byte : (text : List ℕ) → 0 < length text → is_leaf text ≡ true → is_leaf_byte (slice_index text 0) ≡ true
 first_leaf_byte [] l h = absurd (omega arith)
-first_leaf_byte (b ∷ text) l h = first (is_leaf_byte b) _ (leaf_alone (b ∷ text) h)
+first_leaf_byte (b ∷ text) l h = left_of_and (is_leaf_byte b) _ (leaf_alone (b ∷ text) h)
 
 -- what a leaf line says
 pub record SaysLeaf (line bytes : List ℕ) : Type 0 where

@@ -1,5 +1,5 @@
 -- The kinds with which a macrocell line breaks a rule.
-use Rattle.std.proofs.Common.{◌≡◌, ℕ, List, ◌∷◌, [], ◌-◌, ◌^◌, ◌<◌, ◌≤◌, ◌||◌, length, take, drop, Bool, true, false, cond, refl, sym, ap, ◌∙◌, map, ◌⊎◌, inl, inr, arith}
+use Rattle.std.proofs.Common.{◌≡◌, ℕ, List, ◌∷◌, [], ◌-◌, ◌^◌, ◌||◌, length, take, drop, Bool, true, false, cond, refl, sym, ap, ◌∙◌, map, ◌⊎◌, inl, inr, arith}
 use Rattle.std.specs.Prelude.{◌==◌, nat_le, nat_lt, not, ◌&&◌, codes, slice_index, Option, Some, None, Result, Ok, Err}
 use Rattle.std.specs.List.{list_all, slice_index_or}
 use Rattle.std.proofs.lemmas.Bool.{ltb-true}
@@ -10,9 +10,9 @@ use Rattle.life_base.specs.Refusal.{is_placeless}
 use Rattle.life_base.specs.declared.kind.Kind.{Kind}
 use Rattle.life_base.specs.declared.kind.Kind.TheVariants as kinds
 use Rattle.life_base.specs.declared.rule.Rule.{Rule}
-use Rattle.life_base.proofs.Numbers.{first}
 use Rattle.life_base.proofs.LineKinds.{is_length_kind, names_line as kinds_name_lines}
 use Rattle.life_base.proofs.RuleKinds.{errs_by, errs_by_cases, rule_errs_by}
+use Rattle.life_base.proofs.Basics.{left_of_and, le_or_lt}
 use Rattle.life_mc.specs.Laws.{LongLinesBreak, RefusalsHaveKinds}
 use Rattle.life_mc.specs.Macrocell.{is_quarter, level_of}
 use Rattle.std.specs.Result.{result_err}
@@ -105,7 +105,7 @@ how_broken top front line kind e = by_length (is_too_long line) (broken_short to
 pub broken_kind : (top : ℕ) (front : List (List ℕ)) (line : List ℕ) (kind : Kind) → broken top front line ≡ Some kind → is_macrocell_kind kind ≡ true
 broken_kind top front line kind e = elim (how_broken top front line kind e) [
   | inl m ↦ ap is_macrocell_kind m.1
-  | inr s ↦ first (is_macrocell_kind kind) (not (is_length_kind kind)) s
+  | inr s ↦ left_of_and (is_macrocell_kind kind) (not (is_length_kind kind)) s
 ]
 
 pub long_lines_break : (top : ℕ) → LongLinesBreak top
@@ -121,12 +121,9 @@ missing_kind : (lines : List (List ℕ)) (kind : Kind) → missing lines ≡ Som
 missing_kind [] kind e = sym (ap kind_in e)
 missing_kind (line ∷ lines) kind e = cc
 
-within_or_not : (m n : ℕ) → (n ≤ m) ⊎ (m < n)
-within_or_not m n = grind arith
-
 -- lines that are no file are refused with a kind of the format
 pub refusals_have_kinds : (top : ℕ) → RefusalsHaveKinds top
-refusals_have_kinds top lines fault r = elim (within_or_not (length lines) r.n) [
+refusals_have_kinds top lines fault r = elim (le_or_lt r.n (length lines)) [
   | inl within ↦ broken_kind top (take (r.n - 1) lines) (slice_index_or lines (r.n - 1) []) fault.kind (r.at_line within)
   | inr beyond ↦ missing_kind lines fault.kind (r.at_end beyond)
 ]

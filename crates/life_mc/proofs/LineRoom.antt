@@ -38,10 +38,6 @@ row-put room text row at n size inside eight e some most is =
     ∙ append_assoc (take at room) (take (n - 1) text) (36 ∷ [])
     ∙ ap (λ l. take at room ++ l) is
 
--- a number has at most 20 digits
-pub digits-fit : (n : ℕ) → n < 2 ^ 64 → length (decimal n) ≤ 20
-digits-fit n h = length-decimal-le 20 n (omega arith) (omega (arith, h)) h
-
 -- a level has at most three
 pub level-fits : (n : ℕ) → n < 2 ^ 8 → length (decimal n) ≤ 3
 level-fits n h = length-decimal-le 3 n (omega arith) (omega (arith, h)) (omega (arith, h))

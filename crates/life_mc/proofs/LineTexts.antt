@@ -8,9 +8,11 @@ use Rattle.std.proofs.lemmas.Bool.{leb-true, not-true, and_from}
 use Rattle.std.proofs.lemmas.Fmt.{decimal_is_IsNumeral_wide, length-decimal-le_wide}
 use Rattle.std.proofs.lemmas.List.Folds.{list_all-append}
 use mathlib.Core.Bool.{and-false}
-use Rattle.life_base.proofs.Numbers.{first, second, own}
+use Rattle.life_base.proofs.Numbers.{own}
 use Rattle.life_base.proofs.NamesRead.{all_pass, solid, solid_trimmed}
 use Rattle.life_base.proofs.RoundTrip.{none_passes}
+use Rattle.life_base.proofs.Texts.{not_blank, start_stays}
+use Rattle.life_base.proofs.Basics.{right_of_and, left_of_and}
 use Rattle.life_base.specs.Text.{is_whitespace, is_blank, is_empty, begins_with, is_digit_text, value_of, words_of, without_last, trim, trim_start}
 use Rattle.life_mc.specs.Reading.{is_leaf, is_leaf_byte, leaf_bytes, square_of, quad_of}
 use Rattle.life_mc.specs.Writing.{row_text, line_text}
@@ -27,10 +29,6 @@ pub record IsTextOf (square : Line) (text : List ℕ) : Type 0 where
   pub trimmed : trim text ≡ text
   pub no_bad_leaf : (is_leaf_byte (slice_index text 0) && not (is_leaf text)) ≡ false
   pub says : square_of text ≡ Some square
-
--- a text whose first byte is neither whitespace nor `#`
-no_blank : (b : ℕ) (text : List ℕ) → is_whitespace b ≡ false → is_blank (b ∷ text) ≡ false
-no_blank b text h = ap (λ v. v && list_all is_whitespace text) h
 
 no_hash : (b : ℕ) (text : List ℕ) → (b == 35) ≡ false → begins_with (b ∷ text) (codes "#") ≡ false
 no_hash b text h = ap (λ v. v && true) h
@@ -56,7 +54,7 @@ digit_inner b h = record { solid = grind (arith, nat_tests); no_feed = grind (ar
 short_rows : (rows : List ℕ) → AllByRecursion (λ row. row < 256) rows → length (flat_map row_text rows) ≤ 9 * length rows
 short_rows [] h = omega arith
 short_rows (row ∷ rows) h =
-    let r : length (written row) ≤ 8 = leb-true (length (written row)) 8 (second (list_all _ (written row)) _ (row_is_row row h.0)) in
+    let r : length (written row) ≤ 8 = leb-true (length (written row)) 8 (right_of_and (list_all _ (written row)) _ (row_is_row row h.0)) in
     omega (arith, length-append (row_text row) (flat_map row_text rows), length-append (written row) (codes "$"), short_rows rows h.1)
 
 some_bytes : (rows : List ℕ) → 0 < length rows → 0 < length (flat_map row_text rows)
@@ -66,12 +64,12 @@ some_bytes (row ∷ rows) h = omega (arith, length-append (row_text row) (flat_m
 leaf_of : (text rows : List ℕ) → 0 < length text → length text ≤ 2 ^ 20 → is_leaf text ≡ true → leaf_bytes text ≡ rows → IsTextOf (Leaf rows) text
 leaf_of [] rows some short is says = absurd (omega arith)
 leaf_of (b ∷ text) rows some short is says =
-    let all : list_all is_leaf_byte (b ∷ text) ≡ true = first _ _ (first _ _ is) in
-    let one : is_leaf_byte b ≡ true = first _ _ all in
+    let all : list_all is_leaf_byte (b ∷ text) ≡ true = left_of_and _ _ (left_of_and _ _ is) in
+    let one : is_leaf_byte b ≡ true = left_of_and _ _ all in
     record {
       feed = all_pass is_leaf_byte (λ c. not (c == 10)) (λ c l. (leaf_inner c l).no_feed) (b ∷ text) all;
       short = short;
-      blank = no_blank b text (not-true (is_whitespace b) (leaf_inner b one).solid);
+      blank = not_blank b text (not-true (is_whitespace b) (leaf_inner b one).solid);
       hash = no_hash b text (leaf_inner b one).no_hash;
       trimmed = solid_trimmed (b ∷ text) (all_pass is_leaf_byte solid (λ c l. (leaf_inner c l).solid) (b ∷ text) all);
       no_bad_leaf = ap (λ v. is_leaf_byte b && not v) is ∙ and-false (is_leaf_byte b);
@@ -118,7 +116,7 @@ digit_no_leaf : (b : ℕ) → is_ascii_digit b ≡ true → is_leaf_byte b ≡ f
 digit_no_leaf b h = grind (arith, nat_tests)
 
 pub digits_pass : (p : ℕ → Bool) → ((b : ℕ) → is_ascii_digit b ≡ true → p b ≡ true) → (text : List ℕ) → is_digit_text text ≡ true → list_all p text ≡ true
-digits_pass p f text h = all_pass is_ascii_digit p f text (second (not (is_empty text)) _ h)
+digits_pass p f text h = all_pass is_ascii_digit p f text (right_of_and (not (is_empty text)) _ h)
 
 digits_solid : (text : List ℕ) → is_digit_text text ≡ true → list_all solid text ≡ true
 digits_solid text h = digits_pass solid (λ b d. (digit_inner b d).solid) text h
@@ -146,7 +144,7 @@ number_ends : (word : List ℕ) → is_digit_text word ≡ true → EndsSolid wo
 number_ends [] h = cc
 number_ends (b ∷ word) h =
     let all : list_all solid (b ∷ word) ≡ true = digits_solid (b ∷ word) h in
-    record { whole = none_passes is_whitespace (b ∷ word) all; some = no_blank b word (not-true (is_whitespace b) (first _ _ all)) }
+    record { whole = none_passes is_whitespace (b ∷ word) all; some = not_blank b word (not-true (is_whitespace b) (left_of_and _ _ all)) }
 
 ends_behind : (front text : List ℕ) → EndsSolid text → EndsSolid (front ++ text)
 ends_behind [] text e = e
@@ -161,18 +159,14 @@ ends_behind (b ∷ front) text e =
 abbrev five : List ℕ → List ℕ → List ℕ → List ℕ → List ℕ → List ℕ
 five a b c d e = a ++ 32 ∷ (b ++ 32 ∷ (c ++ 32 ∷ (d ++ 32 ∷ e)))
 
--- the first byte of a text that begins with a number
-start_stays : (b : ℕ) (text : List ℕ) → is_whitespace b ≡ false → trim_start (b ∷ text) ≡ b ∷ text
-start_stays b text h = ap (λ v. cond v (trim_start text) (b ∷ text)) h
-
 number_starts : (word rest : List ℕ) → is_digit_text word ≡ true
     → (is_blank (word ++ rest) ≡ false) × (begins_with (word ++ rest) (codes "#") ≡ false) × (trim_start (word ++ rest) ≡ word ++ rest)
     × (is_leaf_byte (slice_index (word ++ rest) 0) ≡ false)
 number_starts [] rest h = cc
 number_starts (b ∷ word) rest h =
-    let one : is_ascii_digit b ≡ true = first _ _ (second (not (is_empty (b ∷ word))) _ h) in
+    let one : is_ascii_digit b ≡ true = left_of_and _ _ (right_of_and (not (is_empty (b ∷ word))) _ h) in
     let no : is_whitespace b ≡ false = not-true (is_whitespace b) (digit_inner b one).solid in
-    (no_blank b (word ++ rest) no, no_hash b (word ++ rest) (digit_inner b one).no_hash, start_stays b (word ++ rest) no, digit_no_leaf b one)
+    (not_blank b (word ++ rest) no, no_hash b (word ++ rest) (digit_inner b one).no_hash, start_stays b (word ++ rest) no, digit_no_leaf b one)
 
 module _ (a b c d e : List ℕ) (level nw ne sw se : ℕ) (p : Spells a level) (q : Spells b nw) (r : Spells c ne) (s : Spells d sw) (t : Spells e se) where
   abbrev text : List ℕ

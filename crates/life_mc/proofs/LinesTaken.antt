@@ -1,8 +1,8 @@
 -- What is told of the lines that a reader took.
 use Rattle.std.proofs.Common.{◌≡◌, ℕ, List, [], ◌∷◌, ◌++◌, true, refl, sym, subst, ◌∙◌}
-use Rattle.std.specs.Prelude.{Option, Some, None}
+use Rattle.std.specs.Prelude.{Some}
 use Rattle.std.specs.List.{cons_option}
-use Rattle.std.proofs.lemmas.List.{append-nil}
+use Rattle.std.proofs.lemmas.List.Elements.{filter_map-append}
 use Rattle.life_base.specs.Refusal.{Prefix}
 use Rattle.life_base.specs.Text.{numbered_from}
 use Rattle.life_base.specs.declared.fault.Fault.{Fault}
@@ -10,21 +10,17 @@ use Rattle.life_base.proofs.NumberedLines.{texts}
 use Rattle.life_mc.specs.Grammar.{IsFile}
 use Rattle.life_mc.specs.Laws.{AreUnbroken}
 use Rattle.life_mc.specs.Macrocell.{Macrocell}
-use Rattle.life_mc.specs.Reading.{Accepts, Refuses, broken, square_behind, squares_of}
+use Rattle.life_mc.specs.Reading.{Accepts, Refuses, broken, square_behind, square_on, squares_of}
 use Rattle.life_mc.specs.Standing.{Standing, StandsAfter}
-use Rattle.life_mc.specs.declared.line.Line.{Line}
 use Rattle.life_mc.proofs.ByLines.{by_lines, accepted}
 use Rattle.life_mc.proofs.Grammars.{grammars_agree}
-use Rattle.life_mc.proofs.ReadLines.{squares_none, squares_some, refused_at, some_lines}
+use Rattle.life_mc.proofs.ReadLines.{refused_at, some_lines}
 
 -- the squares of the lines so far, with that of one line more
 pub squares_taken : (before : List (List ℕ)) (line : List ℕ) → squares_of (before ++ line ∷ []) ≡ squares_of before ++ cons_option (square_behind before line)
     []
-squares_taken before line = by (square_behind before line) refl
-  where
-    by : (o : Option Line) → square_behind before line ≡ o → squares_of (before ++ line ∷ []) ≡ squares_of before ++ cons_option o []
-    by None h = squares_none before line h ∙ sym (append-nil (squares_of before))
-    by (Some square) h = squares_some before line square h
+squares_taken [] line = refl
+squares_taken (header ∷ before) line = filter_map-append square_on before (line ∷ [])
 
 module _ (top : ℕ) (lines : List (List ℕ)) (state : Standing) (s : StandsAfter top lines state) where
   pub stands_front : Prefix (Accepts top) lines

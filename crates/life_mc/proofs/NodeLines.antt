@@ -4,7 +4,7 @@ use Rattle.std.specs.Prelude.{codes, nat_lt, slice_index, Option, Some, None, fi
 use Rattle.std.specs.List.{cons_option}
 use Rattle.std.proofs.lemmas.List.Sums.{sum_by-cons}
 use Rattle.std.proofs.lemmas.Bool.{not-true}
-use Rattle.life_base.proofs.Numbers.{first, second}
+use Rattle.life_base.proofs.Basics.{right_of_and, left_of_and}
 use Rattle.life_base.specs.Text.{begins_with, is_blank, is_too_long, lines_of, trim}
 use Rattle.life_base.specs.Numbers.{u64_of}
 use Rattle.life_base.specs.Rules.{rule_of}
@@ -36,10 +36,10 @@ module _ (top : ℕ) (header : List ℕ) (front : List (List ℕ)) (line : List 
   before = header ∷ front
 
   blank : is_blank line ≡ false
-  blank = not-true (is_blank line) (first _ (not (begins_with line (codes "#"))) n)
+  blank = not-true (is_blank line) (left_of_and _ (not (begins_with line (codes "#"))) n)
 
   hash : begins_with line (codes "#") ≡ false
-  hash = not-true (begins_with line (codes "#")) (second (not (is_blank line)) _ n)
+  hash = not-true (begins_with line (codes "#")) (right_of_and (not (is_blank line)) _ n)
 
   judged : broken_behind top before line ≡ broken_by_node top (rule_in_force before) (map level_of (squares_of before)) (trim line)
   judged =

@@ -10,7 +10,8 @@ use Rattle.life_mc.specs.Cells.{cell_from, cell_of, root_level}
 use Rattle.life_mc.specs.Macrocell.{AreSquares, IsSquare, level_of}
 use Rattle.life_mc.specs.declared.line.Line.{Line}
 use Rattle.life_mc.specs.declared.line.Line.TheVariants.{Leaf, Quad}
-use Rattle.life_mc.proofs.Squares.{root_at, some_level, twice}
+use Rattle.life_mc.proofs.Squares.{root_at, some_level}
+use Rattle.life_base.proofs.Basics.{double}
 
 -- a square has at most the greatest level
 at_most : (top : ℕ) → 3 ≤ top → (rule : Rule) (levels : List ℕ) (line : Line) → IsSquare top rule levels line → level_of line ≤ top
@@ -64,7 +65,7 @@ blank top h rule (line ∷ lines) valid x y o =
     refl refl (sides top x y o)
   where
     whole : (n : ℕ) → 1 ≤ n → 2 ^ n ≡ 2 ^ (n - 1) + 2 ^ (n - 1)
-    whole n s = let e : suc (n - 1) ≡ n = omega arith in ap (λ m. 2 ^ m) (sym e) ∙ twice (n - 1)
+    whole n s = let e : suc (n - 1) ≡ n = omega arith in ap (λ m. 2 ^ m) (sym e) ∙ double (n - 1)
 
 pub blank_outside : (top : ℕ) → 3 ≤ top → IsBlankOutside top
 blank_outside top h = λ file x y v o. blank top h file.rule file.lines v.squares x y o

@@ -4,8 +4,7 @@ use Rattle.std.specs.Prelude.{◌==◌, flat_map, map}
 use Rattle.std.specs.List.{list_all, AllByRecursion, onto_first as onto_first_byte}
 use Rattle.std.proofs.lemmas.Bool.Decides.{nat_tests}
 use Rattle.std.proofs.lemmas.Bool.{not-true}
-use Rattle.life_base.proofs.Numbers.{first, second}
-use Rattle.life_base.specs.Text.{lines_of, onto_first, without_last, words_of}
+use Rattle.life_base.specs.Text.{without_last, words_of}
 use Rattle.life_mc.specs.Reading.{row_byte, leaf_rows, is_leaf, leaf_bytes}
 use Rattle.life_mc.specs.Writing.{row_cells, row_text}
 use Rattle.life_mc.specs.Grammar.{is_cell, is_row}
@@ -14,17 +13,10 @@ use Rattle.life_mc.proofs.Leaves.{leaf_is, leaf_bytes_are}
 use Rattle.life_mc.proofs.Around.{first_word}
 use Rattle.life_base.proofs.NamesRead.{all_pass, solid}
 use Rattle.life_base.proofs.RoundTrip.{all_below, all_below_at}
+use Rattle.life_base.proofs.Basics.{right_of_and, left_of_and}
 
 abbrev pub has_no_feed : List ℕ → Bool
 has_no_feed text = list_all (λ b. not (b == 10)) text
-
--- a text without line feeds, ended by one, is the first line
-pub line_ended : (text rest : List ℕ) → has_no_feed text ≡ true → lines_of (text ++ 10 ∷ rest) ≡ text ∷ lines_of rest
-line_ended [] rest h = refl
-line_ended (b ∷ text) rest h =
-    let e : (b == 10) ≡ false = not-true (b == 10) (first _ _ h) in
-    ap (λ v. cond v ([] ∷ lines_of (text ++ 10 ∷ rest)) (onto_first b (lines_of (text ++ 10 ∷ rest)))) e
-    ∙ ap (onto_first b) (line_ended text rest (second _ _ h))
 
 -- the cells of a row that are written
 abbrev pub written : ℕ → List ℕ
@@ -39,24 +31,24 @@ each_row = refl
 
 -- a row's text says the row
 pub row_again : (row : ℕ) → row < 256 → row_byte (written row) ≡ row
-row_again row h = eqb-true _ _ (first _ _ (all_below_at 256 row_test row each_row h))
+row_again row h = eqb-true _ _ (left_of_and _ _ (all_below_at 256 row_test row each_row h))
 
 pub row_is_row : (row : ℕ) → row < 256 → is_row (written row) ≡ true
-row_is_row row h = second (row_byte (written row) == row) _ (all_below_at 256 row_test row each_row h)
+row_is_row row h = right_of_and (row_byte (written row) == row) _ (all_below_at 256 row_test row each_row h)
 
 -- cells, ended by `$`, are the first row
 pub row_ended : (cells rest : List ℕ) → list_all (λ b. not (b == 36)) cells ≡ true → leaf_rows (cells ++ 36 ∷ rest) ≡ cells ∷ leaf_rows rest
 row_ended [] rest h = refl
 row_ended (b ∷ cells) rest h =
-    let e : (b == 36) ≡ false = not-true (b == 36) (first _ _ h) in
+    let e : (b == 36) ≡ false = not-true (b == 36) (left_of_and _ _ h) in
     ap (λ v. cond v ([] ∷ leaf_rows (cells ++ 36 ∷ rest)) (onto_first_byte b (leaf_rows (cells ++ 36 ∷ rest)))) e
-    ∙ ap (onto_first_byte b) (row_ended cells rest (second (not (b == 36)) _ h))
+    ∙ ap (onto_first_byte b) (row_ended cells rest (right_of_and (not (b == 36)) _ h))
 
 pub cell_no_dollar : (b : ℕ) → is_cell b ≡ true → not (b == 36) ≡ true
 cell_no_dollar b h = grind (arith, nat_tests)
 
 no_dollar : (row : ℕ) → row < 256 → list_all (λ b. not (b == 36)) (written row) ≡ true
-no_dollar row h = all_pass is_cell (λ b. not (b == 36)) cell_no_dollar (written row) (first (list_all is_cell (written row)) _ (row_is_row row h))
+no_dollar row h = all_pass is_cell (λ b. not (b == 36)) cell_no_dollar (written row) (left_of_and (list_all is_cell (written row)) _ (row_is_row row h))
 
 -- the rows of a leaf's text, and the empty one behind the last `$`
 rows_again : (rows : List ℕ) → AllByRecursion (λ row. row < 256) rows → leaf_rows (flat_map row_text rows) ≡ map written rows ++ [] ∷ []

@@ -2,10 +2,8 @@
 use Rattle.std.proofs.Common.{◌≡◌, ℕ, zero, suc, ◌+◌, ◌-◌, ◌%◌, ◌^◌, ◌<◌, ◌≤◌, List, [], ◌∷◌, length, take, map, Bool, true, false, cond, ◌&&◌, ◌||◌, refl, ap, sym, subst, ◌∙◌, arith, eqb-true, ltb-true, ltb-false, add-zero}
 use Rattle.std.specs.Prelude.{nat_le, nat_lt, ◌==◌, Option, Some, None, ℤ, pos, negsuc, neg_ℤ, ◌+ℤ◌, int_le, int_lt, unsigned_abs}
 use Rattle.std.specs.List.{list_all, slice_get}
-use Rattle.std.proofs.lemmas.Bool.Decides.{nat_tests}
 use Rattle.std.proofs.lemmas.Bool.{leb-true}
-use Rattle.std.proofs.lemmas.Int.{ints}
-use Rattle.std.proofs.Math.Nat.{two-pow-succ, mod-eq_of_lt, mod-eq-sub-mod}
+use Rattle.std.proofs.Math.Nat.{mod-eq_of_lt, mod-eq-sub-mod}
 use Rattle.life_base.specs.Tree.{Tree, point, quad, depth, blank, state_at, IsFull}
 use Rattle.life_base.specs.declared.rule.Rule.{Rule}
 use Rattle.life_mc.specs.Macrocell.{AreSquares, IsSquare, level_of, numbered, is_quarter, is_level, largest_state}
@@ -14,15 +12,14 @@ use Rattle.life_mc.specs.Squares.{tree_at, leaf_tree, line_tree, tree_of, root_t
 use Rattle.life_base.specs.Tree.{tree_cell}
 use Rattle.life_mc.specs.declared.line.Line.{Line}
 use Rattle.life_mc.specs.declared.line.Line.TheVariants.{Leaf, Quad}
-use Rattle.life_mc.proofs.TestFacts.{all_four, not_zero, few_states}
-
-pub twice : (k : ℕ) → 2 ^ suc k ≡ 2 ^ k + 2 ^ k
-twice k = two-pow-succ k
+use Rattle.life_mc.proofs.TestFacts.{all_four, few_states}
+use Rattle.life_base.proofs.Basics.{in_span, out_of_span, double, suc_not_zero, suc_suc_not_one}
+use Rattle.life_base.proofs.Squares.{same_quads, state_at-blank}
 
 -- ---- the quarter in which a column and a row lie
 
 rest-of : (k x : ℕ) → x < 2 ^ suc k → nat_lt x (2 ^ k) ≡ false → x - 2 ^ k < 2 ^ k
-rest-of k x l h = omega (arith, twice k, ltb-false x (2 ^ k) h)
+rest-of k x l h = omega (arith, double k, ltb-false x (2 ^ k) h)
 
 mod-below : (k x : ℕ) → nat_lt x (2 ^ k) ≡ true → x % 2 ^ k ≡ x
 mod-below k x h = mod-eq_of_lt (ltb-true x (2 ^ k) h)
@@ -75,18 +72,6 @@ module _ (most k : ℕ) (tree_for : ℕ → Tree) (cells_for : ℕ → ℕ → �
         ∙ same_at x y l m (nat_lt y (2 ^ k)) (nat_lt x (2 ^ k)) refl refl;
   }
 
-blank_state : (k x y : ℕ) → state_at (blank k) x y ≡ 0
-blank_state zero x y = refl
-blank_state (suc k) x y = all_zero (nat_lt y (2 ^ depth (blank k))) (nat_lt x (2 ^ depth (blank k))) (blank_state k x y)
-    (blank_state k (x - 2 ^ depth (blank k)) y)
-    (blank_state k x (y - 2 ^ depth (blank k))) (blank_state k (x - 2 ^ depth (blank k)) (y - 2 ^ depth (blank k)))
-  where
-    all_zero : {a b c d : ℕ} (v w : Bool) → a ≡ 0 → b ≡ 0 → c ≡ 0 → d ≡ 0 → chosen a b c d v w ≡ 0
-    all_zero true true p q r s = p
-    all_zero true false p q r s = q
-    all_zero false true p q r s = r
-    all_zero false false p q r s = s
-
 blank_shows : (most k : ℕ) → Shows most k (blank k) (λ x y. 0)
 blank_shows most zero = record { depth_is = refl; full = omega arith; states = omega arith; same = λ x y l m. refl }
 blank_shows most (suc k) =
@@ -94,7 +79,7 @@ blank_shows most (suc k) =
       depth_is = ap suc b.depth_is;
       full = (b.full, b.full, b.full, b.full, refl, refl, refl);
       states = (b.states, b.states, b.states, b.states);
-      same = λ x y l m. blank_state (suc k) x y;
+      same = λ x y l m. state_at-blank (suc k) x y;
     }
 
 point_shows : (most state : ℕ) → most ≤ 255 → state ≤ most → Shows most 0 (point state) (λ x y. state)
@@ -198,9 +183,6 @@ Names most lines zero number = number ≤ most
 Names most lines (suc k) zero = Unit {0}
 Names most lines (suc k) (suc i) = HasLevel lines (suc k) i
 
-not_one : (k : ℕ) → (suc (suc k) == 1) ≡ false
-not_one k = grind (arith, nat_tests)
-
 -- a quarter of line m
 quarter_names : (rule : Rule) (lines : List Line) (m k number : ℕ) → is_quarter rule (map level_of (take m lines)) (suc k) number ≡ true
     → Names (largest_state rule) lines k number × (0 < k → number ≤ m)
@@ -209,7 +191,8 @@ quarter_names rule lines m (suc k) zero h = (tt, λ some. omega arith)
 quarter_names rule lines m (suc k) (suc i) h =
     let levels = map level_of (take m lines) in
     let f : is_level (suc (suc k) - 1) (slice_get levels i) ≡ true =
-    by (suc (suc k) == 1) (suc i == 0) (nat_le (suc i) (largest_state rule)) (is_level (suc (suc k) - 1) (slice_get levels i)) (not_one k) (not_zero i) h in
+    by (suc (suc k) == 1) (suc i == 0) (nat_le (suc i) (largest_state rule)) (is_level (suc (suc k) - 1) (slice_get levels i)) (suc_suc_not_one k)
+    (suc_not_zero i) h in
     let g : is_level (suc k) (slice_get levels i) ≡ true = ap (λ n. is_level n (slice_get levels i)) (less k) ∙ f in
     let r = found lines m i (suc k) g in
     (r.1, λ some. omega (arith, r.0))
@@ -219,9 +202,6 @@ quarter_names rule lines m (suc k) (suc i) h =
 
     less : (k : ℕ) → suc k ≡ suc (suc k) - 1
     less k = omega arith
-
-joined : {a b c d a' b' c' d' : Tree} → a ≡ a' → b ≡ b' → c ≡ c' → d ≡ d' → quad a b c d ≡ quad a' b' c' d'
-joined p q r s = λ i. quad (p i) (q i) (r i) (s i)
 
 -- the square and the cells of level k + 1 for what has a number
 abbrev tree_by : List Line → ℕ → Option Line → Tree
@@ -276,7 +256,7 @@ module _ (top : ℕ) (rule : Rule) (lines : List Line) (valid : AreSquares top r
         front = λ m some.
             let l : i < m = omega (arith, some (omega arith)) in
             ap (tree_by (take m lines) k) (get_take lines m i l ∙ g)
-            ∙ joined (nw.0.front m (λ h. omega (arith, nw.1 h))) (ne.0.front m (λ h. omega (arith, ne.1 h))) (sw.0.front m (λ h. omega (arith, sw.1 h)))
+            ∙ same_quads (nw.0.front m (λ h. omega (arith, nw.1 h))) (ne.0.front m (λ h. omega (arith, ne.1 h))) (sw.0.front m (λ h. omega (arith, sw.1 h)))
             (se.0.front m (λ h. omega (arith, se.1 h)))
             ∙ sym (ap (tree_by lines k) g);
       }
@@ -310,12 +290,6 @@ pub root_at : (line : Line) (lines : List Line) → HasLevel (line ∷ lines) (r
 root_at line [] = (line, refl, refl)
 root_at line (next ∷ lines) = let r = root_at next lines in (r.0, r.1, r.2)
 
-in_span : (x : ℤ) (h c : ℕ) → x +ℤ pos h ≡ pos c → (int_le (neg_ℤ (pos h)) x && int_lt x (pos h)) ≡ nat_lt c (h + h)
-in_span x h c e = grind (arith, ints, nat_tests)
-
-out_of_span : (x : ℤ) (h c : ℕ) → x +ℤ pos h ≡ negsuc c → (int_le (neg_ℤ (pos h)) x && int_lt x (pos h)) ≡ false
-out_of_span x h c e = grind (arith, ints)
-
 in_pairs : (p q r s : Bool) → (p && q && r && s) ≡ ((p && q) && (r && s))
 in_pairs true true r s = refl
 in_pairs true false r s = refl
@@ -331,7 +305,7 @@ module _ (most level : ℕ) (some : 1 ≤ level) (tree : Tree) (lines : List Lin
   half = 2 ^ (level - 1)
 
   whole : 2 ^ level ≡ half + half
-  whole = let e : suc (level - 1) ≡ level = omega arith in ap (λ n. 2 ^ n) (sym e) ∙ twice (level - 1)
+  whole = let e : suc (level - 1) ≡ level = omega arith in ap (λ n. 2 ^ n) (sym e) ∙ double (level - 1)
 
   abbrev within : ℤ → Bool
   within x = int_le (neg_ℤ (pos half)) x && int_lt x (pos half)

@@ -9,7 +9,7 @@ use Rattle.std.proofs.Math.ListN.{get_or-append}
 use Rattle.std.proofs.lemmas.List.{take-append-le, map-append, append-nil}
 use Rattle.std.proofs.lemmas.List.Elements.{filter_map-append}
 use Rattle.std.proofs.lemmas.Bool.{le-leb}
-use Rattle.life_base.specs.Text.{is_empty, begins_with, is_too_long, trim, is_blank, is_digit_text, value_of}
+use Rattle.life_base.specs.Text.{is_empty, begins_with, trim, is_blank, is_digit_text, value_of}
 use Rattle.life_base.specs.Numbers.{u64_of}
 use Rattle.life_base.specs.Rules.{default_rule, rule_of}
 use Rattle.life_base.specs.declared.kind.Kind.{Kind}
@@ -26,6 +26,7 @@ use Rattle.life_mc.specs.declared.line.Line.TheVariants.{Leaf, Quad}
 use Rattle.life_mc.proofs.Around.{commands, hash_no_square}
 use Rattle.life_mc.proofs.Valid.{command_is_hash}
 use Rattle.life_mc.proofs.ReadLines.{squares_none, squares_some}
+use Rattle.life_base.proofs.Texts.{too_long, not_too_long}
 
 -- ---- a generation
 
@@ -47,23 +48,17 @@ generation_read text r e =
 
 -- ---- which rule a line breaks
 
-fits : (line : List ℕ) → length line ≤ 2 ^ 20 → is_too_long line ≡ false
-fits line h = grind (arith, nat_tests)
-
-too_large : (line : List ℕ) → 2 ^ 20 < length line → is_too_long line ≡ true
-too_large line h = grind (arith, nat_tests)
-
 module _ (top : ℕ) (lines : List (List ℕ)) (line : List ℕ) where
   abbrev rest : Option Kind
   rest = cond (is_empty lines) (cond (begins_with line (codes "[M2]")) None (Some NoHeader)) (broken_behind top lines line)
 
   pub breaks_length : 2 ^ 20 < length line → broken top lines line ≡ Some LineTooLong
   unfolding broken
-  breaks_length h = ap (λ v. cond v (Some LineTooLong) rest) (too_large line h)
+  breaks_length h = ap (λ v. cond v (Some LineTooLong) rest) (too_long line h)
 
   short : length line ≤ 2 ^ 20 → broken top lines line ≡ rest
   unfolding broken
-  short h = ap (λ v. cond v (Some LineTooLong) rest) (fits line h)
+  short h = ap (λ v. cond v (Some LineTooLong) rest) (not_too_long line h)
 
 not-not : (v w : Bool) → v ≡ not w → v ≡ false → w ≡ true
 not-not v true h k = refl
@@ -118,7 +113,7 @@ unbroken_more top lines line u b k l = elim (below_or_at k (length lines) (omega
     below_or_at : (k n : ℕ) → k < n + 1 → (k < n) ⊎ (k ≡ n)
     below_or_at k n h = grind arith
 
-last_of : {X : Type 0} (x y : X) (xs : List X) → last_or x (xs ++ y ∷ []) ≡ y
+pub last_of : {X : Type 0} (x y : X) (xs : List X) → last_or x (xs ++ y ∷ []) ≡ y
 last_of x y [] = refl
 last_of x y (z ∷ xs) = last_of z y xs
 

@@ -3,8 +3,7 @@ use Rattle.std.proofs.Common.{◌≡◌, ℕ, zero, suc, ◌-◌, ◌^◌, ◌<�
 use Rattle.std.specs.Prelude.{nat_le, nat_lt, ◌==◌, map, flat_map, codes, bytes_eq, Some, None}
 use Rattle.std.specs.List.{slice_get}
 use Rattle.std.specs.Result.{result_ok, result_err}
-use Rattle.std.proofs.lemmas.Bool.Decides.{nat_tests}
-use Rattle.std.proofs.lemmas.Bool.{leb-true}
+use Rattle.std.proofs.lemmas.Bool.{leb-true, eqb-true}
 use Rattle.std.proofs.lemmas.List.{map-append, append-nil}
 use Rattle.std.proofs.Math.Seq.{take-append_seam}
 use mathlib.Core.Bool.{and-true}
@@ -22,10 +21,12 @@ use Rattle.life_mc.specs.declared.line.Line.TheVariants.{Leaf, Quad}
 use Rattle.life_mc.specs.declared.line.ParsedLine.TheVariants.{RuleLine, GenerationLine, NodeLine}
 use Rattle.life_mc.proofs.HeaderLines.{rule_short, rule_line, rule_stands, rule_parsed, generation_line, generation_stands, generation_parsed, generation_short}
 use Rattle.life_mc.proofs.LineTexts.{IsTextOf, leaf_text, quad_text}
-use Rattle.life_mc.proofs.ReadBack.{has_no_feed, line_ended}
+use Rattle.life_mc.proofs.ReadBack.{has_no_feed}
 use Rattle.life_mc.proofs.ReadLines.{squares_some, get_seam, some_lines}
 use Rattle.life_mc.proofs.Stands.{stands_first, stands_next, square_ok}
-use Rattle.life_mc.proofs.TestFacts.{all_four, not_zero, few_states}
+use Rattle.life_mc.proofs.TestFacts.{all_four, few_states}
+use Rattle.life_base.proofs.WholeLines.{first_of_lines}
+use Rattle.life_base.proofs.Basics.{suc_not_zero}
 
 -- ---- a square's text, where the squares before it have these levels
 
@@ -36,7 +37,7 @@ level_within (l ∷ levels) (suc i) level h = omega (arith, level_within levels 
 
 child_within : (levels : List ℕ) (level n : ℕ) → is_child levels level n ≡ true → n ≤ length levels
 child_within levels level zero h = omega arith
-child_within levels level (suc i) h = omega (arith, level_within levels i level (by (suc i == 0) (is_level level (slice_get levels i)) (not_zero i) h))
+child_within levels level (suc i) h = omega (arith, level_within levels i level (by (suc i == 0) (is_level level (slice_get levels i)) (suc_not_zero i) h))
   where
     by : (v w : Bool) → v ≡ false → (v || w) ≡ true → w ≡ true
     by true w p q = cc
@@ -194,7 +195,7 @@ each_ended : (lines : List Line) → ((k : ℕ) (line : Line) → slice_get line
 each_ended [] h = refl
 each_ended (line ∷ lines) h =
     ap lines_of (append_assoc (line_text line) (codes "\n") (flat_map (λ line. line_text line ++ codes "\n") lines))
-    ∙ line_ended (line_text line) (flat_map (λ line. line_text line ++ codes "\n") lines) (h 0 line refl).feed
+    ∙ first_of_lines (line_text line) (flat_map (λ line. line_text line ++ codes "\n") lines) (h 0 line refl).feed
     ∙ ap (λ (t : List (List ℕ)). line_text line ∷ t) (each_ended lines (λ k l g. h (suc k) l g))
 
 -- a header, a line and what is behind them
@@ -202,8 +203,8 @@ two_ended : (text rest : List ℕ) → has_no_feed text ≡ true
     → lines_of (codes "[M2] (canonical 1)\n#R " ++ text ++ codes "\n" ++ rest) ≡ header_line ∷ (codes "#R " ++ text) ∷ lines_of rest
 two_ended text rest h =
     let e : codes "[M2] (canonical 1)\n#R " ++ text ++ codes "\n" ++ rest ≡ header_line ++ 10 ∷ ((codes "#R " ++ text) ++ 10 ∷ rest) = simp append_assoc refl in
-    ap lines_of e ∙ line_ended header_line ((codes "#R " ++ text) ++ 10 ∷ rest) refl
-    ∙ ap (λ (t : List (List ℕ)). header_line ∷ t) (line_ended (codes "#R " ++ text) rest h)
+    ap lines_of e ∙ first_of_lines header_line ((codes "#R " ++ text) ++ 10 ∷ rest) refl
+    ∙ ap (λ (t : List (List ℕ)). header_line ∷ t) (first_of_lines (codes "#R " ++ text) rest h)
 
 -- the text of a file in its parts
 in_parts : (text generation rest : List ℕ) → codes "[M2] (canonical 1)\n#R " ++ text ++ codes "\n" ++ generation ++ rest ≡ codes "[M2] (canonical 1)\n#R "
@@ -212,10 +213,7 @@ in_parts text generation rest = append_assoc (codes "[M2] (canonical 1)\n#R " ++
 
 generation_ended : (text rest : List ℕ) → has_no_feed text ≡ true → lines_of ((codes "#G " ++ text ++ codes "\n") ++ rest) ≡ (codes "#G " ++ text)
     ∷ lines_of rest
-generation_ended text rest h = ap lines_of (append_assoc (codes "#G " ++ text) (codes "\n") rest) ∙ line_ended (codes "#G " ++ text) rest h
-
-is_zero : (n : ℕ) → (n == 0) ≡ true → n ≡ 0
-is_zero n h = grind (arith, nat_tests)
+generation_ended text rest h = ap lines_of (append_assoc (codes "#G " ++ text) (codes "\n") rest) ∙ first_of_lines (codes "#G " ++ text) rest h
 
 module _ (top : ℕ) (low : top < 10 ^ 64) (file : Macrocell) (v : IsValid top file) (few : length file.lines < 10 ^ 64) where
   abbrev nodes : List ℕ
@@ -235,7 +233,7 @@ module _ (top : ℕ) (low : top < 10 ^ 64) (file : Macrocell) (v : IsValid top f
 
   all_lines : (b : Bool) → (file.generation == 0) ≡ b → Says top (lines_of (mc_text file)) file.rule file.generation file.lines
   all_lines true e =
-      let z : file.generation ≡ 0 = is_zero file.generation e in
+      let z : file.generation ≡ 0 = eqb-true file.generation 0 e in
       let P : List (List ℕ) → Type 0 = λ ls. Says top ls file.rule file.generation file.lines in
       let Q : ℕ → Type 0 = λ g. Says top (header_line ∷ rule_line file.rule ∷ []) file.rule g [] in
       let t : lines_of (mc_text file) ≡ header_line ∷ rule_line file.rule ∷ map line_text file.lines =

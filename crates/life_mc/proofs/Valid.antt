@@ -13,8 +13,8 @@ use Rattle.life_base.specs.Numbers.{u64_of}
 use Rattle.life_base.specs.declared.kind.Kind.{Kind}
 use Rattle.life_base.specs.declared.kind.Kind.TheVariants.{BadLevel, BadChild, BadLeaf, StateRange, Timeline, LateHeader, LineTooLong}
 use Rattle.life_base.specs.declared.rule.Rule.{Rule}
-use Rattle.life_base.proofs.Numbers.{first, second}
 use Rattle.life_base.proofs.Refusals.{UnbrokenBelow}
+use Rattle.life_base.proofs.Basics.{right_of_and, left_of_and, cond_le}
 use Rattle.life_mc.specs.Macrocell.{AreSquares, IsSquare, level_of, is_quarter}
 use Rattle.life_mc.specs.Reading.{Accepts, broken, broken_behind, broken_by_node, broken_by_square, missing, squares_of, square_on, square_of, rule_in_force, rule_on, last_or, is_command, is_node_line, is_leaf_byte, is_leaf, leaf_bytes, leaf_rows, row_byte, quad_of}
 use Rattle.life_mc.specs.declared.line.Line.{Line}
@@ -40,15 +40,15 @@ module _ (top : ℕ) where
 
   pub command_is_hash : (c : ℕ) (line : List ℕ) → is_command c line ≡ true → begins_with line (codes "#") ≡ true
   command_is_hash c [] h = cc
-  command_is_hash c (a ∷ []) h = let k : (a == 35) ≡ true = first _ _ (first _ _ h) in true_true _ k
-  command_is_hash c (a ∷ b ∷ rest) h = let k : (a == 35) ≡ true = first _ _ (first _ _ h) in true_true _ k
+  command_is_hash c (a ∷ []) h = let k : (a == 35) ≡ true = left_of_and _ _ (left_of_and _ _ h) in true_true _ k
+  command_is_hash c (a ∷ b ∷ rest) h = let k : (a == 35) ≡ true = left_of_and _ _ (left_of_and _ _ h) in true_true _ k
 
   pub no_command : (c : ℕ) (line : List ℕ) → begins_with line (codes "#") ≡ false → is_command c line ≡ false
   no_command c line h = false_from_ne_true _ (λ k. let t = command_is_hash c line k in cc)
 
   pub hash_not_blank : (line : List ℕ) → begins_with line (codes "#") ≡ true → is_blank line ≡ false
   hash_not_blank [] h = cc
-  hash_not_blank (a ∷ line) h = let e : a ≡ 35 = eqb-true a 35 (first _ _ h) in ap (λ b. is_whitespace b && list_all is_whitespace line) e
+  hash_not_blank (a ∷ line) h = let e : a ≡ 35 = eqb-true a 35 (left_of_and _ _ h) in ap (λ b. is_whitespace b && list_all is_whitespace line) e
 
   -- ---- what a line that breaks no rule behind a header says
 
@@ -63,8 +63,8 @@ module _ (top : ℕ) where
     node_stands : (line : List ℕ) → broken_behind top before line ≡ None → is_node_line line ≡ true
         → broken_by_node top (rule_in_force before) (map level_of (squares_of before)) (trim line) ≡ None
     node_stands line e n =
-        let blank : is_blank line ≡ false = not-true _ (first _ (not (begins_with line (codes "#"))) n) in
-        let hash : begins_with line (codes "#") ≡ false = not-true _ (second (not (is_blank line)) _ n) in
+        let blank : is_blank line ≡ false = not-true _ (left_of_and _ (not (begins_with line (codes "#"))) n) in
+        let hash : begins_with line (codes "#") ≡ false = not-true _ (right_of_and (not (is_blank line)) _ n) in
         let s1 = not_taken (is_blank line) None _ blank e in
         let s2 = (passed (begins_with line (codes "#FRAME")) Timeline _ s1).1 in
         let s3 = (passed ((is_command 82 line || is_command 71 line) && nat_lt 0 (length (map level_of (squares_of before)))) LateHeader _ s2).1 in
@@ -99,18 +99,14 @@ module _ (top : ℕ) where
   quad_is_square rule levels level nw ne sw se h =
       let p = passed (not (nat_le 1 level && nat_le level top)) BadLevel _ h in
       let r : (nat_le 1 level && nat_le level top) ≡ true = not_false _ p.0 in (
-        leb-true 1 level (first _ _ r),
-        leb-true level top (second (nat_le 1 level) _ r),
+        leb-true 1 level (left_of_and _ _ r),
+        leb-true level top (right_of_and (nat_le 1 level) _ r),
         all_ok (list_all (is_quarter rule levels level) (nw ∷ ne ∷ sw ∷ se ∷ [])) (level == 1) StateRange BadChild p.1,
       )
     where
       not_false : (v : Bool) → not v ≡ false → v ≡ true
       not_false true h = refl
       not_false false h = cc
-
-  cond_le : (v : Bool) (n : ℕ) → cond v n 0 ≤ n
-  cond_le true n = omega arith
-  cond_le false n = omega arith
 
   pub row_fits : (row : List ℕ) → row_byte row < 256
   row_fits row = omega (
@@ -222,7 +218,7 @@ module _ (top : ℕ) where
     with_square None h = with_rule (rule_on line) refl h
     with_square (Some square) h =
         let t = taken (is_node_line line) (square_of (trim line)) square h in
-        let hash : begins_with line (codes "#") ≡ false = not-true _ (second (not (is_blank line)) _ t.0) in
+        let hash : begins_with line (codes "#") ≡ false = not-true _ (right_of_and (not (is_blank line)) _ t.0) in
         let none : rule_on line ≡ None = not_command (is_command 82 line) (result_ok (rule_of (drop 2 line))) (no_command 82 line hash) in
         let is : IsSquare top (rule_in_force (header ∷ lines)) (map level_of (squares_of (header ∷ lines))) square =
         node_is_square _ _ (trim line) square (node_stands header lines line stands t.0) t.1 in

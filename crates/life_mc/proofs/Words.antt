@@ -6,8 +6,8 @@ use Rattle.std.specs.Char.{is_ascii_digit}
 use Rattle.std.proofs.lemmas.Bool.Decides.{nat_tests}
 use mathlib.Core.Bool.{and-true, and-false}
 use Rattle.life_base.proofs.FrontDigits.{digit_text_in_front}
-use Rattle.life_base.proofs.Numbers.{first}
 use Rattle.life_base.proofs.WordEnds.{ends, further, words_in}
+use Rattle.life_base.proofs.Basics.{left_of_and}
 use Rattle.life_base.specs.Numbers.{capped}
 use Rattle.life_base.specs.Text.{is_empty, is_blank, is_whitespace, trim_start, words_of, is_digit_text, value_of, with_word}
 use Rattle.life_mc.specs.Standing.{begins_with_number, quad_words}
@@ -41,7 +41,7 @@ whole_step : (v : Bool) (b : ℕ) (text : List ℕ) → is_ascii_digit b ≡ v �
 whole_step true b text e ih h =
     let k : 1 + digits text ≡ suc (digits text) = omega arith in
     ap (λ v. cond (not v) (1 + ends text) 0) (digit_no_space b e) ∙ ap (λ n. 1 + n) (ih (rw k at h))
-whole_step false b text e ih h = ap (λ v. cond (not v) (1 + ends text) 0) (first (is_whitespace b) true h)
+whole_step false b text e ih h = ap (λ v. cond (not v) (1 + ends text) 0) (left_of_and (is_whitespace b) true h)
 
 -- where a word ends behind the digits, it is these digits
 whole_word : (text : List ℕ) → is_blank (take 1 (behind text)) ≡ true → ends text ≡ digits text

@@ -8,7 +8,9 @@ use Rattle.life_base.specs.declared.cell.Cell.{Cell}
 use Rattle.life_base.specs.Tree.{Tree, point, quad, depth, state_at, is_blank_tree, IsFull}
 use Rattle.life_quad.specs.Distances.{IsNonzeroAt}
 use Rattle.life_quad.specs.Bands.{Piece, kept, northern, southern, upper, lower, row_cells, band_cells, IsBand, InBand}
-use Rattle.life_quad.proofs.NonzeroLemmas.{InQuarter, in_nw, in_ne, in_sw, in_se, quarter_of, from_quarter, blank_has_none, double, state_nw, state_ne, state_sw, state_se}
+use Rattle.life_quad.proofs.NonzeroLemmas.{InQuarter, in_nw, in_ne, in_sw, in_se, quarter_of, from_quarter, blank_has_none}
+use Rattle.life_base.proofs.Basics.{double}
+use Rattle.life_base.proofs.Squares.{state_nw, state_ne, state_sw, state_se}
 
 abbrev piece : Tree → ℤ → Piece
 piece t column = record { square = t; column = column }

@@ -8,6 +8,7 @@ use Rattle.std.specs.Prelude.{◌^◌, if◌then◌else◌, IfErr, IsErr, IsErrA
 use Rattle.indexmap.specs.IndexSet.{insert_key}
 use Rattle.std.proofs.lemmas.Option.{slice_get-get_or, slice_get_within, get_or_from_slice_get}
 use Rattle.std.proofs.lemmas.List.Folds.{list_any_at}
+use Rattle.std.proofs.lemmas.Bool.{cases_eq}
 use Rattle.life_base.specs.declared.kind.Kind.{Kind}
 use Rattle.life_base.specs.declared.kind.Kind.TheVariants.{Full, Memory}
 use Rattle.life_base.specs.declared.cell.TheConstants.{MAX_LEVEL}
@@ -16,12 +17,13 @@ use Rattle.life_quad.specs.declared.id.Node.{Node}
 use Rattle.life_quad.specs.contracts.id.NodePartialEq.TheImpl.{eq-value}
 use Rattle.life_base.specs.Tree.{Tree, point, quad, depth, quarters, blank, is_blank_tree, IsFull}
 use Rattle.life_base.proofs.Squares.{depth-blank, is_blank-blank, blank_is, quad_nw, quad_ne, quad_sw, quad_se, point_state, point≢quad}
+use Rattle.life_base.proofs.Basics.{slice_get-last}
 use Rattle.life_quad.specs.Store.{Nodes, two, four, small_square, number_of, id_of, square_of, node_square, squares, levels_of, content, held, is_blank_id, IsNamed, IsEarlier, IsNode, IsSmall, IsSound, IsShared, Knows, IsIdOf, as_small, as_node, Joined, was_there, is_new, Answers, HasSeen}
 use Rattle.life_quad.specs.Keeping.{KeepsSquares, AddsOnly, IsWantKind}
 use Rattle.life_quad.specs.IdNumbers.{first_of}
 use Rattle.life_quad.proofs.SmallLemmas.{small_range, quarters_range}
 use Rattle.life_quad.specs.StoreLaws.{Kinds, a_state, a_blank, a_small, a_node, kind_of, Names, the_state, the_blank, the_node, names, same_id, same_ids, small_node, full_content}
-use Rattle.life_quad.proofs.StoreLemmas.{length-squares, squares-push, square_of-append, square_of-node, square_of-small, square_of-id, is_blank-content, slice_get-last, slice_get-push_cases, node_square-append}
+use Rattle.life_quad.proofs.StoreLemmas.{length-squares, squares-push, square_of-append, square_of-node, square_of-small, square_of-id, is_blank-content, slice_get-push_cases, node_square-append}
 use Rattle.life_quad.proofs.KeepingLemmas.{keeps-same, adds-none}
 use Rattle.life_quad.proofs.MakingLemmas.{Joins}
 use Rattle.life_quad.proofs.GrowLemmas.{with_id, with_node, with_both, IsSound-id, IsSound-both, IsShared-id, IsShared-both}
@@ -519,14 +521,11 @@ HasSeen-same seen seen' log h same = record {
       ∙ h.listed i there low;
 }
 
-same_or_other : (i k : ℕ) → (i ≡ k) ⊎ (i ≢ k)
-same_or_other i k = grind arith
-
 pub HasSeen-mark : (seen seen' : Id → Bool) (log log' : List ℕ) (k : ℕ) → HasSeen seen log → seen' (id_of k) ≡ true
     → ((q : Id) → q ≢ id_of k → seen' q ≡ seen q) → log' ≡ log ++ k ∷ [] → HasSeen seen' log'
 HasSeen-mark seen seen' log log' k h marked others grown = subst (HasSeen seen') (sym grown) (record {
-  joined = λ i mark. joined i mark (same_or_other i k);
-  listed = λ i there low. listed i low (same_or_other i k) (Contains-push_cases log k i there);
+  joined = λ i mark. joined i mark (cases_eq i k);
+  listed = λ i there low. listed i low (cases_eq i k) (Contains-push_cases log k i there);
 })
   where
     other : (i : ℕ) → i ≢ k → seen' (id_of i) ≡ seen (id_of i)

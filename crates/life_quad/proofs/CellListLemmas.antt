@@ -17,10 +17,10 @@ use Rattle.life_quad.specs.declared.listing.Placed.{Placed}
 use Rattle.life_base.specs.declared.kind.Kind.{Kind}
 use Rattle.life_base.specs.declared.kind.Kind.TheVariants.{TooManyCells}
 use Rattle.std.specs.Prelude.{Result, IfErr}
-use Rattle.life_quad.proofs.RunLemmas.{side}
 use Rattle.life_quad.proofs.CountLemmas.{population-blank}
 use Rattle.life_quad.proofs.PlaneLemmas.{IsPlace, place_of, cell_at}
 use Rattle.life_quad.proofs.BandLemmas.{IsBand-upper, IsBand-lower, IsCellOf, OnBand, Has, SomeOf-cases, band_from, band_has, kept_has, kept_from, no_cells, band_step}
+use Rattle.life_base.proofs.Basics.{halves}
 
 -- each cell is before the later ones
 abbrev pub InOrder : List Cell → Type 0
@@ -296,7 +296,7 @@ append_none cells content level row [] e = sym (append-nil cells) ∙ ap (λ mor
 append_none cells content level row (p ∷ band) e = absurd (omega arith)
 
 pub halves_side : (level : ℕ) → 1 ≤ level → 2 ^ level ≡ 2 ^ (level - 1) + 2 ^ (level - 1)
-halves_side level low = sym (side level low)
+halves_side level low = sym (halves level low)
 
 -- the cells of a band by those of its halves
 module _ (level : ℕ) (row first middle : ℤ) (content : Id → Tree) (named seen : List Placed) (north south : List Piece) (some : level ≢ 0) (same : first ≡ row)

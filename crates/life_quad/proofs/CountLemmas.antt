@@ -10,18 +10,18 @@ use Rattle.life_base.specs.Tree.{Tree, point, quad, depth, is_blank_tree, IsFull
 use Rattle.life_quad.specs.Cells.{population}
 use Rattle.life_quad.specs.Store.{two, four}
 use Rattle.life_base.proofs.RoundTrip.{all_below, all_below_at}
-use Rattle.life_base.proofs.Squares.{and_left, and_right}
+use Rattle.life_base.proofs.Basics.{right_of_and, left_of_and}
 
 -- a blank square has no cell with a state
 pub population-blank : (t : Tree) → is_blank_tree t ≡ true → population t ≡ 0
 population-blank (point s) h = grind (arith, h)
 population-blank (quad a b c d) h =
-    let l = and_left (is_blank_tree a && is_blank_tree b && is_blank_tree c) (is_blank_tree d) h in
-    let m = and_left (is_blank_tree a && is_blank_tree b) (is_blank_tree c) l in
-    let pa = population-blank a (and_left (is_blank_tree a) (is_blank_tree b) m) in
-    let pb = population-blank b (and_right (is_blank_tree a) (is_blank_tree b) m) in
-    let pc = population-blank c (and_right (is_blank_tree a && is_blank_tree b) (is_blank_tree c) l) in
-    let pd = population-blank d (and_right (is_blank_tree a && is_blank_tree b && is_blank_tree c) (is_blank_tree d) h) in
+    let l = left_of_and (is_blank_tree a && is_blank_tree b && is_blank_tree c) (is_blank_tree d) h in
+    let m = left_of_and (is_blank_tree a && is_blank_tree b) (is_blank_tree c) l in
+    let pa = population-blank a (left_of_and (is_blank_tree a) (is_blank_tree b) m) in
+    let pb = population-blank b (right_of_and (is_blank_tree a) (is_blank_tree b) m) in
+    let pc = population-blank c (right_of_and (is_blank_tree a && is_blank_tree b) (is_blank_tree c) l) in
+    let pd = population-blank d (right_of_and (is_blank_tree a && is_blank_tree b && is_blank_tree c) (is_blank_tree d) h) in
     omega (arith, pa, pb, pc, pd)
 
 fourfold : (n : ℕ) → 4 ^ suc n ≡ 4 ^ n + 4 ^ n + 4 ^ n + 4 ^ n

@@ -6,7 +6,8 @@ use Rattle.std.proofs.lemmas.Option.{slice_get_within, get_or_from_slice_get}
 use Rattle.life_base.specs.Tree.{Tree}
 use Rattle.life_quad.specs.declared.id.Node.{Node}
 use Rattle.life_quad.specs.Store.{Nodes, node_square, squares, number_of, IsNode, IsSmall, IsSound, IsShared}
-use Rattle.life_quad.proofs.StoreLemmas.{squares-push, length-squares, node_square-append, slice_get-append, slice_get-last, slice_get-push_cases, IsNode-append, IsNode-more}
+use Rattle.life_quad.proofs.StoreLemmas.{squares-push, length-squares, node_square-append, slice_get-append, slice_get-push_cases, IsNode-append, IsNode-more}
+use Rattle.life_base.proofs.Basics.{slice_get-last}
 
 -- a store with one more Id that was joined
 abbrev pub with_id : Nodes → ℕ → Nodes

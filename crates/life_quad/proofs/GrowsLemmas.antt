@@ -1,5 +1,5 @@
 -- What calls leave in a store, one behind the other, and refusals that are handed on.
-use Rattle.std.proofs.Common.{◌≡◌, Result, Ok, Err, ap, inl}
+use Rattle.std.proofs.Common.{◌≡◌, Result, Ok, Err, inl}
 use Rattle.std.specs.Prelude.{IfErr, IsErrAnd}
 use Rattle.life_base.specs.Tree.{Tree}
 use Rattle.life_base.specs.declared.kind.Kind.{Kind}
@@ -10,15 +10,7 @@ use Rattle.life_quad.specs.Keeping.{AddsOnly}
 use Rattle.life_quad.specs.Grows.{Keeps, Grows, GrowsOnly, MakesSquare}
 use Rattle.life_quad.proofs.KeepingLemmas.{keeps-same, keeps-then, adds-none, adds-as, adds-then}
 use Rattle.life_quad.proofs.MakingLemmas.{Joins, joined}
-use Rattle.life_quad.proofs.RefusedLemmas.{error_is}
-
--- the same refusal of another call
-err_again : {T U E : Type 0} {x y : E} → ◌≡◌ {A = Result T E} (Err x) (Err y) → ◌≡◌ {A = Result U E} (Err x) (Err y)
-err_again {T} {E = E} {x} e = ap Err (ap only e)
-  where
-    only : Result T E → E
-    only (Ok t) = x
-    only (Err z) = z
+use Rattle.life_base.proofs.Results.{error_is, err_again}
 
 module _ {X : Type 0} {S : Ghosts X} {A : Type 0} {N : (Tree → Type 0) → Type 0} (M : (Tree → Type 0) → Type 0) where
   -- a call behind others

@@ -13,8 +13,8 @@ use Rattle.life_quad.specs.Keeping.{KeepsSquares, AddsOnly, IsWantKind}
 use Rattle.life_quad.specs.Moves.{CanJoin, quad_of, quads_of}
 use Rattle.life_quad.specs.Refused.{SomeOf}
 use Rattle.life_quad.proofs.MakingLemmas.{Joins}
-use Rattle.life_quad.proofs.RefusedLemmas.{error_is}
 use Rattle.life_quad.proofs.KeepingLemmas.{keeps-same, keeps-then, still, adds-none, adds-then}
+use Rattle.life_base.proofs.Results.{error_is}
 
 -- the quarters in a place beyond all of them
 abbrev pub no_quarters : Quarters

@@ -3,6 +3,7 @@ use Rattle.std.proofs.Common.{◌≡◌, ◌≢◌, ℕ, zero, suc, ◌+◌, ◌
 use Rattle.std.specs.List.{list_all}
 use Rattle.std.specs.Prelude.{if◌then◌else◌}
 use Rattle.std.proofs.lemmas.Int.{ints}
+use Rattle.std.proofs.lemmas.Bool.{cases_eq}
 use Rattle.life_base.specs.declared.cell.Cell.{Cell}
 use Rattle.life_base.specs.Tree.{Tree, point, quad, depth, state_at, is_blank_tree, IsFull}
 use Rattle.life_quad.specs.Moves.{outer, inner, can_trim, trimmed, trim_up_to, grown}
@@ -10,24 +11,21 @@ use Rattle.life_base.specs.Tree.{tree_cell as cell, half_side}
 use Rattle.life_quad.specs.Laws.{BlankByCells, EqualByCells, EqualByPlane, CellsLieInside, GrowingKeepsCells, TrimmingKeepsCells, TrimmingIgnoresGrowth, TrimmedIsFixed, TrimmingStops, TrimmedByCells, TrimmedIsLowest, CellsAreListed, ListIsPopulation, KnownSquaresAreFull, EqualSquaresHaveOneId}
 use Rattle.life_quad.specs.Bands.{Piece, kept}
 use Rattle.life_quad.specs.StoreLaws.{full_content, low_content, same_id}
-use Rattle.life_base.proofs.Squares.{depth-blank, full-blank, is_blank-blank, and_left, and_right, is_inside, inside_facts, cell_outside}
+use Rattle.life_base.proofs.Squares.{depth-blank, full-blank, is_blank-blank, is_inside, inside_facts, cell_outside, state_nw, state_ne, state_sw, state_se}
+use Rattle.life_base.proofs.Basics.{right_of_and, left_of_and, double}
 use Rattle.life_quad.proofs.MoveLemmas.{depth-inner, trimmed-stays, trimmed-smaller}
 use Rattle.life_quad.proofs.PlaneLemmas.{IsPlace, cell_at, back as west_again}
-use Rattle.life_quad.proofs.NonzeroLemmas.{blank_has_none, others_have_one, double, state_nw, state_ne, state_sw, state_se}
+use Rattle.life_quad.proofs.NonzeroLemmas.{blank_has_none, others_have_one}
 use Rattle.life_quad.proofs.BandLemmas.{IsCellOf, OnBand, SomeOf-cases, SomeOf-append_left, SomeOf-append_right, kept_has, kept_from, quarters_have, northern_from, southern_from}
 use Rattle.life_quad.proofs.CellListLemmas.{on_plane, from_plane, square_cells, IsCellList-square, one_list, list_length}
 
 -- ---- blank squares and equal squares by their cells
 
-zero_or_not : (n : ℕ) → (n ≡ 0) ⊎ (n ≢ 0)
-zero_or_not zero = inl refl
-zero_or_not (suc n) = inr (λ e. omega arith)
-
 pub blank_by_cells : BlankByCells
 blank_by_cells t full = (to, from)
   where
     to : is_blank_tree t ≡ true → (i j : ℕ) → i < 2 ^ depth t → j < 2 ^ depth t → state_at t i j ≡ 0
-    to h i j li lj = by (zero_or_not (state_at t i j))
+    to h i j li lj = by (cases_eq (state_at t i j) 0)
       where
         by : (state_at t i j ≡ 0) ⊎ (state_at t i j ≢ 0) → state_at t i j ≡ 0
         by (inl e) = e
@@ -137,7 +135,7 @@ no_cell : (top : ℤ) (t : Tree) (column : ℤ) (c : Cell) → IsFull t → is_b
 no_cell top t column c full h n = blank_has_none t full h n.i n.j n.nonzero
 
 first_of_all : (t : Tree) (more : List Tree) → list_all is_blank_tree (t ∷ more) ≡ true → (is_blank_tree t ≡ true) × (list_all is_blank_tree more ≡ true)
-first_of_all t more h = (and_left _ _ h, and_right _ _ h)
+first_of_all t more h = (left_of_and _ _ h, right_of_and _ _ h)
 
 -- ---- the inner square, where the outer grandchildren are blank
 
@@ -254,7 +252,7 @@ CellsOf t c = IsCellOf (neg_ℤ (pos (half_side t))) (at_place t (neg_ℤ (pos (
 
 same_cells : (s t : Tree) → IsFull s → IsFull t → 1 ≤ depth s → 1 ≤ depth t → ((c : Cell) → CellsOf s c → CellsOf t c)
     → ((c : Cell) → CellsOf t c → CellsOf s c) → (x y : ℤ) → cell s x y ≡ cell t x y
-same_cells s t fs ft hs ht f g x y = by (zero_or_not (cell s x y)) (zero_or_not (cell t x y))
+same_cells s t fs ft hs ht f g x y = by (cases_eq (cell s x y) 0) (cases_eq (cell t x y) 0)
   where
     there : (cell s x y ≢ 0) → cell t x y ≡ cell s x y
     there n = let c : Cell = record { x = x; y = y; state = cell s x y } in (on_plane t ft ht c (f c (from_plane s fs hs c refl n))).0
@@ -319,7 +317,7 @@ inner_grown : (t : Tree) → 1 ≤ depth t → inner (grown t) ≡ t
 inner_grown (point s) high = absurd (omega arith)
 inner_grown (quad a b c d) high = refl
 
-depth_grown : (t : Tree) → 1 ≤ depth t → depth (grown t) ≡ suc (depth t)
+pub depth_grown : (t : Tree) → 1 ≤ depth t → depth (grown t) ≡ suc (depth t)
 depth_grown (point s) high = absurd (omega arith)
 depth_grown (quad a b c d) high = ap suc (ap suc (depth-blank (depth a)))
 
@@ -345,9 +343,9 @@ trimming_steps (suc n) t least full positive x y = by (can_trim t least) refl (�
         → cell (if b then trim_up_to n (inner t) least else t) x y ≡ cell t x y
     by false e rest = refl
     by true e rest =
-        let above : nat_lt least (depth t) ≡ true = and_left _ _ e in
+        let above : nat_lt least (depth t) ≡ true = left_of_and _ _ e in
         let deep : 2 ≤ depth t = grind arith in
-        let i = inner_cells t full deep (and_right (nat_lt least (depth t)) _ e) in
+        let i = inner_cells t full deep (right_of_and (nat_lt least (depth t)) _ e) in
         rest i.0 ∙ sym (i.1 x y)
 
 pub trimming_keeps_cells : TrimmingKeepsCells
@@ -360,7 +358,7 @@ record IsTrimmedForm (least : ℕ) (t form : Tree) : Type 0 where
   low : least ≤ depth t → least ≤ depth form
   high : depth form ≤ depth t
 
-cannot_trim : (t : Tree) (least : ℕ) → depth t ≤ least → can_trim t least ≡ false
+pub cannot_trim : (t : Tree) (least : ℕ) → depth t ≤ least → can_trim t least ≡ false
 cannot_trim t least le = let e : nat_lt least (depth t) ≡ false = grind (arith, le) in ap (λ b. b && list_all is_blank_tree (outer t)) e
 
 trimmed_form : (n : ℕ) (t : Tree) (least : ℕ) → IsFull t → 1 ≤ least → depth t ≤ n → IsTrimmedForm least t (trim_up_to n t least)
@@ -372,10 +370,10 @@ trimmed_form (suc n) t least full positive le = by (can_trim t least) refl (trim
         → IsTrimmedForm least t (if b then trim_up_to n (inner t) least else t)
     by false e rest = record { full = full; ends = e; low = λ h. h; high = omega arith }
     by true e rest =
-        let above : nat_lt least (depth t) ≡ true = and_left _ _ e in
+        let above : nat_lt least (depth t) ≡ true = left_of_and _ _ e in
         let over : least < depth t = grind arith in
         let deep : 2 ≤ depth t = omega arith in
-        let i = inner_cells t full deep (and_right (nat_lt least (depth t)) _ e) in
+        let i = inner_cells t full deep (right_of_and (nat_lt least (depth t)) _ e) in
         let d = depth-inner t full deep in
         let r = rest i.0 positive (omega arith) in
         let h = r.high in
@@ -387,9 +385,9 @@ form_of t least full positive = trimmed_form (depth t) t least full positive (om
 -- a square that can be trimmed becomes smaller
 pub trimmed-lower : (t : Tree) (least : ℕ) → IsFull t → 1 ≤ least → can_trim t least ≡ true → depth (trimmed t least) < depth t
 trimmed-lower t least full positive can =
-    let above : nat_lt least (depth t) ≡ true = and_left _ _ can in
+    let above : nat_lt least (depth t) ≡ true = left_of_and _ _ can in
     let deep : 2 ≤ depth t = grind arith in
-    let i = inner_cells t full deep (and_right (nat_lt least (depth t)) _ can) in
+    let i = inner_cells t full deep (right_of_and (nat_lt least (depth t)) _ can) in
     let high = (form_of (inner t) least i.0 positive).high in
     let d = depth-inner t full deep in
     let e = ap depth (trimmed-smaller t least full positive can) in

@@ -8,7 +8,7 @@ use Rattle.life_base.specs.Tree.{Tree}
 use Rattle.life_quad.specs.declared.id.Id.{Id}
 use Rattle.life_quad.specs.Keeping.{KeepsSquares, AddsOnly, IsWantKind, MakesSquares, MakesOneSquare}
 use Rattle.life_quad.proofs.KeepingLemmas.{keeps-then, adds-then}
-use Rattle.life_quad.proofs.RefusedLemmas.{error_is}
+use Rattle.life_base.proofs.Results.{error_is}
 
 module _ {S : Type 0} (knows : S → Id → Type 0) (content : S → Id → Tree) (stored : S → List Tree) (most : S → ℕ) where
   -- the clauses of a join that gives the square t, where `needs` says which squares need a node

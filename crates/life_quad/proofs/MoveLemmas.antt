@@ -6,7 +6,8 @@ use Rattle.life_quad.specs.declared.id.Id.{Id}
 use Rattle.life_base.specs.Tree.{Tree, point, quad, depth, quarters, blank, is_blank_tree, IsFull}
 use Rattle.life_quad.specs.declared.moves.Quarters.{Quarters}
 use Rattle.life_quad.specs.Moves.{AreQuarters, quad_of, outer, inner, can_trim, trimmed, trim_up_to}
-use Rattle.life_base.proofs.Squares.{is_blank-blank, blank_is, and_left}
+use Rattle.life_base.proofs.Squares.{is_blank-blank, blank_is}
+use Rattle.life_base.proofs.Basics.{left_of_and}
 
 -- a test for the blank square of a level
 pub blank_test : (t : Tree) (l : ℕ) (same : Bool) → IsFull t → l ≡ depth t → (same ≡ true → t ≡ blank l) → (same ≡ false → t ≡ blank l → ⊥)
@@ -58,7 +59,7 @@ trimmed-stays t least h = by (depth t)
 -- a square that can be trimmed has the trimmed form of its inner grandchildren
 pub trimmed-smaller : (t : Tree) (least : ℕ) → IsFull t → 1 ≤ least → can_trim t least ≡ true → trimmed (inner t) least ≡ trimmed t least
 trimmed-smaller t least full positive h =
-    let above : nat_lt least (depth t) ≡ true = and_left _ (list_all is_blank_tree (outer t)) h in
+    let above : nat_lt least (depth t) ≡ true = left_of_and _ (list_all is_blank_tree (outer t)) h in
     let deep : 2 ≤ depth t = grind arith in
     let one : depth t ≡ suc (depth (inner t)) = sym (depth-inner t full deep) ∙ (omega arith) in
     sym (ap (λ n. trim_up_to n t least) one ∙ step (depth (inner t)))

@@ -1,12 +1,9 @@
 -- Facts about the nonzero cells of a square.
 use Rattle.std.proofs.Common.{◌≡◌, ℕ, suc, ◌+◌, ◌-◌, ◌^◌, ◌<◌, Bool, true, false, ◌&&◌, ◌==◌, nat_lt, refl, sym, ◌∙◌, ap, arith, true≢false}
-use Rattle.life_base.specs.Tree.{Tree, point, quad, depth, state_at, is_blank_tree, IsFull}
-use Rattle.life_base.proofs.Squares.{and_left, and_right}
+use Rattle.life_base.specs.Tree.{Tree, point, quad, depth, is_blank_tree, IsFull}
 use Rattle.life_quad.specs.Distances.{IsNonzeroAt}
-use Rattle.life_base.proofs.Squares.{at_nw, at_ne, at_sw, at_se}
-
-pub double : (n : ℕ) → 2 ^ suc n ≡ 2 ^ n + 2 ^ n
-double n = grind arith
+use Rattle.life_base.proofs.Squares.{at_nw, at_ne, at_sw, at_se, state_nw, state_ne, state_sw, state_se}
+use Rattle.life_base.proofs.Basics.{right_of_and, left_of_and, double}
 
 -- the quarter in which a nonzero cell lies, and where in it
 pub data InQuarter (a b c d : Tree) (half i j : ℕ) : Type 0 where
@@ -14,29 +11,6 @@ pub data InQuarter (a b c d : Tree) (half i j : ℕ) : Type 0 where
   in_ne : (m : ℕ) → i ≡ half + m → IsNonzeroAt b m j → InQuarter a b c d half i j
   in_sw : (n : ℕ) → j ≡ half + n → IsNonzeroAt c i n → InQuarter a b c d half i j
   in_se : (m n : ℕ) → i ≡ half + m → j ≡ half + n → IsNonzeroAt d m n → InQuarter a b c d half i j
-
--- the state of a place in each quarter
-module _ (a b c d : Tree) (full : IsFull (quad a b c d)) where
-  pub state_nw : (i j : ℕ) → i < 2 ^ depth a → j < 2 ^ depth a → state_at (quad a b c d) i j ≡ state_at a i j
-  state_nw i j li lj = at_nw a b c d i j (grind arith) (grind arith)
-
-  pub state_ne : (i m j : ℕ) → i ≡ 2 ^ depth a + m → j < 2 ^ depth b → state_at (quad a b c d) i j ≡ state_at b m j
-  state_ne i m j e lj =
-      let s = ap (λ k. 2 ^ k) full.4 in
-      let back : i - 2 ^ depth a ≡ m = omega arith in
-      at_ne a b c d i j (grind arith) (grind arith) ∙ ap (λ z. state_at b z j) back
-
-  pub state_sw : (i j n : ℕ) → j ≡ 2 ^ depth a + n → i < 2 ^ depth c → state_at (quad a b c d) i j ≡ state_at c i n
-  state_sw i j n e li =
-      let s = ap (λ k. 2 ^ k) full.5 in
-      let back : j - 2 ^ depth a ≡ n = omega arith in
-      at_sw a b c d i j (grind arith) (grind arith) ∙ ap (λ z. state_at c i z) back
-
-  pub state_se : (i m j n : ℕ) → i ≡ 2 ^ depth a + m → j ≡ 2 ^ depth a + n → state_at (quad a b c d) i j ≡ state_at d m n
-  state_se i m j n e f =
-      let back_i : i - 2 ^ depth a ≡ m = omega arith in
-      let back_j : j - 2 ^ depth a ≡ n = omega arith in
-      at_se a b c d i j (grind arith) (grind arith) ∙ (λ z. state_at d (back_i z) (back_j z))
 
 -- the sides of the quarters of a full square, which are half as long as its own
 pub record Sides (a b c d : Tree) : Type 0 where
@@ -107,11 +81,11 @@ quarters_have_none a b c d full na nb nc nd i j n = by (quarter_of a b c d full 
 pub blank_has_none : (t : Tree) → IsFull t → is_blank_tree t ≡ true → (i j : ℕ) → IsNonzeroAt t i j → ⊥
 blank_has_none (point s) full h = λ i j n. n.state (grind (arith, h))
 blank_has_none (quad a b c d) full h =
-    let l = and_left _ (is_blank_tree d) h in
-    let m = and_left _ (is_blank_tree c) l in
-    quarters_have_none a b c d full (blank_has_none a full.0 (and_left _ (is_blank_tree b) m)) (blank_has_none b full.1 (and_right (is_blank_tree a) _ m))
-    (blank_has_none c full.2 (and_right (is_blank_tree a && is_blank_tree b) _ l))
-    (blank_has_none d full.3 (and_right (is_blank_tree a && is_blank_tree b && is_blank_tree c) _ h))
+    let l = left_of_and _ (is_blank_tree d) h in
+    let m = left_of_and _ (is_blank_tree c) l in
+    quarters_have_none a b c d full (blank_has_none a full.0 (left_of_and _ (is_blank_tree b) m)) (blank_has_none b full.1 (right_of_and (is_blank_tree a) _ m))
+    (blank_has_none c full.2 (right_of_and (is_blank_tree a && is_blank_tree b) _ l))
+    (blank_has_none d full.3 (right_of_and (is_blank_tree a && is_blank_tree b && is_blank_tree c) _ h))
 
 abbrev HasOne : Tree → Type 0
 HasOne t = (i : ℕ) × (j : ℕ) × IsNonzeroAt t i j

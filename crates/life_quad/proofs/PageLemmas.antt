@@ -2,13 +2,8 @@
 use Rattle.std.proofs.Common.{◌≡◌, ◌≢◌, ◌⊎◌, inl, inr, ℕ, ◌+◌, ◌/◌, ◌%◌, ◌<◌, ◌≤◌, Bool, true, false, ◌==◌, if◌then◌else◌, nat_lt, List, ◌++◌, length, get_or, replicate, refl, sym, ◌∙◌, ap, arith}
 use Rattle.std.proofs.lemmas.Grind.{common_steps}
 use Rattle.std.proofs.lemmas.List.{get_or_past}
+use Rattle.std.proofs.lemmas.Bool.{cases_eq, cases_lt}
 use Rattle.life_quad.specs.Pages.{ArePages, place_of, start_in, index_in}
-
-equal : (m n : ℕ) → (m ≡ n) ⊎ (m ≢ n)
-equal m n = grind arith
-
-less-or-not : (m n : ℕ) → (m < n) ⊎ (n ≤ m)
-less-or-not m n = grind arith
 
 -- no two pages have one place
 one_place : (m n : ℕ) → place_of m ≡ place_of n → m / 256 ≡ n / 256
@@ -41,7 +36,7 @@ inside starts size n h l = let whole = h.whole (place_of n) (omega (arith, l)) i
 
 -- where the page of a number wasn't made, no number of the page has a value
 behind : (starts : List ℕ) (size m n : ℕ) → ArePages starts size → place_of n ≡ place_of m → size ≤ index_in starts m → size ≤ index_in starts n
-behind starts size m n h place none = by (less-or-not (index_in starts n) size)
+behind starts size m n h place none = by (cases_lt (index_in starts n) size)
   where
     by : (index_in starts n < size) ⊎ (size ≤ index_in starts n) → size ≤ index_in starts n
     by (inl l) =
@@ -55,7 +50,7 @@ behind starts size m n h place none = by (less-or-not (index_in starts n) size)
 pub one_page : (starts new : List ℕ) (size more place : ℕ) → ArePages starts size → more ≡ size + 256 → more ≤ 4294967295 → start_in new place ≡ size
     → ((p : ℕ) → p ≢ place → start_in new p ≡ start_in starts p) → ArePages new more
 one_page starts new size more place h sum room here others = record
-    { few = room; whole = λ p l. whole p l (equal p place); apart = λ m n e l. apart m n e l (equal (place_of m) place) (equal (place_of n) place) }
+    { few = room; whole = λ p l. whole p l (cases_eq p place); apart = λ m n e l. apart m n e l (cases_eq (place_of m) place) (cases_eq (place_of n) place) }
   where
     whole : (p : ℕ) → start_in new p < 4294967295 → (p ≡ place) ⊎ (p ≢ place) → start_in new p + 256 ≤ more
     whole p l (inl same) = let start : start_in new p ≡ size = ap (start_in new) same ∙ here in omega (arith, start, sum)
@@ -88,7 +83,7 @@ pub same_values : {X : Type 0} (starts new : List ℕ) (values : List X) (absent
     → length values ≤ index_in starts m
     → start_in new place ≡ length values → ((p : ℕ) → p ≢ place → start_in new p ≡ start_in starts p)
     → get_or (values ++ replicate 256 absent) (index_in new n) absent ≡ get_or values (index_in starts n) absent
-same_values {X} starts new values absent place m n h number none here others = filled values 256 (index_in new n) absent ∙ by (equal (place_of n) place)
+same_values {X} starts new values absent place m n h number none here others = filled values 256 (index_in new n) absent ∙ by (cases_eq (place_of n) place)
   where
     by : (place_of n ≡ place) ⊎ (place_of n ≢ place) → get_or values (index_in new n) absent ≡ get_or values (index_in starts n) absent
     by (inl e) =

@@ -11,6 +11,7 @@ use Rattle.indexmap.proofs.IndexTableLemmas.Probe.{pigeonhole}
 use Rattle.life_quad.specs.IdNumbers.{HasPlaces, number_at, number_by}
 use Rattle.life_quad.specs.Store.{id_of}
 use Rattle.life_quad.proofs.MapLemmas.{same_number}
+use Rattle.life_base.proofs.Basics.{le_or_lt, lt_or_eq}
 
 -- an Id has one place
 pub distinct : (ids : List Id) (place : Id → ℕ) → HasPlaces ids place → AllPairs ◌≢◌ ids
@@ -19,9 +20,6 @@ distinct ids place h = λ i j d l m e.
     let b = h.listed j (get_or ids j d) (slice_get-get_or ids j d m) in
     let c : suc i ≡ suc j = sym a ∙ ap place e ∙ b in
     omega arith
-
-cases : (i n : ℕ) → i < suc n → (i < n) ⊎ (i ≡ n)
-cases i n h = grind arith
 
 equal : (a b : Id) → (a ≡ b) ⊎ (a ≢ b)
 equal a b = by (numbers a.0 b.0)
@@ -50,7 +48,7 @@ pub one_more : (ids : List Id) (old new : Id → ℕ) (id : Id) (place : ℕ) �
 one_more ids old new id place h set others absent is = record {
   listed = λ i q e.
       let l : i < length (ids ++ id ∷ []) = slice_get_within _ i q e in
-      elim (cases i (length ids) (omega (arith, length-append ids (id ∷ [])))) [
+      elim (lt_or_eq i (length ids) (omega (arith, length-append ids (id ∷ [])))) [
         | inl below ↦
             let f : slice_get ids i ≡ Some q = sym (slice_get-front ids id i below) ∙ e in
             let other : q ≢ id = λ g. absent (i, below, get_or_from_slice_get ids i q id f ∙ g) in
@@ -80,9 +78,6 @@ at_from first numbers q le = grind (arith, nat_tests)
 at_before : (first : ℕ) (numbers : List ℕ) (q : Id) → q.0 < first → number_at first numbers q ≡ 0
 at_before first numbers q lt = grind (arith, nat_tests)
 
-from-or-before : (first n : ℕ) → (first ≤ n) ⊎ (n < first)
-from-or-before first n = grind arith
-
 within : (numbers : List ℕ) (k n : ℕ) → get_or numbers k 0 ≡ suc n → k < length numbers
 within [] k n e = absurd (omega (arith, e))
 within (x ∷ numbers) zero n e = omega arith
@@ -90,7 +85,7 @@ within (x ∷ numbers) (suc k) n e = omega (arith, within numbers k n e)
 
 -- an Id with a number has room for it
 numbered : (first : ℕ) (numbers : List ℕ) (q : Id) (n : ℕ) → number_at first numbers q ≡ suc n → (first ≤ q.0) × (q.0 - first < length numbers)
-numbered first numbers q n e = by (from-or-before first q.0)
+numbered first numbers q n e = by (le_or_lt first q.0)
   where
     by : (first ≤ q.0) ⊎ (q.0 < first) → (first ≤ q.0) × (q.0 - first < length numbers)
     by (inl le) = (le, within numbers (q.0 - first) n (sym (at_from first numbers q le) ∙ e))
@@ -115,7 +110,7 @@ one_numbered : (first : ℕ) (ids : List Id) (numbers : List ℕ) (id : Id) (num
 one_numbered first ids numbers id number h absent from room is =
     let new = set numbers (id.0 - first) number in
     one_more ids (number_at first numbers) (number_at first new) id number h
-    (at_from first new id from ∙ get_or-set_same numbers (id.0 - first) number 0 room) (λ q o. others q o (from-or-before first q.0)) absent is
+    (at_from first new id from ∙ get_or-set_same numbers (id.0 - first) number 0 room) (λ q o. others q o (le_or_lt first q.0)) absent is
   where
     others : (q : Id) → q ≢ id → (first ≤ q.0) ⊎ (q.0 < first) → number_at first (set numbers (id.0 - first) number) q ≡ number_at first numbers q
     others q o (inl le) =
@@ -152,7 +147,7 @@ in_list first (n ∷ numbers) paged some q = refl
 -- there is room for an Id whose number has a place in the list
 room_there : (first index size : ℕ) (q : Id) → (first ≤ q.0 → index ≡ q.0 - first) → (q.0 < first → 2 ^ 32 ≤ index) → size < 2 ^ 32 → index < size
     → (first ≤ q.0) × (index ≡ q.0 - first)
-room_there first index size q from before short lt = by (from-or-before first q.0)
+room_there first index size q from before short lt = by (le_or_lt first q.0)
   where
     by : (first ≤ q.0) ⊎ (q.0 < first) → (first ≤ q.0) × (index ≡ q.0 - first)
     by (inl le) = (le, from le)

@@ -8,7 +8,7 @@ use Rattle.life_base.specs.Tree.{half_side, tree_cell as cell}
 use Rattle.life_quad.specs.Distances.{IsNonzeroAt}
 use Rattle.life_quad.proofs.DistanceLemmas.{IsLeastWithin}
 use Rattle.life_base.proofs.Squares.{is_inside, inside_facts, inside_test, inside_offset, cell_inside, cell_outside}
-use Rattle.life_quad.proofs.RunLemmas.{side}
+use Rattle.life_base.proofs.Basics.{halves}
 
 -- a pair has these distances from the west and the north side
 pub record IsPlace (half : ℕ) (x y : ℤ) (n m : ℕ) : Type 0 where
@@ -30,7 +30,7 @@ cell_at t x y n m high p ln lm =
     h = half_side t
 
     twice : half_side t + half_side t ≡ 2 ^ depth t
-    twice = side (depth t) high
+    twice = halves (depth t) high
 
 pub nonzero_on_plane : (t : Tree) (x y : ℤ) (n m : ℕ) → 1 ≤ depth t → IsPlace (half_side t) x y n m → IsNonzeroAt t n m → cell t x y ≢ 0
 nonzero_on_plane t x y n m high p k e = k.state (sym (cell_at t x y n m high p k.column k.row) ∙ e)
@@ -43,7 +43,7 @@ place_of t x y high nonzero = by (is_inside (half_side t) x y) refl
     by false e = absurd (nonzero (cell_outside t x y e))
     by true e =
         let k = inside_facts (half_side t) x y e in
-        let twice = side (depth t) high in
+        let twice = halves (depth t) high in
         let a = inside_offset (half_side t) x k.west k.east in
         let b = inside_offset (half_side t) y k.north k.south in
         let la = a.2 in

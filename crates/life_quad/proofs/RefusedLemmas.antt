@@ -1,14 +1,13 @@
 -- Facts about what a refused call had to store.
 use Rattle.std.proofs.Common.{◌≡◌, ℕ, ◌+◌, ◌-◌, ◌^◌, ◌≤◌, ◌<◌, Bool, true, false, nat_lt, ◌⊎◌, inl, inr, refl, sym, ◌∙◌, ap, subst, arith}
-use Rattle.std.specs.Prelude.{if◌then◌else◌, Result, Err, IsErrAnd}
-use Rattle.std.proofs.lemmas.Result.{err_from_is_err_and}
+use Rattle.std.specs.Prelude.{if◌then◌else◌}
 use Rattle.life_base.specs.Tree.{Tree, point, quad, depth, blank, state_at, IsFull}
 use Rattle.life_quad.specs.Moves.{grown}
 use Rattle.life_quad.specs.Refused.{SomePart}
-use Rattle.life_quad.proofs.NonzeroLemmas.{double}
 use Rattle.life_quad.specs.declared.runs.Span.{Span}
 use Rattle.life_quad.specs.Span.{SetsSpan, SetsHalves}
 use Rattle.life_quad.proofs.SpanLemmas.{is_within, SetsSpan-north, SetsSpan-south}
+use Rattle.life_base.proofs.Basics.{double}
 
 -- a part of a northern or of a southern quarter
 pub SomePart-north : (P : Tree → Type 0) (a b c d : Tree) → SomePart P a ⊎ SomePart P b → SomePart P (quad a b c d)
@@ -18,10 +17,6 @@ SomePart-north P a b c d (inr p) = inr (inr (inl p))
 pub SomePart-south : (P : Tree → Type 0) (a b c d : Tree) → SomePart P c ⊎ SomePart P d → SomePart P (quad a b c d)
 SomePart-south P a b c d (inl p) = inr (inr (inr (inl p)))
 SomePart-south P a b c d (inr p) = inr (inr (inr (inr p)))
-
--- the refusal that is passed on
-pub error_is : {T E : Type 0} {e : E} (r : Result T E) → IsErrAnd r (λ f. f ≡ e) → r ≡ Err e
-error_is r h = let p = err_from_is_err_and r h in p.1 ∙ ap Err p.2
 
 -- the grown square of four quarters, around which e is blank, and a part of it
 module _ (t a b c d e : Tree) (whole : t ≡ quad a b c d) (is_blank : e ≡ blank (depth a)) where

@@ -1,22 +1,17 @@
 -- Facts about runs of cells on the plane.
-use Rattle.std.proofs.Common.{◌≡◌, ℕ, zero, suc, ◌+◌, ◌-◌, ◌^◌, ◌≤◌, ◌<◌, Bool, true, false, ℤ, pos, neg_ℤ, ◌+ℤ◌, ◌≤ℤ◌, ◌<ℤ◌, refl, sym, ◌∙◌, ap, subst, arith}
+use Rattle.std.proofs.Common.{◌≡◌, ℕ, ◌+◌, ◌-◌, ◌^◌, ◌≤◌, ◌<◌, Bool, true, false, ℤ, pos, neg_ℤ, ◌+ℤ◌, ◌≤ℤ◌, ◌<ℤ◌, refl, sym, ◌∙◌, ap, subst, arith}
 use Rattle.std.specs.Prelude.{if◌then◌else◌}
 use Rattle.std.proofs.lemmas.Int.{ints}
 use Rattle.life_base.specs.declared.cell.Run.{Run}
 use Rattle.life_base.specs.Tree.{Tree, depth, state_at}
 use Rattle.life_base.proofs.Squares.{is_inside, inside_offset, inside_facts, inside_test, cell_inside, cell_outside}
 use Rattle.life_base.proofs.Spans.{span_from_run, run_from_span}
+use Rattle.life_base.proofs.Basics.{halves}
 use Rattle.life_quad.specs.Cells.{IsInRun, IsRunInside, SetsRun}
 use Rattle.life_base.specs.Tree.{half_side, tree_cell as cell}
 use Rattle.life_quad.specs.declared.runs.Span.{Span}
 use Rattle.life_quad.specs.Span.{SetsSpan}
 use Rattle.life_quad.proofs.SpanLemmas.{is_within}
-
-pub side : (k : ℕ) → 1 ≤ k → 2 ^ (k - 1) + 2 ^ (k - 1) ≡ 2 ^ k
-side zero h = absurd (omega arith)
-side (suc k) h =
-    let e : suc k - 1 ≡ k = omega arith in
-    (λ j. 2 ^ e j + 2 ^ e j) ∙ (grind arith)
 
 -- a span of columns sets a run of cells
 pub SetsRun-span : (old new : Tree) (run : Run) (column row : ℕ) → 1 ≤ depth old → IsRunInside old run
@@ -37,7 +32,7 @@ SetsRun-span old new run column row high inside e f s =
     at : (i j : ℤ) (n m : ℕ) → is_inside h i j ≡ true → i +ℤ pos h ≡ pos n → j +ℤ pos h ≡ pos m → n < h + h → m < h + h
         → cell new i j ≡ (if is_within span n m then run.state else state_at old n m)
     at i j n m t p q a b =
-        let w = side (depth old) high in
+        let w = halves (depth old) high in
         cell_inside new i j n m (ap (λ z. is_inside z i j) same ∙ t) (ap (λ z. i +ℤ pos z) same ∙ p) (ap (λ z. j +ℤ pos z) same ∙ q)
         ∙ s.cells n m (subst (λ z. n < z) w a) (subst (λ z. m < z) w b)
 

@@ -3,7 +3,7 @@ use Rattle.std.proofs.Common.{◌≡◌, ℕ, suc, ◌+◌, ◌-◌, ◌^◌, �
 use Rattle.std.specs.Prelude.{if◌then◌else◌}
 use Rattle.life_base.specs.Tree.{Tree, quad, depth, state_at, IsFull}
 use Rattle.life_base.proofs.Squares.{at_nw, at_ne, at_sw, at_se}
-use Rattle.life_quad.proofs.NonzeroLemmas.{double}
+use Rattle.life_base.proofs.Basics.{double}
 use Rattle.life_quad.specs.declared.runs.Span.{Span}
 use Rattle.life_quad.specs.Span.{is_in_span, SetsSpan, SetsHalves}
 

@@ -75,11 +75,6 @@ module _ {X : Type 0} (xs : List X) where
       let there = get_or_append_left xs ys x i lt in
       slice_get-get_or (xs ++ ys) i x (omega (arith, length-append xs ys)) ∙ ap Some (there ∙ here)
 
-  -- the last element
-  pub slice_get-last : (x : X) → slice_get (xs ++ x ∷ []) (length xs) ≡ Some x
-  slice_get-last x =
-      slice_get-get_or (xs ++ x ∷ []) (length xs) x (omega (arith, length-append xs (x ∷ []))) ∙ ap Some (get_or-append_seam xs x [] x)
-
   -- an element was there before, or it is the one that was added
   pub slice_get-push_cases : (x y : X) (i : ℕ) → slice_get (xs ++ x ∷ []) i ≡ Some y → (slice_get xs i ≡ Some y) ⊎ ((i ≡ length xs) × (y ≡ x))
   slice_get-push_cases x y i e = by (nat_lt i (length xs)) refl

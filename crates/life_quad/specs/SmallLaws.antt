@@ -1,7 +1,7 @@
 -- Facts about small squares and their numbers.
 use Rattle.std.proofs.Common.{◌≡◌, ℕ, ◌+◌, ◌*◌, ◌-◌, ◌/◌, ◌%◌, ◌<◌, Bool, true, false, nat_lt, ◌&&◌, ◌==◌, List, None, Some, refl, sym, ◌∙◌, ap, arith}
 use Rattle.life_base.specs.Tree.{Tree, point, quad}
-use Rattle.life_base.proofs.Squares.{and_left, and_right}
+use Rattle.life_base.proofs.Basics.{right_of_and, left_of_and}
 use Rattle.life_quad.specs.Store.{two, four, small_square, square_of, id_of, is_bit_id, is_digit_id, small_of}
 
 -- a square of level 1 of binary digits
@@ -26,10 +26,10 @@ bit n h = grind arith
 
 pub all_four : (p q r s : Bool) → (p && q && r && s) ≡ true → (p ≡ true) × (q ≡ true) × (r ≡ true) × (s ≡ true)
 all_four p q r s h = (
-  and_left p q (and_left (p && q) r (and_left (p && q && r) s h)),
-  and_right p q (and_left (p && q) r (and_left (p && q && r) s h)),
-  and_right (p && q) r (and_left (p && q && r) s h),
-  and_right (p && q && r) s h,
+  left_of_and p q (left_of_and (p && q) r (left_of_and (p && q && r) s h)),
+  right_of_and p q (left_of_and (p && q) r (left_of_and (p && q && r) s h)),
+  right_of_and (p && q) r (left_of_and (p && q && r) s h),
+  right_of_and (p && q && r) s h,
 )
 
 pub smalls : (a b c d k : ℕ) → small_of a b c d ≡ Some k → Smalls a b c d k

@@ -31,10 +31,11 @@ use Rattle.life_rle.specs.Reader.{IsRead, ItemsBreak, no_item, bad_item}
 use Rattle.life_rle.proofs.Progress.{with_items, with_items-nil, placed_behind-append, IsPreamble-push, IsUnmarked-push, IsMarked-begun, IsMarked-push, header-IsUnmarked, passed-IsUnmarked}
 use Rattle.life_rle.proofs.Unique.{IsRle-unique, with_items-twice}
 use Rattle.life_rle.proofs.Refusal.{IsPreamble-refused}
-use Rattle.life_rle.proofs.Places.{rows_in-Cells, rows_in-RowEnds, columns_in-Cells, columns_in-RowEnds, plus_none, regroup}
+use Rattle.life_rle.proofs.Places.{rows_in-Cells, rows_in-RowEnds, columns_in-Cells, columns_in-RowEnds, regroup}
 use Rattle.life_rle.proofs.ReadItems.{runs_of-append}
 use Rattle.life_rle.proofs.ShortKinds.{is_short_kind}
 use Rattle.life_rle.proofs.PlaneLemmas.{zero-coordinate}
+use Rattle.life_base.proofs.Basics.{plus_zero}
 
 -- the cursor follows an item
 IsBehind-moved : (c : Cursor) (file : Rle) (item : Item) → IsBehind c file → IsBehind (moved c item) (with_items file (item ∷ []))
@@ -46,7 +47,7 @@ IsBehind-moved c file (Cells n s) b = record {
 }
 IsBehind-moved c file (RowEnds n) b = record {
   left = b.left;
-  x = b.left ∙ sym (plus_none file.position.x) ∙ ap (λ k. file.position.x +ℤ pos k) (sym (columns_in-RowEnds file.items n));
+  x = b.left ∙ sym (plus_zero file.position.x) ∙ ap (λ k. file.position.x +ℤ pos k) (sym (columns_in-RowEnds file.items n));
   y = ap (λ z. z +ℤ pos n) b.y ∙ sym (regroup file.position.y (rows_in file.items) n) ∙ ap (λ k. file.position.y +ℤ pos k) (sym (rows_in-RowEnds file.items n));
 }
 
@@ -168,9 +169,9 @@ adv-header level g c line rule e = record {
     s.0,
     record {
       left = ap (λ (p : Cursor). p.left) s.2;
-      x = ap (λ (p : Cursor). p.x) s.2 ∙ sym (plus_none g.x);
+      x = ap (λ (p : Cursor). p.x) s.2 ∙ sym (plus_zero g.x);
       y = ap (λ (p : Cursor). p.y) s.2
-          ∙ sym (plus_none g.y);
+          ∙ sym (plus_zero g.y);
     },
     refl,
     refl,

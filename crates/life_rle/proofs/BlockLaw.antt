@@ -19,6 +19,7 @@ use Rattle.life_rle.proofs.RunsLaws.{placed-from, IsRle-plane, low-side}
 use Rattle.life_rle.proofs.BlockSums.{all-few}
 use Rattle.life_rle.proofs.BlockCover.{cover, among-left, among-right}
 use Rattle.life_rle.proofs.BlockBytes.{file-pays}
+use Rattle.life_base.proofs.Basics.{offset_plus}
 
 -- ---- the cells of a file, counted from the corner of the plane
 
@@ -41,21 +42,18 @@ module _ (e : ℤ) where
     | inr h ↦ let f : int_lt (pos c -ℤ e) ((pos x -ℤ e) +ℤ pos n) ≡ false = grind (arith, ints, nat_tests, h) in f ∙ sym h
   ]
 
-  further_on : (x n : ℕ) → (pos x -ℤ e) +ℤ pos n ≡ pos (x + n) -ℤ e
-  further_on x n = omega (arith, ints)
-
   state-cell : (left x y : ℕ) (items : List Item) (c r : ℕ)
       → cell_among (placed_from (pos left -ℤ e) (pos x -ℤ e) (pos y -ℤ e) items) (pos c -ℤ e) (pos r -ℤ e) ≡ state_from left x y items c r
   state-cell left x y [] c r = refl
   state-cell left x y (Cells n s ∷ items) c r =
       let rest = state-cell left (x + n) y items c r in
-      let on = further_on x n in
+      let on = offset_plus e x n in
       (λ i. if row-same r y i && (from-same x c i && to-same x n c i) then s
       else cell_among (placed_from (pos left -ℤ e) (on i) (pos y -ℤ e) items) (pos c -ℤ e) (pos r -ℤ e))
       ∙ ap (λ z. if r == y && (nat_le x c && nat_lt c (x + n)) then s else z) rest
   state-cell left x y (RowEnds n ∷ items) c r =
       let rest = state-cell left left (y + n) items c r in
-      let on = further_on y n in
+      let on = offset_plus e y n in
       ap (λ z. cell_among (placed_from (pos left -ℤ e) (pos left -ℤ e) z items) (pos c -ℤ e) (pos r -ℤ e)) on ∙ rest
 
 -- a coordinate of the plane, counted from its edge

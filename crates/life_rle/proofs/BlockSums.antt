@@ -4,8 +4,8 @@ use Rattle.std.proofs.lemmas.List.{length-map}
 use Rattle.std.proofs.lemmas.Nat.{pow_pos}
 use Rattle.life_rle.specs.declared.item.Item.{Item}
 use Rattle.life_rle.proofs.BlockItems.{weigh, all_weigh, places, block_at, all_blocks}
-use Rattle.life_rle.proofs.BlockWeights.{double}
 use Rattle.life_rle.proofs.BlockPlaces.{places-few}
+use Rattle.life_base.proofs.Basics.{twice}
 
 next-level : (n : ℕ) (items : List Item) → all_weigh (suc n) items ≡ 2 * all_weigh n items + weigh (2 ^ suc n) items
 next-level n [] = omega arith
@@ -18,7 +18,7 @@ all-few (suc n) left y items =
     let before = all-few n left y items in
     let last = places-few (2 ^ suc n) left y items (pow_pos (suc n)) in
     let next = next-level n items in
-    let d = double n in
+    let d = twice n in
     let h = length (all_blocks n left y items) in
     let p = length (places (2 ^ suc n) left y items) in
     let both = length-append (map (block_at (suc n)) (places (2 ^ suc n) left y items)) (all_blocks n left y items) in

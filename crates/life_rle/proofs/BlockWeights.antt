@@ -6,9 +6,7 @@ use Rattle.std.proofs.Math.Nat.{pow-suc, pow-le-pow_right, mul-le-mul_right}
 use Rattle.std.proofs.lemmas.Nat.{pow-add}
 use Rattle.std.proofs.lemmas.Bool.{cases_lt}
 use Rattle.life_rle.proofs.BlockItems.{weight, weights}
-
-pub double : (n : ℕ) → 2 ^ suc n ≡ 2 * 2 ^ n
-double n = omega (arith, pow-suc 2 n)
+use Rattle.life_base.proofs.Basics.{twice}
 
 weight-most : (side count : ℕ) → weight side count ≤ 4 * side
 weight-most side count = by (nat_le side count) refl
@@ -26,19 +24,19 @@ weights-most zero count = omega arith
 weights-most (suc n) count =
     let h = weights-most n count in
     let w = weight-most (2 * 2 ^ n) count in
-    rw (double n) (omega (arith, h, w))
+    rw (twice n) (omega (arith, h, w))
 
 -- an item whose count is below 2 ^ (k + 1): from level k on each further level adds what is still to pay
 weights-later : (k more count : ℕ) → count < 2 ^ suc k → weights (k + more) count + 2 * count ≤ (4 * k + 4) * 2 ^ (k + more)
 weights-later k zero count h =
     let e : k + 0 ≡ k = omega arith in
     let w = weights-most k count in
-    let d = double k in
+    let d = twice k in
     rw e (omega (arith, w, d, h))
 weights-later k (suc more) count h =
     let e : k + suc more ≡ suc (k + more) = omega arith in
     let before = weights-later k more count h in
-    let d = double (k + more) in
+    let d = twice (k + more) in
     let high : 2 ^ suc k ≤ 2 ^ suc (k + more) = pow-le-pow_right {n = 2} (omega arith) (omega arith) in
     let small = weight-small (2 ^ suc (k + more)) count (omega (arith, h, high)) in
     rw e (rw small (rw d (omega (arith, before))))

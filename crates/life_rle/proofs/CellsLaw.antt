@@ -17,13 +17,11 @@ use Rattle.life_rle.specs.Sorted.{state_in}
 use Rattle.life_rle.specs.Writer.{IsGoodCell, Follow}
 use Rattle.life_rle.proofs.Places.{placed_from, cond_zero}
 use Rattle.life_base.specs.declared.cell.TheConstants.{MAX_LEVEL}
+use Rattle.life_base.proofs.Basics.{eq-int_eq}
 
 -- the state of a pair from items from a place on
 abbrev pub state_from : ℤ → ℤ → ℤ → List Item → ℤ → ℤ → ℕ
 state_from left column row items x y = cell_among (placed_from left column row items) x y
-
-eq_true : (x y : ℤ) → x ≡ y → int_eq x y ≡ true
-eq_true x y e = grind (arith, ints)
 
 one_column : (column x : ℤ) → (int_le column x && int_lt x (column +ℤ pos 1)) ≡ int_eq x column
 one_column column x = grind (arith, ints)
@@ -148,7 +146,7 @@ items_from-good rule left column row (c ∷ cells) l x y f =
     good.state more in
     elim f.1 as (λ _. AreGood rule left column row (items_from left column row (c ∷ cells))) [
       | inl h ↦
-          let on : int_eq c.y row ≡ true = eq_true c.y row h.0 in
+          let on : int_eq c.y row ≡ true = eq-int_eq c.y row h.0 in
           subst (λ t. AreGood rule left column row (stepped t left column row c cells)) (sym on)
           (gap-good rule left column row c (behind left c cells) x good h.0 h.1 rest)
       | inr h ↦
@@ -191,7 +189,7 @@ items_from-state rule left column row (c ∷ cells) x y lo1 lo2 lo3 f =
     ∙ ap (cond (int_eq y c.y && int_eq x c.x) c.state) (items_from-state rule left (c.x +ℤ pos 1) c.y cells x y lo1 next good.top f.2) in
     elim f.1 as (λ _. state_from left column row (items_from left column row (c ∷ cells)) x y ≡ state_in (c ∷ cells) x y) [
       | inl h ↦
-          let on : int_eq c.y row ≡ true = eq_true c.y row h.0 in
+          let on : int_eq c.y row ≡ true = eq-int_eq c.y row h.0 in
           ap (λ t. state_from left column row (stepped t left column row c cells) x y) on
           ∙ gap-state rule left column row c (behind left c cells) x y h.0 h.1 rest ∙ here
       | inr h ↦

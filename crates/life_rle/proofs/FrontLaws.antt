@@ -59,7 +59,7 @@ fronts_are_files level lines = (λ p. front-file level lines p (decided level li
 
 -- ---- the first line of a macrocell file
 
-first_of : (b : ℕ) (rest : List ℕ) → begins_with (b ∷ rest) (codes "[M2]") ≡ true → b ≡ 91
+pub first_of : (b : ℕ) (rest : List ℕ) → begins_with (b ∷ rest) (codes "[M2]") ≡ true → b ≡ 91
 first_of b rest h = grind (arith, nat_tests)
 
 abbrev refusal : Bool → Result Opening Kind

@@ -1,8 +1,7 @@
 -- Texts at the end of an item's room.
-use Rattle.std.proofs.Common.{◌≡◌, ℕ, ◌≤◌, ◌<◌, ◌^◌, List, [], ◌∷◌, drop, length, decimal, refl, ap, ◌∙◌, arith}
+use Rattle.std.proofs.Common.{◌≡◌, ℕ, List, [], ◌∷◌, drop, length, refl, ap, ◌∙◌, arith}
 use Rattle.std.specs.Prelude.{slice_set}
 use Rattle.std.proofs.lemmas.List.{drop-set, drop-set-add, length-drop, nil_from_length}
-use Rattle.std.proofs.lemmas.Fmt.{length-decimal-le}
 
 last-one : (ys : List ℕ) (a b : ℕ) → length ys ≡ 1 → slice_set (a ∷ ys) 1 b ≡ a ∷ b ∷ []
 last-one [] a b h = absurd (omega (arith, h))
@@ -22,7 +21,3 @@ room-pair room a b h =
     drop-set-add 21 (slice_set room 21 a) 1 b
     ∙ ap (λ ys. slice_set ys 1 b) (drop-set room 21 a (omega (arith, h)))
     ∙ last-one (drop 22 room) a b (omega (arith, h, size))
-
--- a number's digits
-pub digits-fit : (n : ℕ) → n < 2 ^ 64 → length (decimal n) ≤ 20
-digits-fit n h = length-decimal-le 20 n (omega arith) (omega (arith, h)) h

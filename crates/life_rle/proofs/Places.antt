@@ -12,9 +12,6 @@ use Rattle.life_rle.specs.Pattern.{Placed, placed_item, placed_behind, rows_in, 
 pub regroup : (z : ℤ) (a b : ℕ) → z +ℤ pos (a + b) ≡ (z +ℤ pos a) +ℤ pos b
 regroup z a b = omega (arith, ints)
 
-pub plus_none : (z : ℤ) → z +ℤ pos 0 ≡ z
-plus_none z = omega (arith, ints)
-
 pub cond_zero : (p : Bool) (n : ℕ) → (p ≡ true → n ≡ 0) → cond p 0 n ≡ n
 cond_zero true n h = sym (h refl)
 cond_zero false n h = refl

@@ -1,8 +1,7 @@
 -- Lines are an RLE file exactly if they are one in the words of whole texts.
-use Rattle.std.proofs.Common.{◌≡◌, ℕ, zero, suc, Bool, true, false, not, cond, ◌&&◌, ◌||◌, List, [], ◌∷◌, ◌++◌, take, drop, refl, sym, ap, ◌∙◌, subst, inl, inr, ◌⊎◌, Some, None, Ok, Err, Option, Result, ℤ, pos, ◌+ℤ◌, ◌≤ℤ◌, ◌<ℤ◌, arith, codes}
+use Rattle.std.proofs.Common.{◌≡◌, ℕ, zero, suc, Bool, true, false, not, cond, ◌&&◌, ◌||◌, List, [], ◌∷◌, ◌++◌, take, drop, refl, sym, ap, ◌∙◌, subst, inl, inr, ◌⊎◌, Some, None, Ok, Err, Option, Result, ℤ, pos, ◌+ℤ◌, arith, codes}
 use Rattle.std.specs.Prelude.{int_lt, int_le}
 use Rattle.std.specs.List.{slice_get}
-use Rattle.std.proofs.lemmas.Int.{ints}
 use Rattle.std.proofs.lemmas.Bool.Decides.{nat_tests}
 use Rattle.std.proofs.lemmas.Bool.{and_parts}
 use Rattle.std.proofs.lemmas.Option.{same_Some}
@@ -33,7 +32,8 @@ use Rattle.life_rle.proofs.Progress.{option_or-both, IsOpenBy-map, IsEndedBy-map
 use Rattle.life_rle.proofs.PlainItems.{items_are_plain}
 use Rattle.life_rle.proofs.PlainHeader.{headers_are_plain}
 use Rattle.life_rle.proofs.PlainPosition.{positions_are_plain}
-use Rattle.life_rle.proofs.RowLimits.{is-on, le-true}
+use Rattle.life_rle.proofs.RowLimits.{is-on}
+use Rattle.life_base.proofs.Basics.{int_le-true, int_lt-true, le-int_le, lt-int_lt}
 
 -- ---- lengths
 
@@ -241,26 +241,17 @@ is-inside false row column e = cc
 inside-is : (state row column : Bool) → state ≡ true → row ≡ true → column ≡ true → cells-by state row column ≡ None
 inside-is state row column s r c = ap (λ b. cells-by b row column) s ∙ ap (λ b. cells-by true b column) r ∙ ap (cells-by true true) c
 
-lt-true : (a b : ℤ) → int_lt a b ≡ true → a <ℤ b
-lt-true a b e = grind (arith, ints)
-
-true-lt : (a b : ℤ) → a <ℤ b → int_lt a b ≡ true
-true-lt a b e = grind (arith, ints)
-
-true-le : (a b : ℤ) → a ≤ℤ b → int_le a b ≡ true
-true-le a b e = grind (arith, ints)
-
 item-place : (level : ℕ) (rule : Rule) (row column : ℤ) (item : Item) → item_fault level rule row column item ≡ None → MayStand level rule row column item
 item-place level rule row column (Cells n s) e =
     let i = is-inside (is_state_of rule s) (int_lt row (edge level)) (int_le (column +ℤ pos n) (edge level)) e in
-    (i.0, lt-true row (edge level) i.1, le-true (column +ℤ pos n) (edge level) i.2)
-item-place level rule row column (RowEnds n) e = le-true (row +ℤ pos n) (edge level) (is-on (int_le (row +ℤ pos n) (edge level)) e)
+    (i.0, int_lt-true row (edge level) i.1, int_le-true (column +ℤ pos n) (edge level) i.2)
+item-place level rule row column (RowEnds n) e = int_le-true (row +ℤ pos n) (edge level) (is-on (int_le (row +ℤ pos n) (edge level)) e)
 
 place-item : (level : ℕ) (rule : Rule) (row column : ℤ) (item : Item) → MayStand level rule row column item → item_fault level rule row column item ≡ None
 place-item level rule row column (Cells n s) h =
-    inside-is (is_state_of rule s) (int_lt row (edge level)) (int_le (column +ℤ pos n) (edge level)) h.0 (true-lt row (edge level) h.1)
-    (true-le (column +ℤ pos n) (edge level) h.2)
-place-item level rule row column (RowEnds n) h = ap (λ b. cond b None (Some OutOfPlane)) (true-le (row +ℤ pos n) (edge level) h)
+    inside-is (is_state_of rule s) (int_lt row (edge level)) (int_le (column +ℤ pos n) (edge level)) h.0 (lt-int_lt row (edge level) h.1)
+    (le-int_le (column +ℤ pos n) (edge level) h.2)
+place-item level rule row column (RowEnds n) h = ap (λ b. cond b None (Some OutOfPlane)) (le-int_le (row +ℤ pos n) (edge level) h)
 
 fault-places : (level : ℕ) (rule : Rule) (ps : List Placed) → first_fault level rule ps ≡ None → (i : ℕ) (p : Placed) → slice_get ps i ≡ Some p
     → MayStand level rule p.row p.column p.item

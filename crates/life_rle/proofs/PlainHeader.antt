@@ -12,7 +12,8 @@ use Rattle.life_rle.specs.Items.{front_digits, behind_digits}
 use Rattle.life_rle.specs.Header.{◌>>=◌, after_word, after_number, rule_part, header_form}
 use Rattle.life_rle.specs.Plain.{AreTokens, size_tokens, HasNoIndent, IsHeaderLine, HeadersArePlain}
 use Rattle.life_rle.proofs.Texts.{Stops, front-stop, behind-stop, digit-plain}
-use Rattle.life_rle.proofs.PlainItems.{trim_start-space, indented}
+use Rattle.life_rle.proofs.PlainItems.{indented}
+use Rattle.life_base.proofs.Texts.{blank_front}
 
 -- one token, whitespace, and a text that begins with none
 abbrev IsToken : List ℕ → List ℕ → List ℕ → Type 0
@@ -77,7 +78,7 @@ token-after_word word space more bytes h e n =
     ∙ ap (λ t. cond t (Some (trim_start (drop (length word) all))) None)
     ((bytes_eq-Decides (take (length word) all) word).1 (take-append_seam word (space ++ more)))
     ∙ ap (λ (t : List ℕ). Some (trim_start t)) (drop-append_seam word (space ++ more))
-    ∙ ap Some (trim_start-space space more h ∙ no_indent more n)
+    ∙ ap Some (blank_front space more h ∙ no_indent more n)
 
 space-Stops : (space more : List ℕ) → is_blank space ≡ true → Stops is_ascii_digit more → Stops is_ascii_digit (space ++ more)
 space-Stops [] more h s = s
@@ -94,7 +95,7 @@ token-after_number digits space more bytes d h e n s =
     ∙ ap (λ (t : List ℕ). cond (is_digit_text t) (Some (trim_start (behind_digits all))) None) (front-stop is_ascii_digit digits (space ++ more) parts.1 stops)
     ∙ ap (λ t. cond t (Some (trim_start (behind_digits all))) None) d
     ∙ ap (λ (t : List ℕ). Some (trim_start t)) (behind-stop is_ascii_digit digits (space ++ more) parts.1 stops)
-    ∙ ap Some (trim_start-space space more h ∙ no_indent more n)
+    ∙ ap Some (blank_front space more h ∙ no_indent more n)
 
 digits-HasNoIndent : (digits more : List ℕ) → is_digit_text digits ≡ true → HasNoIndent (digits ++ more)
 digits-HasNoIndent [] more h = cc

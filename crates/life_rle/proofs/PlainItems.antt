@@ -15,15 +15,9 @@ use Rattle.life_rle.specs.Plane.{most_count}
 use Rattle.life_rle.specs.Items.{front_digits, behind_digits, Next, End, Mark, Spelled, Broken, cells_of, item_behind, counted, item_in, next_of, Spells}
 use Rattle.life_rle.specs.Plain.{IsStateText, letter_b, dot, letter_o, letter, prefixed, IsCountText, IsItemText, IsTextOf, ItemsArePlain}
 use Rattle.life_base.proofs.FrontDigits.{list_all-front}
+use Rattle.life_base.proofs.Texts.{blank_front}
 use Rattle.life_rle.proofs.Texts.{IsTag, IsTag-letter, next_of-tag, next_of-digits}
 use Rattle.life_rle.proofs.StatesRead.{one-byte, two-bytes}
-
--- whitespace in front is passed over
-pub trim_start-space : (space text : List ℕ) → is_blank space ≡ true → trim_start (space ++ text) ≡ trim_start text
-trim_start-space [] text h = refl
-trim_start-space (b ∷ space) text h =
-    let parts = and_parts (is_whitespace b) (is_blank space) h in
-    ap (λ t. cond t (trim_start (space ++ text)) (b ∷ (space ++ text))) parts.0 ∙ trim_start-space space text parts.1
 
 next_of-count : (level count : ℕ) (digits tag : List ℕ) → IsCountText level digits count → IsTag tag → next_of level (digits ++ tag) ≡ item_behind count tag
 next_of-count level count digits tag (inl h) t =
@@ -79,13 +73,13 @@ next_of-item : (level : ℕ) (space text more : List ℕ) (item : Item) → is_b
     → next_of level (space ++ (text ++ more)) ≡ Spelled item more
 next_of-item level space text more (Cells count state) h i =
     let r = IsRead-text count state i.1 more i.4 in
-    ap (item_in level) (trim_start-space space (text ++ more) h)
+    ap (item_in level) (blank_front space (text ++ more) h)
     ∙ ap (λ (t : List ℕ). next_of level (t ++ more)) i.2
     ∙ ap (next_of level) (append_assoc i.0 i.1 more)
     ∙ next_of-count level count i.0 (i.1 ++ more) i.3 r.0
     ∙ r.1
 next_of-item level space text more (RowEnds count) h i =
-    ap (item_in level) (trim_start-space space (text ++ more) h)
+    ap (item_in level) (blank_front space (text ++ more) h)
     ∙ ap (λ (t : List ℕ). next_of level (t ++ more)) i.2
     ∙ ap (next_of level) (append_assoc i.0 i.1 more)
     ∙ ap (λ (t : List ℕ). next_of level (i.0 ++ (t ++ more))) i.4
@@ -94,7 +88,7 @@ next_of-item level space text more (RowEnds count) h i =
 -- so the texts of items spell them
 pub IsTextOf-Spells : (level : ℕ) (items : List Item) (line rest : List ℕ) (last : Next) → next_of level rest ≡ last → IsTextOf level line items rest
     → Spells level line items last
-IsTextOf-Spells level [] line rest last h i = ap (next_of level) i.2 ∙ ap (item_in level) (trim_start-space i.0 rest i.1) ∙ h
+IsTextOf-Spells level [] line rest last h i = ap (next_of level) i.2 ∙ ap (item_in level) (blank_front i.0 rest i.1) ∙ h
 IsTextOf-Spells level (item ∷ items) line rest last h i =
     (i.2, ap (next_of level) i.5 ∙ next_of-item level i.0 i.1 i.2 item i.3 i.4, IsTextOf-Spells level items i.2 rest last h i.6)
 

@@ -1,25 +1,11 @@
 -- A text has the words that stand in it between whitespace.
 use Rattle.std.proofs.Common.{◌≡◌, ℕ, Bool, true, false, not, ◌&&◌, List, [], ◌∷◌, ◌++◌, take, refl, sym, ap, ◌∙◌}
 use Rattle.std.specs.List.{list_all}
-use Rattle.std.proofs.lemmas.List.{append-nil}
 use Rattle.std.proofs.lemmas.Bool.{and_parts, not-true}
 use Rattle.life_base.specs.Text.{is_empty, is_whitespace, is_blank, words_of, onto_first}
 use Rattle.life_rle.specs.PlainPosition.{IsWord, AreWords}
-use Rattle.life_rle.proofs.ReadPosition.{words_of-plain, EndsWord, step_to}
-
--- whitespace in front has no words
-blank_words : (space text : List ℕ) → is_blank space ≡ true → words_of (space ++ text) ≡ words_of text
-blank_words [] text h = refl
-blank_words (b ∷ space) text h =
-    let parts = and_parts (is_whitespace b) (is_blank space) h in
-    ap (λ v. step_to b (space ++ text) v (is_blank (take 1 (space ++ text)))) parts.0 ∙ blank_words space text parts.1
-
-no_words : (text : List ℕ) → is_blank text ≡ true → words_of text ≡ []
-no_words text h = ap words_of (sym (append-nil text)) ∙ blank_words text [] h
-
-blank-take : (text : List ℕ) → is_blank text ≡ true → is_blank (take 1 text) ≡ true
-blank-take [] h = refl
-blank-take (b ∷ text) h = ap (λ v. v && true) (and_parts (is_whitespace b) (is_blank text) h).0
+use Rattle.life_rle.proofs.ReadPosition.{words_of-plain, EndsWord}
+use Rattle.life_base.proofs.Texts.{step_to, blank_words, blank_no_words, take_blank}
 
 take-EndsWord : (text : List ℕ) → is_blank (take 1 text) ≡ true → EndsWord text
 take-EndsWord [] h = tt
@@ -38,7 +24,7 @@ first-word (b ∷ word) more w h =
 
 -- words between whitespace are the words of the text
 pub AreWords-words_of : (words : List (List ℕ)) (text : List ℕ) → AreWords text words → (is_blank (take 1 text) ≡ true) × (words_of text ≡ words)
-AreWords-words_of [] text h = (blank-take text h, no_words text h)
+AreWords-words_of [] text h = (take_blank text h, blank_no_words text h)
 AreWords-words_of (word ∷ words) text h =
     let more = AreWords-words_of words h.1 h.6 in (
       ap (λ (t : List ℕ). is_blank (take 1 t)) h.5 ∙ space-take h.0 (word ++ h.1) h.2 h.3,
@@ -63,7 +49,7 @@ solid b h = ap not h
 
 one_byte : (b : ℕ) (words : List (List ℕ)) (text : List ℕ) → is_whitespace b ≡ false → is_blank (take 1 text) ≡ false → Separated text words
     → Separated (b ∷ text) (onto_first b words)
-one_byte b [] text w h s = no (sym (blank-take text s) ∙ h)
+one_byte b [] text w h s = no (sym (take_blank text s) ∙ h)
 one_byte b (word ∷ words) text w h s = by s.0 s.2 s.4
   where
     by : (space : List ℕ) → is_blank space ≡ true → text ≡ space ++ (word ++ s.1) → Separated (b ∷ text) ((b ∷ word) ∷ words)

@@ -67,10 +67,6 @@ pub spelled-as : (level : ℕ) (line : List ℕ) (items : List Item) (next other
     → Spells level line items other
 spelled-as level line items next other h e = subst (Spells level line items) e h
 
-pub read-as : (level : ℕ) (rule : Rule) (from : Cursor) (line : List ℕ) (items : List Item) (next other : Next) (now : Cursor) (found : List Run)
-    → IsRead level rule from line items next now found → next ≡ other → IsRead level rule from line items other now found
-read-as level rule from line items next other now found h e = subst (λ n. IsRead level rule from line items n now found) e h
-
 -- one more item, its run behind those that were there
 pub reads_more : (level : ℕ) (rule : Rule) (from now : Cursor) (line rest : List ℕ) (before found more : List Run) (item : Item) (next : Cursor)
     → ReadsItems level rule from line (Spelled item rest) now before found → item_fault level rule now.y now.x item ≡ None

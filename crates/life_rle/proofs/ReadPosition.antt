@@ -18,6 +18,7 @@ use Rattle.life_rle.specs.Written.{position_text, generation_text}
 use Rattle.life_rle.proofs.Texts.{decimal-is_digit_text, value_of-decimal}
 use Rattle.life_rle.proofs.ReadBack.{digits-all}
 use Rattle.life_base.specs.declared.cell.TheConstants.{MAX_LEVEL}
+use Rattle.life_base.proofs.Texts.{step_to}
 
 -- the size of a number
 abbrev pub IsShort : ℤ → Type 0
@@ -74,10 +75,6 @@ EndsWord (b ∷ bytes) = is_whitespace b ≡ true
 ends_blank : (ys : List ℕ) → EndsWord ys → is_blank (take 1 ys) ≡ true
 ends_blank [] h = refl
 ends_blank (y ∷ ys) h = ap (λ t. t && true) h
-
--- the first word of a text that begins with it
-abbrev pub step_to : ℕ → List ℕ → Bool → Bool → List (List ℕ)
-step_to b text space last = cond space (words_of text) (cond last ((b ∷ []) ∷ words_of text) (onto_first b (words_of text)))
 
 pub words_of-plain : (b : ℕ) (xs ys : List ℕ) → is_whitespace b ≡ false → list_all (λ b. not (is_whitespace b)) xs ≡ true → EndsWord ys
     → words_of (b ∷ (xs ++ ys)) ≡ (b ∷ xs) ∷ words_of ys

@@ -13,6 +13,7 @@ use Rattle.life_rle.specs.Plane.{edge}
 use Rattle.life_rle.specs.States.{is_state_of}
 use Rattle.life_rle.specs.Pattern.{item_fault}
 use Rattle.life_rle.specs.Cursor.{IsNear, moved, row_limit}
+use Rattle.life_base.proofs.Basics.{int_le-true}
 
 below : (x : ℤ) (n : ℕ) → neg_ℤ (edge MAX_LEVEL) ≤ℤ x → int_le (x +ℤ pos n) (neg_ℤ (pos (2 ^ 63))) ≡ false
 below x n h = grind (arith, ints)
@@ -47,9 +48,6 @@ pub is-on : (row : Bool) → cond row None (Some OutOfPlane) ≡ None → row �
 is-on true e = refl
 is-on false e = cc
 
-pub le-true : (a b : ℤ) → int_le a b ≡ true → a ≤ℤ b
-le-true a b e = grind (arith, ints)
-
 pub further : (low z : ℤ) (n : ℕ) → low ≤ℤ z → low ≤ℤ (z +ℤ pos n)
 further low z n h = omega (arith, ints)
 
@@ -63,11 +61,11 @@ moved-near rule c (Cells n s) near e =
     let column = is-inside (is_state_of rule s) (int_lt c.y (edge MAX_LEVEL)) (int_le (c.x +ℤ pos n) (edge MAX_LEVEL)) e in
     record {
       left = near.left;
-      x = (further (neg_ℤ (edge MAX_LEVEL)) c.x n near.x.0, le-true (c.x +ℤ pos n) (edge MAX_LEVEL) column);
+      x = (further (neg_ℤ (edge MAX_LEVEL)) c.x n near.x.0, int_le-true (c.x +ℤ pos n) (edge MAX_LEVEL) column);
       y = near.y;
     }
 moved-near rule c (RowEnds n) near e = record {
   left = near.left;
   x = (near.left.0, up-to c.left (edge MAX_LEVEL) near.left.1);
-  y = (further (neg_ℤ (edge MAX_LEVEL)) c.y n near.y.0, le-true (c.y +ℤ pos n) (edge MAX_LEVEL) (is-on (int_le (c.y +ℤ pos n) (edge MAX_LEVEL)) e));
+  y = (further (neg_ℤ (edge MAX_LEVEL)) c.y n near.y.0, int_le-true (c.y +ℤ pos n) (edge MAX_LEVEL) (is-on (int_le (c.y +ℤ pos n) (edge MAX_LEVEL)) e));
 }

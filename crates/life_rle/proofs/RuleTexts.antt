@@ -8,7 +8,7 @@ use Rattle.life_base.specs.Text.{is_whitespace, trim_start}
 use Rattle.life_base.specs.Rules.{rule_text, IsRule}
 use Rattle.life_base.specs.declared.rule.Rule.{Rule}
 use Rattle.life_base.proofs.NamesRead.{all_pass, good_text, IsGoodText}
-use Rattle.life_base.proofs.RoundTrip.{visible}
+use Rattle.life_base.proofs.RoundTrip.{visible, visible_no_feed}
 use Rattle.life_base.proofs.RuleTexts.{texts_visible}
 use Rattle.life_rle.proofs.ReadBack.{is_one_line}
 
@@ -20,11 +20,8 @@ rule_text-is rule h = good_text (rule_text rule) (texts_visible rule h)
 visible-solid : (b : ℕ) → visible b ≡ true → is_whitespace b ≡ false
 visible-solid b h = grind (arith, nat_tests)
 
-visible-inner : (b : ℕ) → visible b ≡ true → not (b == 10) ≡ true
-visible-inner b h = grind (arith, nat_tests)
-
 pub visible-one_line : (text : List ℕ) → list_all visible text ≡ true → is_one_line text ≡ true
-visible-one_line text h = all_pass visible (λ b. not (b == 10)) visible-inner text h
+visible-one_line text h = all_pass visible (λ b. not (b == 10)) visible_no_feed text h
 
 pub visible-bare : (text : List ℕ) → list_all visible text ≡ true → trim_start text ≡ text
 visible-bare [] h = refl

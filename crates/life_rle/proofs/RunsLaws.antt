@@ -20,12 +20,13 @@ use Rattle.life_rle.specs.Runs.{runs_of}
 use Rattle.life_rle.specs.Cursor.{item_count}
 use Rattle.life_rle.specs.Grammar.{IsPreamble, LineSpells, BodySpells, IsRle}
 use Rattle.life_rle.specs.RunsLaw.{AreGoodRuns, StandsBeforeAll, AreInOrder, has_cell, state_by, IsOutside}
-use Rattle.life_rle.proofs.Places.{placed_from, placed_behind-from, plus_none, cond_zero}
+use Rattle.life_rle.proofs.Places.{placed_from, placed_behind-from, cond_zero}
 use Rattle.life_rle.proofs.Advance.{IsInPlane}
 use Rattle.life_rle.proofs.LineKinds.{IsTameOpening, opening-tame}
 use Rattle.life_rle.proofs.PlaneLemmas.{zero-coordinate}
 use Rattle.life_rle.proofs.Progress.{option_or-both}
 use Rattle.life_rle.proofs.RowLimits.{further}
+use Rattle.life_base.proofs.Basics.{plus_zero}
 
 -- ---- an item counts at least one
 
@@ -247,8 +248,8 @@ cells-runs level rule left column row (RowEnds n ∷ items) x y g = cells-runs l
 pub placed-from : (file : Rle) → placed file ≡ placed_from file.position.x file.position.x file.position.y file.items
 placed-from file =
     placed_behind-from file.position [] file.items
-    ∙ ap (λ z. placed_from file.position.x z (file.position.y +ℤ pos 0) file.items) (plus_none file.position.x)
-    ∙ ap (λ z. placed_from file.position.x file.position.x z file.items) (plus_none file.position.y)
+    ∙ ap (λ z. placed_from file.position.x z (file.position.y +ℤ pos 0) file.items) (plus_zero file.position.x)
+    ∙ ap (λ z. placed_from file.position.x file.position.x z file.items) (plus_zero file.position.y)
 
 sound-of : (level : ℕ) (lines : List (List ℕ)) (file : Rle) → IsRle level lines file → first_fault level file.rule (placed file) ≡ None
 sound-of level lines file (inl b) = b.sound

@@ -1,6 +1,6 @@
 -- Short items: the tables that decide them, held against each of the 256 bytes by computing; what they spell; and one more of them is read.
 use Rattle.std.proofs.Common.{◌≡◌, ◌∙◌, ◌+◌, ◌-◌, ◌*◌, ◌≤◌, ◌<◌, ◌∷◌, ◌++◌, ◌^◌, ℕ, List, [], length, drop, get_or, true, false, cond, refl, ap, sym, arith, pos, neg_ℤ, ℤ, ◌+ℤ◌, ◌≤ℤ◌, None, ◌&&◌, map, append-nil}
-use Rattle.std.specs.Prelude.{nat_le, int_le, int_lt}
+use Rattle.std.specs.Prelude.{nat_le, int_lt}
 use Rattle.std.proofs.lemmas.Bool.Decides.{nat_tests}
 use Rattle.std.proofs.lemmas.Int.{ints}
 use Rattle.std.proofs.lemmas.List.FromFn.{get_or-map-range_with_len}
@@ -24,6 +24,7 @@ use Rattle.life_rle.specs.ShortItems.{short_count, short_digits, IsShort, HasRoo
 use Rattle.life_rle.proofs.DigitInFront.{text_at, digit_in_front}
 use Rattle.life_rle.proofs.ReadItems.{reads-as, reads_more}
 use Rattle.life_rle.proofs.RowLimits.{fault-by, further}
+use Rattle.life_base.proofs.Basics.{int_le_trans, le-int_le}
 
 counts : COUNTS ≡ map short_count (range_with_len 0 256)
 counts = refl
@@ -101,12 +102,6 @@ within x limit n left few some room = omega (arith, ints)
 later : (x limit : ℤ) (n before after : ℕ) → n ≤ 9 → after + 1 ≤ before → (x +ℤ pos (9 * before)) ≤ℤ limit → ((x +ℤ pos n) +ℤ pos (9 * after)) ≤ℤ limit
 later x limit n before after few less room = omega (arith, ints)
 
-up-to : (a b c : ℤ) → a ≤ℤ b → b ≤ℤ c → a ≤ℤ c
-up-to a b c h k = omega (arith, ints)
-
-tested : (a b : ℤ) → a ≤ℤ b → int_le a b ≡ true
-tested a b h = grind (arith, ints)
-
 -- behind a short item there is room again
 pub still-room : (line : List ℕ) (at count state behind : ℕ) (here : Cursor) → HasRoom MAX_LEVEL line at here → count ≤ 9 → at < behind → behind ≤ length line
     → HasRoom MAX_LEVEL line behind (moved here (Cells count state))
@@ -116,7 +111,7 @@ still-room line at count state behind here h few on inside =
     record {
       near = record {
         left = h.near.left;
-        x = (further (neg_ℤ (edge MAX_LEVEL)) here.x count h.near.x.0, up-to _ _ _ cells (low-limit here.y));
+        x = (further (neg_ℤ (edge MAX_LEVEL)) here.x count h.near.x.0, int_le_trans _ _ _ cells (low-limit here.y));
         y = h.near.y;
       };
       room = later here.x limit count (length line - at) (length line - behind) few (omega (arith, on, inside)) h.room;
@@ -132,7 +127,7 @@ reads-short line at count state behind here found more h few low on inside spell
     let limit = row_limit MAX_LEVEL here.y in
     let cells = within here.x limit count (length line - at) few (omega (arith, on, inside)) h.room in
     let sound : item_fault MAX_LEVEL rule here.y here.x item ≡ None =
-    fault-by (is_state_of rule state) here.y here.x limit count h.near.x.0 refl (known rule state low) true (tested _ _ cells) in
+    fault-by (is_state_of rule state) here.y here.x limit count h.near.x.0 refl (known rule state low) true (le-int_le _ _ cells) in
     reads_more MAX_LEVEL rule from here line (drop behind line) before found more item (moved here item)
     (reads-as MAX_LEVEL rule from line _ _ here before found read spelled) sound refl (still-room line at count state behind here h few on inside).near adds
 

@@ -3,7 +3,7 @@ use Rattle.std.proofs.Common.{◌≡◌, Bool, true, false, not, ◌&&◌, refl}
 use Rattle.life_base.specs.declared.kind.Kind.{Kind}
 use Rattle.life_base.specs.declared.kind.Kind.TheVariants.{LineTooLong}
 use Rattle.life_base.proofs.LineKinds.{is_length_kind}
-use Rattle.life_base.proofs.Numbers.{first}
+use Rattle.life_base.proofs.Basics.{left_of_and}
 use Rattle.life_rle.specs.Grammar.{is_rle_kind}
 
 -- a kind of the format, and not that of a line that is too long
@@ -11,7 +11,7 @@ abbrev pub is_short_kind : Kind → Bool
 is_short_kind kind = is_rle_kind kind && not (is_length_kind kind)
 
 pub short_kind : (kind : Kind) → is_short_kind kind ≡ true → is_rle_kind kind ≡ true
-short_kind kind h = first (is_rle_kind kind) (not (is_length_kind kind)) h
+short_kind kind h = left_of_and (is_rle_kind kind) (not (is_length_kind kind)) h
 
 -- the kinds of a line, by whether it is too long
 abbrev pub IsLineKind : Bool → Kind → Type 0

@@ -15,6 +15,7 @@ use Rattle.life_rle.specs.declared.pen.Pen.{Pen}
 use Rattle.life_rle.specs.declared.wrapping.ItemLines.{ItemLines}
 use Rattle.life_rle.specs.Writer.{run_of, longer, column_behind, item_of, joins, items_text, text_with, pen_text, Puts, IsLiveRun, IsPen, IsGoodCell, IsAhead, Follow, WritesCell}
 use Rattle.life_rle.proofs.PutItems.{Puts-then}
+use Rattle.life_base.proofs.Basics.{eq-int_eq}
 
 -- how far apart two coordinates are that were passed as words of the machine
 pub distance_is : (n : ℕ) (from to : ℤ) → FitsSigned w64 from → FitsSigned w64 to
@@ -67,9 +68,6 @@ stepped same left x y c items = cond same (with_gap (nat_abs (c.x -ℤ x)) items
 no_gap : (a b : ℤ) → a ≡ b → nat_abs (a -ℤ b) ≡ 0
 no_gap a b e = grind (arith, ints)
 
-same_true : (a b : ℤ) → a ≡ b → int_eq a b ≡ true
-same_true a b e = grind (arith, ints)
-
 three : (a b c : Bool) → ((a && b) && c) ≡ true → (a ≡ true) × (b ≡ true) × (c ≡ true)
 three true true c h = (refl, refl, h)
 three true false c h = cc
@@ -116,7 +114,7 @@ cell-ends n s left x y c cells live ahead apart =
     let items = items_from left (c.x +ℤ pos 1) c.y cells in
     elim ahead as (λ _. with_cells n s (items_from left x y (c ∷ cells)) ≡ Cells n s ∷ (way_to left x y c [] ++ with_cells 1 c.state items)) [
       | inl h ↦
-          let on = same_true c.y y h.0 in
+          let on = eq-int_eq c.y y h.0 in
           let rest : (int_eq c.x x && eqb c.state s) ≡ false = sym (ap (λ t. (t && int_eq c.x x) && eqb c.state s) on) ∙ apart in
           ap (λ t. with_cells n s (stepped t left x y c (with_cells 1 c.state items))) on
           ∙ in_row n s left x y c items live on h.1 rest
@@ -204,7 +202,7 @@ pub from-first : (rule : Rule) (bounds : Bounds) (first : Cell) (cells : List Ce
 from-first rule bounds first cells text gap old new top g t u p =
     let left = bounds.left in
     let items = items_from left (first.x +ℤ pos 1) first.y cells in
-    let on : int_eq first.y bounds.top ≡ true = same_true first.y bounds.top (sym top) in
+    let on : int_eq first.y bounds.top ≡ true = eq-int_eq first.y bounds.top (sym top) in
     p.text (with_cells 1 first.state items)
     ∙ ap (λ bytes. bytes ++ items_text rule old.used (with_gap gap [] ++ with_cells 1 first.state items)) t
     ∙ ap (λ used. text ++ items_text rule used (with_gap gap [] ++ with_cells 1 first.state items)) u

@@ -24,10 +24,11 @@ use Rattle.life_rle.proofs.ReadBack.{is_one_line, AreLines, lines-ended, header_
 use Rattle.life_rle.proofs.RuleTexts.{rule_text-is, visible-one_line, visible-bare}
 use Rattle.life_rle.proofs.OneLine.{one_line-append, wrapped-AreLines, decimal-one_line, item_text-one_line}
 use Rattle.life_rle.proofs.ReadPosition.{IsShort, position_of-written}
-use Rattle.life_rle.proofs.Places.{placed_from, placed_behind-from, plus_none}
+use Rattle.life_rle.proofs.Places.{placed_from, placed_behind-from}
 use Rattle.life_rle.proofs.CellsLaw.{items_from-good, items_from-state}
 use Rattle.life_rle.proofs.Sorting.{AreGood-AreWritten, AreGood-sound, sorted-Follow, sorted-IsInPlane}
-use Rattle.life_rle.proofs.ItemRoom.{digits-fit}
+use Rattle.life_base.proofs.Basics.{plus_zero}
+use Rattle.life_base.proofs.Texts.{digits_fit}
 
 -- ---- the numbers of the two lines in front
 
@@ -42,8 +43,8 @@ span-small : (low high : ℤ) → neg_ℤ (edge MAX_LEVEL) ≤ℤ low → low �
 span-small low high l m h = grind (arith, ints)
 
 signed-short : (z : ℤ) → IsShort z → length (signed_decimal z) ≤ 21
-signed-short (pos n) h = let s = digits-fit n h in omega (arith, s)
-signed-short (negsuc n) h = let s = digits-fit (suc n) h in omega (arith, s)
+signed-short (pos n) h = let s = digits_fit n h in omega (arith, s)
+signed-short (negsuc n) h = let s = digits_fit (suc n) h in omega (arith, s)
 
 signed-one_line : (z : ℤ) → IsShort z → is_one_line (signed_decimal z) ≡ true
 signed-one_line (pos n) h = decimal-one_line n h
@@ -51,7 +52,7 @@ signed-one_line (negsuc n) h = decimal-one_line (suc n) h
 
 generation-short : (g : ℕ) → g < 2 ^ 64 → length (generation_text g) ≤ 25
 generation-short zero h = omega arith
-generation-short (suc n) h = let s = digits-fit (suc n) h in omega (arith, length-append (codes " Gen=") (decimal (suc n)), s)
+generation-short (suc n) h = let s = digits_fit (suc n) h in omega (arith, length-append (codes " Gen=") (decimal (suc n)), s)
 
 generation-one_line : (g : ℕ) → g < 2 ^ 64 → is_one_line (generation_text g) ≡ true
 generation-one_line zero h = refl
@@ -98,7 +99,7 @@ header-read : (w h : ℕ) (rule : Rule) → w < 2 ^ 64 → h < 2 ^ 64 → trim_s
     → rule_of (rule_text rule) ≡ Ok rule
     → opening_of MAX_LEVEL (header_text w h rule) ≡ Ok (Header rule)
 header-read w h rule sw sh bare short law =
-    let a = digits-fit w sw in let b = digits-fit h sh in
+    let a = digits_fit w sw in let b = digits_fit h sh in
     let size : length (header_text w h rule) ≤ 1000 =
     omega (
       arith,
@@ -183,8 +184,8 @@ module _ (states : StatesReadBack) (rules : RulesReadBack) (rule : Rule) (r : Is
 placed-corner : (position : Position) (items : List Item) → placed_behind position [] items ≡ placed_from position.x position.x position.y items
 placed-corner position items =
     placed_behind-from position [] items
-    ∙ ap (λ x. placed_from position.x x (position.y +ℤ pos 0) items) (plus_none position.x)
-    ∙ ap (λ y. placed_from position.x position.x y items) (plus_none position.y)
+    ∙ ap (λ x. placed_from position.x x (position.y +ℤ pos 0) items) (plus_zero position.x)
+    ∙ ap (λ y. placed_from position.x position.x y items) (plus_zero position.y)
 
 pub text-back : StatesReadBack → RulesReadBack → RleTextReadsBack
 text-back states rules rule g [] r gs sorted =

@@ -8,7 +8,7 @@ use Rattle.life_base.specs.Text.{is_digit_text, value_of, begins_with, words_of}
 use Rattle.life_base.specs.declared.kind.Kind.{Kind}
 use Rattle.life_base.specs.declared.kind.Kind.TheVariants.{BadNumber, TooLarge, OutOfPlane}
 use Rattle.life_base.specs.declared.rule.Rule.{Rule}
-use Rattle.life_base.proofs.RuleValues.{rule_values}
+use Rattle.life_base.proofs.RuleValues.{rule_values, default_is_rule}
 use Rattle.life_rle.specs.declared.line.Opening.TheVariants.{PositionLine, Header}
 use Rattle.life_rle.specs.declared.position.Position.{Position}
 use Rattle.life_rle.specs.Grammar.{IsRle, IsUnmarked, IsPreamble, opening_of}
@@ -27,12 +27,9 @@ one-value a b r p q = cc
 
 -- ---- the rule
 
-default-valid : IsRule default_rule
-default-valid = record { births = lit< tt; survivals = lit< tt; no_birth_on_zero = refl }
-
 rule-in-valid : (o : Option (Option (List ℕ))) (rule : Rule) → rule_in o ≡ Ok rule → IsRule rule
 rule-in-valid None rule h = cc
-rule-in-valid (Some None) rule h = let P : Rule → Type 0 = λ r. IsRule r in subst P (one-value default_rule rule (Ok default_rule) refl h) default-valid
+rule-in-valid (Some None) rule h = let P : Rule → Type 0 = λ r. IsRule r in subst P (one-value default_rule rule (Ok default_rule) refl h) default_is_rule
 rule-in-valid (Some (Some text)) rule h = rule_values text rule h
 
 rule-valid : (level : ℕ) (line : List ℕ) (rule : Rule) → opening_of level line ≡ Ok (Header rule) → IsRule rule

@@ -1,10 +1,12 @@
 -- The cells of a square from another origin, and the square that has them.
-use Rattle.std.proofs.Common.{◌≡◌, ◌≢◌, ◌⊎◌, inl, inr, ℕ, zero, suc, ◌+◌, ◌-◌, ◌^◌, ◌<◌, ◌≤◌, nat_lt, if◌then◌else◌, Bool, true, false, true≢false, ℤ, pos, neg_ℤ, ◌+ℤ◌, ◌≤ℤ◌, ◌<ℤ◌, refl, sym, ◌∙◌, ap, subst, arith, to_z, of_z, w64}
+use Rattle.std.proofs.Common.{◌≡◌, ◌≢◌, ◌⊎◌, inl, inr, ℕ, zero, suc, ◌-◌, ◌^◌, ◌<◌, ◌≤◌, nat_lt, if◌then◌else◌, Bool, true, false, ℤ, pos, neg_ℤ, ◌+ℤ◌, ◌≤ℤ◌, ◌<ℤ◌, refl, sym, ◌∙◌, ap, subst, arith, to_z, of_z, w64}
 use Rattle.std.proofs.lemmas.Int.{ints}
+use Rattle.std.proofs.lemmas.Bool.{cases_lt}
 use Rattle.std.proofs.Math.Pow.{pow_mono}
 use Rattle.life_base.specs.Tree.{Tree, point, quad, depth, blank, half_side, state_at, tree_cell, IsFull}
 use Rattle.life_base.specs.declared.bounds.Bounds.{Bounds}
-use Rattle.life_base.proofs.Squares.{Inside, is_inside, inside_facts, inside_test, inside_offset, cell_inside, cell_outside, depth-blank, full-blank}
+use Rattle.life_base.proofs.Squares.{Inside, depth-blank, full-blank, same_quads}
+use Rattle.life_base.proofs.Basics.{halves, zero_unless}
 use Rattle.life_quad.specs.Cells.{IsLeastBox}
 use Rattle.life_base.specs.declared.cell.TheConstants.{MAX_LEVEL}
 use Rattle.life_quad.specs.Moves.{trimmed}
@@ -12,11 +14,11 @@ use Rattle.life_quad.specs.Refused.{SomePart}
 use Rattle.life_quad.proofs.LawLemmas.{cells_lie_inside, equal_by_plane, trimmed_by_cells, trimmed_is_fixed, trimming_keeps_cells, trimming_stops}
 use Rattle.life_block.specs.Needed.{square_from}
 use Rattle.life_block.specs.Pieces.{IsPiece, ahead}
-use Rattle.life_block.proofs.NeedLemmas.{AreParts, depth-square, joined-is, own-part, piece-is, quads, quarter-part, square-piece}
+use Rattle.life_block.proofs.NeedLemmas.{AreParts, depth-square, joined-is, own-part, piece-is, quarter-part, square-piece}
 use Rattle.life_block.proofs.PieceLemmas.{IsPiece-moved, blank-of_zero}
-use Rattle.life_block.proofs.RootLemmas.{corner, cells-of_piece}
+use Rattle.life_block.proofs.RootLemmas.{cells-of_root}
+use Rattle.life_block.proofs.PlaneLemmas.{full-square}
 use Rattle.life_slide.specs.Pieces.{cells_from, IsNear, plane_from, root_from}
-use Rattle.life_slide.proofs.PlaneLemmas.{side}
 
 -- ---- from another origin
 
@@ -42,7 +44,7 @@ square-from f a b (suc k) x y =
     let d = 2 ^ k in
     let ex : ahead (x +ℤ a) d ≡ ahead x d +ℤ a = omega (arith, ints) in
     let ey : ahead (y +ℤ b) d ≡ ahead y d +ℤ b = omega (arith, ints) in
-    quads _ _ _ _ _ _ _ _
+    same_quads
     (square-from f a b k x y)
     (ap (λ u. square_from f k u (y +ℤ b)) ex ∙ square-from f a b k (ahead x d) y)
     (ap (λ v. square_from f k (x +ℤ a) v) ey ∙ square-from f a b k x (ahead y d))
@@ -99,20 +101,6 @@ below-or-none false n l = omega arith
 pub cell-below : (t : Tree) → IsFull t → (x y : ℤ) → tree_cell t x y < 256
 cell-below t full x y = below-or-none _ _ (state-below t full _ _)
 
-pub full-square : (f : ℤ → ℤ → ℕ) → ((x y : ℤ) → f x y < 256) → (k : ℕ) (x y : ℤ) → IsFull (square_from f k x y)
-unfolding square_from
-full-square f below zero x y = below x y
-full-square f below (suc k) x y =
-    let same : (u v : ℤ) → depth (square_from f k u v) ≡ depth (square_from f k x y) = (λ u v. depth-square f k u v ∙ sym (depth-square f k x y)) in (
-      full-square f below k x y,
-      full-square f below k _ y,
-      full-square f below k x _,
-      full-square f below k _ _,
-      same _ y,
-      same x _,
-      same _ _,
-    )
-
 -- the square about the middle has the plane's cells, where all others are 0
 pub centre-cells : (f : ℤ → ℤ → ℕ) → ((x y : ℤ) → f x y < 256) → (k : ℕ) → ((x y : ℤ) → (Inside (2 ^ k) x y → ⊥) → f x y ≡ 0) → (x y : ℤ)
     → tree_cell (square_from f (suc k) (neg_ℤ (pos (2 ^ k))) (neg_ℤ (pos (2 ^ k)))) x y ≡ f x y
@@ -153,7 +141,7 @@ trim-reach s full m positive n level x y some far =
         omega (arith, less, more)
 
     higher : n < depth r
-    higher = above (less-or-not n (depth r))
+    higher = above (cases_lt n (depth r))
       where
         above : (n < depth r) ⊎ (depth r ≤ n) → n < depth r
         above (inl l) = l
@@ -168,7 +156,7 @@ IsTight box j least =
 
 -- the level of a square with a side up to twice as long as a number below the side of another one
 pub level-fits : (j k n : ℕ) → 2 ^ (j - 1) ≤ n → n < 2 ^ k → j ≤ k
-level-fits j k n low high = by (less-or-not k j)
+level-fits j k n low high = by (cases_lt k j)
   where
     by : (k < j) ⊎ (j ≤ k) → j ≤ k
     by (inl l) =
@@ -236,14 +224,14 @@ module _ (t : Tree) (box : Bounds) (least : IsLeastBox t box) (high : 1 ≤ dept
   columns-inside n e =
       let w = (cells_lie_inside t _ _ least.at_left.1).0 in
       let l = (cells_lie_inside t _ _ least.at_right.1).1 in
-      let twice = side (depth t) high in
+      let twice = halves (depth t) high in
       omega (arith, ints, e, w, l, twice)
 
   pub rows-inside : (n : ℕ) → box.top +ℤ pos n ≡ box.bottom → n < 2 ^ depth t
   rows-inside n e =
       let w = (cells_lie_inside t _ _ least.at_top.1).2 in
       let l = (cells_lie_inside t _ _ least.at_bottom.1).3 in
-      let twice = side (depth t) high in
+      let twice = halves (depth t) high in
       omega (arith, ints, e, w, l, twice)
 
   -- what the code computes with is the number
@@ -275,13 +263,13 @@ module _ (t : Tree) (box : Bounds) (least : IsLeastBox t box) (high : 1 ≤ dept
         (omega (arith, ints, a), omega (arith, ints, b, wide), omega (arith, ints, d), omega (arith, ints, e, tall))
 
     west-zero : (x y : ℤ) → x <ℤ pos 0 → g x y ≡ 0
-    west-zero x y l = zero-unless _ (λ some. let a = (goes x y some).0 in omega (arith, ints, a, l))
+    west-zero x y l = zero_unless _ (λ some. let a = (goes x y some).0 in omega (arith, ints, a, l))
 
     north-zero : (x y : ℤ) → y <ℤ pos 0 → g x y ≡ 0
-    north-zero x y l = zero-unless _ (λ some. let a = (goes x y some).2 in omega (arith, ints, a, l))
+    north-zero x y l = zero_unless _ (λ some. let a = (goes x y some).2 in omega (arith, ints, a, l))
 
     outside-zero : (x y : ℤ) → (Inside (2 ^ j) x y → ⊥) → g x y ≡ 0
-    outside-zero x y apart = zero-unless _ (λ some.
+    outside-zero x y apart = zero_unless _ (λ some.
         let at = goes x y some in
         let w = at.0 in
         let e = at.1 in

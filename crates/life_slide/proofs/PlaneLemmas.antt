@@ -1,5 +1,5 @@
 -- A square about the middle of its plane, and blank ones around it.
-use Rattle.std.proofs.Common.{◌≡◌, ℕ, zero, suc, ◌+◌, ◌-◌, ◌%◌, ◌^◌, ◌<◌, ◌≤◌, Bool, true, false, ℤ, pos, ◌+ℤ◌, refl, sym, ◌∙◌, subst, arith}
+use Rattle.std.proofs.Common.{◌≡◌, ℕ, ◌+◌, ◌-◌, ◌%◌, ◌^◌, ◌<◌, ◌≤◌, Bool, true, false, ℤ, pos, ◌+ℤ◌, refl, sym, subst, arith}
 use Rattle.std.specs.Prelude.{if◌then◌else◌}
 use Rattle.std.proofs.lemmas.Int.{ints}
 use Rattle.std.proofs.Math.Nat.{mod-eq_of_lt}
@@ -9,14 +9,7 @@ use Rattle.life_block.specs.Pieces.{IsPiece, ahead, back}
 use Rattle.life_block.proofs.PieceLemmas.{IsPiece-moved, blank-of_zero}
 use Rattle.life_block.proofs.RootLemmas.{corner, piece-of_root, cell-outside}
 use Rattle.life_slide.specs.Pieces.{InBlock, IsBlock, in_corner}
-
--- twice the half of a side
-pub side : (k : ℕ) → 1 ≤ k → 2 ^ (k - 1) + 2 ^ (k - 1) ≡ 2 ^ k
-side zero h = absurd (omega arith)
-side (suc k) h =
-    let e : suc k - 1 ≡ k = omega arith in
-    let double : 2 ^ suc k ≡ 2 ^ k + 2 ^ k = grind arith in
-    (λ j. 2 ^ e j + 2 ^ e j) ∙ sym double
+use Rattle.life_base.proofs.Basics.{halves}
 
 -- where four squares begin, of which one is about the middle
 abbrev pub begin : Bool → Tree → ℤ
@@ -37,7 +30,7 @@ module _ (content : Id → Tree) (t : Tree) (id other : Id) (full : IsFull t) (h
   s = 2 ^ depth t
 
   twice : half_side t + half_side t ≡ s
-  twice = side (depth t) high
+  twice = halves (depth t) high
 
   root : IsPiece (tree_cell t) c c (content id)
   root = subst (IsPiece (tree_cell t) c c) (sym is) (piece-of_root t full high)
@@ -98,7 +91,7 @@ pub place-is : (t : Tree) (later : Bool) (place : ℤ) (n : ℕ) → 1 ≤ depth
     → ahead (begin later t) (n % 2 ^ depth t) ≡ place
 place-is t true place n high less first second =
     let e = second refl in
-    let d = side (depth t) high in
+    let d = halves (depth t) high in
     let m : n % 2 ^ depth t ≡ n = mod-eq_of_lt less in
     omega (arith, ints, e, d, m)
 place-is t false place n high less first second =

@@ -7,7 +7,7 @@ use Rattle.life_quad.specs.declared.id.Id.{Id}
 use Rattle.life_quad.specs.declared.moves.Quarters.{Quarters}
 use Rattle.life_block.specs.Needed.{square_from}
 use Rattle.life_block.specs.Pieces.{IsPiece, ahead}
-use Rattle.life_block.proofs.NeedLemmas.{is-piece, piece-is, quads}
+use Rattle.life_block.proofs.NeedLemmas.{is-piece, piece-is}
 use Rattle.life_block.proofs.PieceLemmas.{blank-of_zero}
 use Rattle.life_slide.specs.declared.margins.Margins.{Margins}
 use Rattle.life_slide.specs.Margins.{AreMarginsOf, IsOnSide, IsSeenOrOther}
@@ -21,7 +21,7 @@ unfolding square_from
 square-agrees f g zero x y h = ap point (h x y (omega (arith, ints)) (omega (arith, ints)) (omega (arith, ints)) (omega (arith, ints)))
 square-agrees f g (suc k) x y h =
     let double : 2 ^ suc k ≡ 2 ^ k + 2 ^ k = grind arith in
-    quads _ _ _ _ _ _ _ _
+    same_quads
     (square-agrees f g k x y (λ u v a b c d. h u v a (omega (arith, ints, b, double)) c (omega (arith, ints, d, double))))
     (square-agrees f g k _ y (λ u v a b c d. h u v (omega (arith, ints, a)) (omega (arith, ints, b, double)) c (omega (arith, ints, d, double))))
     (square-agrees f g k x _ (λ u v a b c d. h u v a (omega (arith, ints, b, double)) (omega (arith, ints, c)) (omega (arith, ints, d, double))))

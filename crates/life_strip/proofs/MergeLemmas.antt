@@ -13,10 +13,10 @@ use Rattle.life_strip.specs.declared.spans.Strip.{Strip}
 use Rattle.life_strip.specs.Strip.{AreWithin, IsStrip, quad_at, Rise}
 use Rattle.life_strip.specs.Picture.{picture, height, AreFalling, AreStacked, IsLowest, IsSound, IsStack}
 use Rattle.life_strip.specs.Needed.{SomeColumn, SomeSquare}
-use Rattle.life_strip.proofs.SpanLemmas.{double}
 use Rattle.life_strip.proofs.NeededLemmas.{height-divided, picture-below, SomeSquare-pair, SomeSquare-same}
 use Rattle.life_strip.proofs.PictureLemmas.{fits_below, all_init, all_last, picture-blank, picture-merge, height-push}
 use Rattle.life_strip.proofs.BandPictures.{all-one}
+use Rattle.life_base.proofs.Basics.{twice}
 
 -- strips of which the last was made one with a strip below it, of the same level
 module _ (xs first : List Strip) (last strip : Strip) (items : xs ≡ first ++ last ∷ []) (same : last.level ≡ strip.level) where
@@ -43,7 +43,7 @@ module _ (xs first : List Strip) (last strip : Strip) (items : xs ≡ first ++ l
     merged-height =
         let h : height xs ≡ height first + 2 ^ last.level = ap height items ∙ height-push first last in
         let w : 2 ^ last.level ≡ 2 ^ strip.level = ap (λ n. 2 ^ n) same in
-        let v : 2 ^ both.level ≡ 2 * 2 ^ last.level = ap (λ n. 2 ^ n) level ∙ double last.level in
+        let v : 2 ^ both.level ≡ 2 * 2 ^ last.level = ap (λ n. 2 ^ n) level ∙ twice last.level in
         omega (arith, h, w, v)
 
     pub merged-cells : {S : Type 0} {knows : S → Id → Type 0} {content : S → Id → Tree} {stored : S → List Tree} {most : S → ℕ} {old new : S}
@@ -75,7 +75,7 @@ one-stacked knows content s sound = record {
 pub two-fit : (level top : ℕ) → level < top → 2 ^ level + 0 + 2 ^ level ≤ 2 ^ top
 two-fit level top lt =
     let more = pow_mono {i = suc level} {j = top} (omega (arith, lt)) in
-    let two = double level in
+    let two = twice level in
     omega (arith, more, two)
 
 -- a square that the two need is one of the strip alone

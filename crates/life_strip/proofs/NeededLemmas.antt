@@ -9,12 +9,13 @@ use Rattle.life_quad.specs.declared.id.Id.{Id}
 use Rattle.life_base.specs.Tree.{Tree, depth, state_at, IsFull}
 use Rattle.life_base.proofs.Squares.{full-blank}
 use Rattle.life_base.proofs.Squares.{at_nw, at_ne, at_sw, at_se}
+use Rattle.life_base.proofs.Basics.{twice}
 use Rattle.life_strip.specs.declared.spans.Span.{Span}
 use Rattle.life_strip.specs.declared.spans.Strip.{Strip}
 use Rattle.life_strip.specs.Strip.{id_at, square_or_blank, square_at, quad_at, IsStrip}
 use Rattle.life_strip.specs.Picture.{state_in, picture, height, AreFalling, IsLowest}
 use Rattle.life_strip.specs.Needed.{SomeSquare}
-use Rattle.life_strip.proofs.SpanLemmas.{double, depth-square_at}
+use Rattle.life_strip.proofs.SpanLemmas.{depth-square_at}
 use Rattle.life_strip.proofs.PictureLemmas.{height-push, lowest-init}
 
 -- the same square, of another property, in another picture with the same states on the plane above the rows, and with as many rows or more
@@ -212,7 +213,7 @@ module _ (knows : Id → Type 0) (content : Id → Tree) (a b : Strip) (sound : 
         level = ap suc (depth-square_at knows content a.level a.spans.items sound (2 * c))
 
         side : 2 ^ depth square ≡ 2 * m
-        side = ap (λ n. 2 ^ n) level ∙ double a.level
+        side = ap (λ n. 2 ^ n) level ∙ twice a.level
 
         rows : (r : ℕ) × (height xs ≡ r * 2 ^ suc a.level)
         rows = height-divided xs (suc a.level) (lowest-init xs a falling (suc a.level) refl)

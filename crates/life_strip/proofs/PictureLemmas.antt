@@ -16,7 +16,9 @@ use Rattle.life_strip.specs.declared.spans.Strip.{Strip}
 use Rattle.life_strip.specs.declared.spans.Stretch.{Stretch}
 use Rattle.life_strip.specs.Strip.{square_at, IsStrip, IsPaired, IsFound}
 use Rattle.life_strip.specs.Picture.{state_in, picture, height, AreFalling, AreStacked, IsLowest, IsNotLast, IsRow, IsSound, IsStack}
-use Rattle.life_strip.proofs.SpanLemmas.{Keeps, double, depth-square_at, square-keeps, strip-keeps, found-known, found-depth, found-content}
+use Rattle.life_strip.proofs.SpanLemmas.{Keeps, depth-square_at, square-keeps, strip-keeps, found-known, found-depth, found-content}
+use Rattle.life_base.proofs.Basics.{twice}
+use Rattle.life_base.proofs.Squares.{state_at-blank}
 
 -- the western half of two columns of squares
 pub west : (i m : ℕ) → i % (2 * m) < m → (i / m ≡ 2 * (i / (2 * m))) × (i % m ≡ i % (2 * m))
@@ -77,7 +79,7 @@ stack knows old new upper lower both sound same level paired column row =
     first : state_in new both column row ≡ state_at (square_at new (suc upper.level) both.spans.items (column / (2 * m))) (column % (2 * m)) row
     first =
         (λ x. state_at (square_at new (level x) both.spans.items (column / 2 ^ level x)) (column % 2 ^ level x) row)
-        ∙ ap (λ w. state_at (square_at new (suc upper.level) both.spans.items (column / w)) (column % w) row) (double upper.level)
+        ∙ ap (λ w. state_at (square_at new (suc upper.level) both.spans.items (column / w)) (column % w) row) (twice upper.level)
 
     deep : m ≡ 2 ^ depth (u (2 * c))
     deep = ap (λ z. 2 ^ z) (sym (depth-square_at knows old upper.level upper.spans.items sound (2 * c)))
@@ -133,7 +135,7 @@ module _ {knows knows' : Id → Type 0} {old new : Id → Tree} (keeps : Keeps k
   picture-merge [] a b ab h same level st i j = by (nat_lt j (2 ^ a.level)) refl (nat_lt j (2 ^ ab.level)) refl
     where
       w : 2 ^ ab.level ≡ 2 ^ a.level + 2 ^ a.level
-      w = ap (λ n. 2 ^ n) level ∙ double a.level ∙ (omega arith)
+      w = ap (λ n. 2 ^ n) level ∙ twice a.level ∙ (omega arith)
 
       v : 2 ^ b.level ≡ 2 ^ a.level
       v = ap (λ n. 2 ^ n) same
@@ -181,11 +183,6 @@ pub rows-kept : {S : Type 0} {knows : S → Id → Type 0} {content : S → Id �
     → (xs : List Strip) → All (IsRow (knows old) (content old)) xs → All (IsRow (knows new) (content new)) xs
 rows-kept keeps xs h k d lt = record { sound = strips-kept keeps xs (λ j e l. (h j e l).sound) k d lt; level = (h k d lt).level }
 
--- what follows of an accepted call
-pub on_ok_map : {T E : Type 0} {P Q : Type 0} (r : Result T E) → (P → Q) → OnOk r P → OnOk r Q
-on_ok_map (Ok x) f p = f p
-on_ok_map (Err e) f p = tt
-
 pub on_ok_map3 : {T E : Type 0} {P Q R S : Type 0} (r : Result T E) → (P → Q → R → S) → OnOk r P → OnOk r Q → OnOk r R → OnOk r S
 on_ok_map3 (Ok x) f p q s = f p q s
 on_ok_map3 (Err e) f p q s = tt
@@ -205,22 +202,6 @@ all_init P xs x h k d lt = subst P (get_or_append_left xs (x ∷ []) d k lt) (h 
 -- the last
 pub all_last : {X : Type 0} (P : X → Type 0) (xs : List X) (x : X) → All P (xs ++ x ∷ []) → P x
 all_last P xs x h = subst P (get_or-append_seam xs x [] x) (h (length xs) x (omega (arith, length-append xs (x ∷ []))))
-
--- every cell of a blank square has state 0
-pub state_at-blank : (k i j : ℕ) → state_at (blank k) i j ≡ 0
-state_at-blank zero i j = refl
-state_at-blank (suc k) i j = by (λ n m. state_at-blank k n m) (nat_lt j (2 ^ depth (blank k))) (nat_lt i (2 ^ depth (blank k)))
-  where
-    h : ℕ
-    h = 2 ^ depth (blank k)
-
-    by : ((n m : ℕ) → state_at (blank k) n m ≡ 0) → (p q : Bool)
-        → (if p then (if q then state_at (blank k) i j else state_at (blank k) (i - h) j) else
-        (if q then state_at (blank k) i (j - h) else state_at (blank k) (i - h) (j - h))) ≡ 0
-    by f true true = f i j
-    by f true false = f (i - h) j
-    by f false true = f i (j - h)
-    by f false false = f (i - h) (j - h)
 
 -- a blank strip below the others changes no cell
 pub picture-blank : (content : Id → Tree) (xs : List Strip) (s : Strip) → s.spans.items ≡ [] → (i j : ℕ) → picture content (xs ++ s ∷ []) i j
@@ -309,7 +290,7 @@ height-falling (x ∷ xs) n fall low =
     let first : x.level < n = low 0 x (omega arith) in
     let rest = height-falling xs x.level (λ i j d ij jl. fall (suc i) (suc j) d (omega (arith, ij)) (omega (arith, jl)))
     (λ k d lt. fall 0 (suc k) d (omega arith) (omega (arith, lt))) in
-    let two = double x.level in
+    let two = twice x.level in
     let more = pow_mono {i = suc x.level} {j = n} (omega (arith, first)) in
     omega (arith, rest, two, more)
 
@@ -319,7 +300,7 @@ one_strip [] fall full = absurd (omega (arith, full))
 one_strip (x ∷ []) fall full = (x, refl, by (nat_lt x.level MAX_LEVEL) refl (nat_lt MAX_LEVEL x.level) refl)
   where
     by : (p : Bool) → nat_lt x.level MAX_LEVEL ≡ p → (q : Bool) → nat_lt MAX_LEVEL x.level ≡ q → x.level ≡ MAX_LEVEL
-    by true e q f = absurd (let a : suc x.level ≤ MAX_LEVEL = grind arith in let m = pow_mono {i = suc x.level} {j = MAX_LEVEL} a in let t = double x.level in
+    by true e q f = absurd (let a : suc x.level ≤ MAX_LEVEL = grind arith in let m = pow_mono {i = suc x.level} {j = MAX_LEVEL} a in let t = twice x.level in
         let z = positive_power x.level in omega (arith, m, t, z, full))
     by false e true f = absurd (let a : suc MAX_LEVEL ≤ x.level = grind arith in let m = pow_mono {i = suc MAX_LEVEL} {j = x.level} a in omega (arith, m, full))
     by false e false f = grind arith
@@ -330,7 +311,7 @@ one_strip (x ∷ y ∷ xs) fall full = absurd (by (nat_lt x.level MAX_LEVEL) ref
         (λ k d lt. fall 0 (suc k) d (omega arith) (omega (arith, lt)))
 
     by : (p : Bool) → nat_lt x.level MAX_LEVEL ≡ p → ⊥
-    by true e = let a : suc x.level ≤ MAX_LEVEL = grind arith in let m = pow_mono {i = suc x.level} {j = MAX_LEVEL} a in let t = double x.level in
+    by true e = let a : suc x.level ≤ MAX_LEVEL = grind arith in let m = pow_mono {i = suc x.level} {j = MAX_LEVEL} a in let t = twice x.level in
         let r = rest in omega (arith, m, t, r, full)
     by false e = let a : MAX_LEVEL ≤ x.level = grind arith in let m = pow_mono {i = MAX_LEVEL} {j = x.level} a in let z = positive_power y.level in
         omega (arith, m, z, full)

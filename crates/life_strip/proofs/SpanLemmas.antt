@@ -9,6 +9,7 @@ use Rattle.life_quad.specs.declared.id.Id.{Id}
 use Rattle.life_quad.specs.Keeping.{KeepsSquares}
 use Rattle.life_base.specs.Tree.{Tree, quad, depth, blank}
 use Rattle.life_base.proofs.Squares.{depth-blank}
+use Rattle.life_base.proofs.Basics.{twice}
 use Rattle.life_strip.specs.declared.spans.Span.{Span}
 use Rattle.life_strip.specs.declared.spans.Stretch.{Stretch}
 use Rattle.life_strip.specs.Strip.{id_at, square_or_blank, square_at, id_or, quad_at, IsStrip, IsPast, EndsAfter, IsStart, IsFound, IsBefore, IsNearer, AreBefore, HaveColumns, IsExtended, FilledTo}
@@ -16,9 +17,6 @@ use Rattle.life_strip.specs.Strip.{id_at, square_or_blank, square_at, id_or, qua
 -- a store knows what it knew, with the same square
 abbrev pub Keeps : (Id → Type 0) → (Id → Type 0) → (Id → Tree) → (Id → Tree) → Type 0
 Keeps knows knows' old now = (q : Id) → knows q → knows' q × (now q ≡ old q)
-
-pub double : (k : ℕ) → 2 ^ suc k ≡ 2 * 2 ^ k
-double k = grind arith
 
 -- the span that has the column is the one found
 pub id_at-in : (s : Span) (rest : List Span) (c : ℕ) → s.start ≤ c → c < s.end → id_at (s ∷ rest) c ≡ Some s.square
@@ -282,7 +280,7 @@ quad-same knows content level upper lower u l b known is_blank column c n s hn h
 pub half-side : (level : ℕ) → level < MAX_LEVEL → 2 ^ (MAX_LEVEL - level) ≡ 2 * 2 ^ (MAX_LEVEL - suc level)
 half-side level low =
     let more : MAX_LEVEL - level ≡ suc (MAX_LEVEL - suc level) = omega (arith, low) in
-    ap (λ n. 2 ^ n) more ∙ double (MAX_LEVEL - suc level)
+    ap (λ n. 2 ^ n) more ∙ twice (MAX_LEVEL - suc level)
 
 -- no span is left
 pub none-left : (spans : List Span) (column : ℕ) (b : Id) (f : Stretch) → IsFound spans column b f → f.start ≡ None → (c : ℕ) → column ≤ c

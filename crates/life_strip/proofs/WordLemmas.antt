@@ -11,7 +11,8 @@ use Rattle.life_strip.specs.declared.spans.Span.{Span}
 use Rattle.life_strip.specs.declared.words.TwoWords.{TwoWords}
 use Rattle.life_strip.specs.Strip.{id_at, square_or_blank, square_at, quad_at, IsStrip, HaveColumns, IsPast}
 use Rattle.life_strip.specs.Band.{cell_in, binary, IsWord, nibble_of, west_at, east_at}
-use Rattle.life_strip.proofs.SpanLemmas.{double, depth-square_at, id_at-in, id_at-none, id_at-after}
+use Rattle.life_strip.proofs.SpanLemmas.{depth-square_at, id_at-in, id_at-none, id_at-after}
+use Rattle.life_base.proofs.Basics.{twice}
 
 -- the digits of two stretches, one behind the other
 pub binary-add : (f : ℕ → ℕ) (s m n : ℕ) → binary f s (m + n) ≡ binary f s m * 2 ^ n + binary f (s + m) n
@@ -19,9 +20,9 @@ binary-add f s m zero = let e : m + 0 ≡ m = omega arith in ap (binary f s) e �
 binary-add f s m (suc n) =
     let e : m + suc n ≡ suc (m + n) = omega arith in
     let before = binary-add f s m n in
-    let twice = double n in
+    let wider = twice n in
     let place : s + (m + n) ≡ s + m + n = omega arith in
-    let wide : binary f s m * 2 ^ suc n ≡ 2 * (binary f s m * 2 ^ n) = rw twice (omega arith) in
+    let wide : binary f s m * 2 ^ suc n ≡ 2 * (binary f s m * 2 ^ n) = rw wider (omega arith) in
     let last = ap f place in
     ap (binary f s) e ∙ omega (arith, before, wide, last)
 
@@ -30,14 +31,14 @@ pub binary-small : (f : ℕ → ℕ) (s n : ℕ) → ((i : ℕ) → i < n → f 
 binary-small f s zero h = omega arith
 binary-small f s (suc n) h =
     let before = binary-small f s n (λ i lt. h i (omega (arith, lt))) in
-    omega (arith, before, double n, h n (omega arith))
+    omega (arith, before, twice n, h n (omega arith))
 
 -- n times one digit
 pub binary-same : (f : ℕ → ℕ) (s n b : ℕ) → ((i : ℕ) → i < n → f (s + i) ≡ b) → binary f s n + b ≡ b * 2 ^ n
 binary-same f s zero b h = omega arith
 binary-same f s (suc n) b h =
     let before = binary-same f s n b (λ i lt. h i (omega (arith, lt))) in
-    let wide : b * 2 ^ suc n ≡ 2 * (b * 2 ^ n) = rw (double n) (omega arith) in
+    let wide : b * 2 ^ suc n ≡ 2 * (b * 2 ^ n) = rw (twice n) (omega arith) in
     omega (arith, before, wide, h n (omega arith))
 
 -- a stretch of one digit behind others, at its place

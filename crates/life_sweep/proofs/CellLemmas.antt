@@ -1,5 +1,5 @@
 -- The sorted cells of a square are what is left of the plane from its first place on.
-use Rattle.std.proofs.Common.{◌≡◌, ◌≢◌, ℕ, zero, suc, ◌-◌, ◌^◌, ◌≤◌, ◌⊎◌, inl, inr, ℤ, pos, neg_ℤ, ◌≤ℤ◌, ◌<ℤ◌, List, [], ◌∷◌, get_or, refl, sym, ◌∙◌, ap, subst, arith}
+use Rattle.std.proofs.Common.{◌≡◌, ◌≢◌, ℕ, suc, ◌-◌, ◌^◌, ◌≤◌, inl, inr, ℤ, pos, neg_ℤ, ◌≤ℤ◌, ◌<ℤ◌, List, [], ◌∷◌, get_or, refl, sym, ◌∙◌, ap, subst, arith}
 use Rattle.std.specs.Prelude.{All, AllPairs, Contains}
 use Rattle.std.proofs.lemmas.Int.{ints}
 use Rattle.std.proofs.lemmas.Bool.Decides.{eqb_tells}
@@ -13,19 +13,13 @@ use Rattle.life_quad.specs.Cells.{IsBefore, IsCellList}
 use Rattle.life_quad.proofs.LawLemmas.{cells_lie_inside}
 use Rattle.life_sweep.specs.Generation.{after}
 use Rattle.life_sweep.specs.Rows.{IsRestOf, IsFrom, Precedes, IsInside, IsBlankBefore, first_coordinate}
-
-cases : (cell d : Cell) (rest : List Cell) → Contains (cell ∷ rest) d → (cell ≡ d) ⊎ Contains rest d
-cases cell d rest (zero, l, e) = inl e
-cases cell d rest (suc k, l, e) = inr (k, omega (arith, l), e)
+use Rattle.life_base.proofs.Members.{in_cases, in_tail}
 
 first-before : (cell d : Cell) (rest : List Cell) → AllPairs IsBefore (cell ∷ rest) → Contains rest d → IsBefore cell d
 first-before cell d rest h (k, l, e) = subst (λ z. IsBefore cell z) e (h 0 (suc k) d (omega arith) (omega (arith, l)))
 
 later-pairs : (cell : Cell) (rest : List Cell) → AllPairs IsBefore (cell ∷ rest) → AllPairs IsBefore rest
 later-pairs cell rest h i j d l m = h (suc i) (suc j) d (omega (arith, l)) (omega (arith, m))
-
-pub later : (cell d : Cell) (rest : List Cell) → Contains rest d → Contains (cell ∷ rest) d
-later cell d rest (k, l, e) = (suc k, omega (arith, l), e)
 
 pub sorted-from : (f : ℤ → ℤ → ℕ) (x y : ℤ) (list : List Cell) → AllPairs IsBefore list
     → ((d : Cell) → Contains list d → (f d.x d.y ≡ d.state) × IsFrom x y d.x d.y)
@@ -37,7 +31,7 @@ sorted-from f x y (cell ∷ rest) pairs here all = (
   gap,
   first.0,
   sorted-from f (after cell.x) cell.y rest (later-pairs cell rest pairs)
-      (λ d h. ((here d (later cell d rest h)).0, behind d (first-before cell d rest pairs h))) more,
+      (λ d h. ((here d (in_tail cell rest d h)).0, behind d (first-before cell d rest pairs h))) more,
 )
   where
     first : (f cell.x cell.y ≡ cell.state) × IsFrom x y cell.x cell.y
@@ -60,7 +54,7 @@ sorted-from f x y (cell ∷ rest) pairs here all = (
     gap : (c r : ℤ) → IsFrom x y c r → Precedes c r cell.x cell.y → f c r ≡ 0
     gap c r p q = elim (eqb_tells (f c r) 0) [
       | inl t ↦ t.1
-      | inr t ↦ elim (cases cell (record { x = c; y = r; state = f c r }) rest (all c r p t.1)) [
+      | inr t ↦ elim (in_cases cell rest (record { x = c; y = r; state = f c r }) (all c r p t.1)) [
         | inl e ↦ absurd (itself c r q (ap (λ (z : Cell). z.x) e) (ap (λ (z : Cell). z.y) e))
         | inr h ↦ absurd (clash c r q (record { x = c; y = r; state = f c r }) refl refl
             (first-before cell (record { x = c; y = r; state = f c r }) rest pairs h))
@@ -76,7 +70,7 @@ sorted-from f x y (cell ∷ rest) pairs here all = (
     not-first c r (inr l) ex ey = omega (arith, ints, l.1, ex)
 
     more : (c r : ℤ) → IsFrom (after cell.x) cell.y c r → f c r ≢ 0 → Contains rest (record { x = c; y = r; state = f c r })
-    more c r p n = elim (cases cell (record { x = c; y = r; state = f c r }) rest (all c r (from-first c r p) n)) [
+    more c r p n = elim (in_cases cell rest (record { x = c; y = r; state = f c r }) (all c r (from-first c r p) n)) [
       | inl e ↦ absurd (not-first c r p (ap (λ (z : Cell). z.x) e) (ap (λ (z : Cell). z.y) e))
       | inr h ↦ h
     ]

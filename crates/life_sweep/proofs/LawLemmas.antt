@@ -10,23 +10,23 @@ use Rattle.life_table.specs.declared.table.Neighborhood.{Neighborhood}
 use Rattle.life_sweep.specs.Generation.{TableAnswers, named}
 
 -- a state of 0 or 1 counts as itself
-one : (a : ℕ) → a < 2 → cond (nat_eq 1 a) 1 0 ≡ a
-one a l = elim (eqb_tells 1 a) [
+pub counts_itself : (a : ℕ) → a < 2 → cond (nat_eq 1 a) 1 0 ≡ a
+counts_itself a l = elim (eqb_tells 1 a) [
   | inl t ↦ ap (λ (b : Bool). cond b 1 0) t.0 ∙ t.1
   | inr f ↦ ap (λ (b : Bool). cond b 1 0) f.0 ∙ (let ne = f.1 in omega (arith, l, ne))
 ]
 
-eight : (a b c d e f g h : ℕ) → a < 2 → b < 2 → c < 2 → d < 2 → e < 2 → f < 2 → g < 2 → h < 2
+pub eight : (a b c d e f g h : ℕ) → a < 2 → b < 2 → c < 2 → d < 2 → e < 2 → f < 2 → g < 2 → h < 2
     → a + b + c + d + e + f + g + h ≡ count_of 1 (a ∷ b ∷ c ∷ d ∷ e ∷ f ∷ g ∷ h ∷ [])
 eight a b c d e f g h la lb lc ld le lf lg lh =
-    let ea = one a la in
-    let eb = one b lb in
-    let ec = one c lc in
-    let ed = one d ld in
-    let ee = one e le in
-    let ef = one f lf in
-    let eg = one g lg in
-    let eh = one h lh in
+    let ea = counts_itself a la in
+    let eb = counts_itself b lb in
+    let ec = counts_itself c lc in
+    let ed = counts_itself d ld in
+    let ee = counts_itself e le in
+    let ef = counts_itself f lf in
+    let eg = counts_itself g lg in
+    let eh = counts_itself h lh in
     omega (arith, ea, eb, ec, ed, ee, ef, eg, eh)
 
 -- how many of eight neighbours are alive
@@ -46,13 +46,6 @@ decided table v cells n (Ok s) en ec h =
     subst (λ m. Decides table.symmetry table.vars (slice_index v 0) (named m v) table.lines (Becomes s)) (sym en)
     (subst (λ z. Decides table.symmetry table.vars (slice_index z 0) (drop 1 z) table.lines (Becomes s)) ec h)
 decided table v cells n (Err f) en ec h = tt
-
-pub refused : (table : Table) (v cells : List ℕ) (n : Neighborhood) (fault : Fault) → table.neighborhood ≡ n → cells ≡ slice_index v 0 ∷ named n v
-    → Decides table.symmetry table.vars (slice_index cells 0) (drop 1 cells) table.lines (Ambiguous fault.place.line)
-    → TableAnswers table v (Ambiguous fault.place.line)
-refused table v cells n fault en ec h =
-    subst (λ m. Decides table.symmetry table.vars (slice_index v 0) (named m v) table.lines (Ambiguous fault.place.line)) (sym en)
-    (subst (λ z. Decides table.symmetry table.vars (slice_index z 0) (drop 1 z) table.lines (Ambiguous fault.place.line)) ec h)
 
 pub whole-list : (v : List ℕ) → length v ≡ 9 → v ≡ slice_index v 0 ∷ drop 1 v
 whole-list (s ∷ v) len = refl

@@ -1,6 +1,6 @@
 -- When a generation is refused.
 use Rattle.std.proofs.Common.{◌≡◌, ℕ, zero, suc, ◌-◌, ◌^◌, ◌<◌, ◌≤◌, inl, inr, Bool, true, false, nat_lt, ℤ, List, [], ◌∷◌, Some, None, refl, ◌∙◌, ap, subst, arith}
-use Rattle.std.specs.Prelude.{All, Contains, Result, Ok, Err, IfOk}
+use Rattle.std.specs.Prelude.{All, Contains}
 use Rattle.std.proofs.lemmas.Int.{ints}
 use Rattle.std.proofs.lemmas.Bool.Decides.{eqb_tells}
 use Rattle.life_base.specs.declared.cell.TheConstants.{MAX_LEVEL}
@@ -14,11 +14,8 @@ use Rattle.life_table.specs.Meaning.{Answer, Becomes, Ambiguous}
 use Rattle.life_sweep.specs.Refused.{GenerationRefusal, HasStateFrom, SomeAmbiguous}
 use Rattle.life_sweep.specs.Generation.{states_at}
 use Rattle.life_sweep.specs.Sweep.{RefusesStep, IsLeft}
-use Rattle.life_sweep.proofs.CellLemmas.{later, nonzero-inside}
-
-pub both-ok : {X E : Type 0} (r : Result X E) (P Q R : X → Type 0) → ((x : X) → P x → Q x → R x) → IfOk r P → IfOk r Q → IfOk r R
-both-ok (Ok x) P Q R f p q = f x p q
-both-ok (Err e) P Q R f p q = tt
+use Rattle.life_sweep.proofs.CellLemmas.{nonzero-inside}
+use Rattle.life_base.proofs.Members.{in_tail}
 
 all-more : (n : ℕ) (cell : Cell) (rest : List Cell) → cell.state < n → All (λ c. c.state < n) rest → All (λ c. c.state < n) (cell ∷ rest)
 all-more n cell rest l h zero d m = l
@@ -31,7 +28,7 @@ some-from (cell ∷ rest) n h = by (some-from rest n) (nat_lt cell.state n) refl
   where
     by : (¬ (All (λ c. c.state < n) rest) → (c : Cell) × Contains rest c × (n ≤ c.state)) → (b : Bool) → nat_lt cell.state n ≡ b → (c : Cell)
         × Contains (cell ∷ rest) c × (n ≤ c.state)
-    by more true e = let r = more (λ all. h (all-more n cell rest (grind (arith, e)) all)) in (r.0, later cell r.0 rest r.1, r.2)
+    by more true e = let r = more (λ all. h (all-more n cell rest (grind (arith, e)) all)) in (r.0, in_tail cell rest r.0 r.1, r.2)
     by more false e = (cell, (0, omega arith, refl), grind (arith, e))
 
 pub has-from : (t : Tree) (list : List Cell) (n : ℕ) → IsCellList t list → ¬ (All (λ c. c.state < n) list) → HasStateFrom n (tree_cell t)

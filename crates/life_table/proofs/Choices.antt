@@ -65,10 +65,6 @@ module _ (vars : List Var) (es : List Entry) (ws : List ℕ) (same : length es �
       → Consistent vars (es ++ e ∷ []) (ws ++ x ∷ [])
   join choice is values e x h = record { choice = choice; is_choice = is; values = map-append (state_of choice) es (e ∷ []) ∙ cc }
 
-  -- the front of consistent states
-  pub front : (e : Entry) (x : ℕ) → Consistent vars (es ++ e ∷ []) (ws ++ x ∷ []) → Consistent vars es ws
-  front e x c = record { choice = c.choice; is_choice = c.is_choice; values = (ends e x c).0 }
-
   -- a variable that doesn't
   pub new_next : (i x : ℕ) → i < length vars → ((k : ℕ) (d : Entry) → k < length es → get_or es k d ≢ entries.Var i) → Consistent vars es ws
       → IfSome (slice_get vars i) (λ var. HasState var x) ↔ Consistent vars (es ++ entries.Var i ∷ []) (ws ++ x ∷ [])

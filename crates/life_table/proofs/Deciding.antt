@@ -16,7 +16,7 @@ use Rattle.life_table.specs.Taking.{of_state, free_count, can_be_state, settled,
 use Rattle.life_table.proofs.Adding.{directives_same}
 use Rattle.life_table.proofs.Choices.{changed, changed_same, changed_choice}
 use Rattle.life_table.proofs.Counts.{count-cons}
-use Rattle.life_table.proofs.Grouping.{of_group, is_clash}
+use Rattle.life_table.proofs.Grouping.{of_group}
 use Rattle.life_table.proofs.Searching.{drop_at}
 use Rattle.life_table.specs.declared.found.Found.{Found}
 use Rattle.life_table.specs.declared.table.Var.{Var}
@@ -24,6 +24,7 @@ use Rattle.life_table.specs.declared.table.Entry.{Entry}
 use Rattle.life_table.specs.declared.table.Entry.TheVariants as entries
 use Rattle.life_table.specs.declared.table.Transition.{Transition}
 use Rattle.life_table.specs.declared.groups.Group.{Group}
+use Rattle.life_base.proofs.Basics.{true_false}
 
 -- the centre's variable has the centre's state
 centre_is : (choice : ℕ → ℕ) (i : ℕ) (first : Entry) → is_variable i first ≡ true → state_of choice first ≡ choice i
@@ -77,7 +78,7 @@ centred vars (entries.Var j) centre h choice is = (
   record {
     first_is = changed_same choice j centre;
     others = λ i open_i. elim (eqb_tells j i) [
-      | inl same ↦ absurd (elim (eqb_tells i j) [ inl is_one ↦ is_clash (nat_eq i j) is_one.0 open_i | inr is_none ↦ is_none.1 (sym same.1) ])
+      | inl same ↦ absurd (elim (eqb_tells i j) [ inl is_one ↦ true_false (nat_eq i j) is_one.0 open_i | inr is_none ↦ is_none.1 (sym same.1) ])
       | inr other ↦ ap (λ b. cond b centre (choice i)) other.0
     ];
   },

@@ -6,7 +6,7 @@ use Rattle.std.proofs.lemmas.List.Elements.{Contains-append_left, Contains-appen
 use Rattle.life_table.specs.Meaning.{state_of}
 use Rattle.life_table.specs.Found.{Tells, Adds, SomeGives}
 use Rattle.life_table.specs.Meaning.{GivesAs}
-use Rattle.life_table.proofs.Members.{in_head, in_none, in_one}
+use Rattle.life_base.proofs.Members.{in_head, in_none, in_one}
 use Rattle.life_table.proofs.Adding.{directives_same, tells_more, adds_same, adds_more, adds_none}
 use Rattle.life_table.specs.declared.found.Found.{Found}
 use Rattle.life_table.specs.declared.table.Var.{Var}

@@ -3,25 +3,22 @@ use Rattle.std.proofs.Common.{◌≡◌, ℕ, zero, suc, ◌+◌, ◌-◌, ◌*�
 use Rattle.std.specs.Int.{bit_at}
 use Rattle.std.proofs.lemmas.Bool.Decides.{eqb_tells}
 use Rattle.std.proofs.lemmas.Nat.Bits.{bit_at-suc, bit_at_lowest}
-use Rattle.std.proofs.Math.Nat.{two-pow-succ}
 use Rattle.std.proofs.Math.Pow.{pow-lt}
 use Rattle.life_table.specs.Taking.{of_state, free_count}
 use Rattle.life_table.specs.Meaning.{count_of}
 use Rattle.std.proofs.lemmas.Nat.{pow_pos}
 use Rattle.std.proofs.lemmas.List.Sums.{sum_by-cons}
+use Rattle.life_base.proofs.Basics.{double}
 
 pub same_state : (s n : ℕ) → of_state s s n ≡ n
 same_state s n = ap (λ b. cond b n 0) (eq-eqb s s refl)
-
-pow_step : (k : ℕ) → 2 ^ suc k ≡ 2 ^ k + 2 ^ k
-pow_step k = two-pow-succ k
 
 -- a bit that is set is part of the number
 pub bit_below : (k free : ℕ) → bit_at free k ≡ 1 → 2 ^ k ≤ free
 bit_below zero free h = let e : bit_at free 0 ≡ free % 2 = bit_at_lowest free in omega (arith, e, h)
 bit_below (suc k) free h =
     let r = bit_below k (free / 2) (sym (bit_at-suc free k) ∙ h) in
-    let p = pow_step k in
+    let p = double k in
     omega (arith, r, p)
 
 pub of_sum : (t s a b c : ℕ) → a ≡ b + c → of_state t s a ≡ of_state t s b + of_state t s c
@@ -43,7 +40,7 @@ one_less t zero free (s ∷ states) below set =
 one_less t (suc k) free (s ∷ states) below set =
     let set' : bit_at (free / 2) k ≡ 1 = sym (bit_at-suc free k) ∙ set in
     let low : 2 ^ k ≤ free / 2 = bit_below k (free / 2) set' in
-    let p : 2 ^ suc k ≡ 2 ^ k + 2 ^ k = pow_step k in
+    let p : 2 ^ suc k ≡ 2 ^ k + 2 ^ k = double k in
     let half : (free - 2 ^ suc k) / 2 ≡ free / 2 - 2 ^ k = omega (arith, p, low) in
     let parity : (free - 2 ^ suc k) % 2 ≡ free % 2 = omega (arith, p, low) in
     let first : of_state t s ((free - 2 ^ suc k) % 2) ≡ of_state t s (free % 2) = ap (of_state t s) parity in
@@ -63,7 +60,7 @@ none_free t (s ∷ states) = let r = none_free t states in let z = zero_of t s i
 pub no_count : (free : ℕ) (states : List ℕ) → free < 2 ^ length states → ((t : ℕ) → free_count t free states ≡ 0) → free ≡ 0
 no_count free [] below h = omega (arith, below)
 no_count free (s ∷ states) below h =
-    let p = pow_step (length states) in
+    let p = double (length states) in
     let first = same_state s (free % 2) in
     let here = h s in
     let rest : free / 2 ≡ 0 = no_count (free / 2) states (omega (arith, below, p)) (λ t. let e = h t in omega (arith, e)) in
@@ -88,7 +85,7 @@ at_place t free (s ∷ states) h = elim (eqb_tells (of_state t s (free % 2)) 0) 
 pub each_free : (t : ℕ) (states : List ℕ) → free_count t (2 ^ length states - 1) states ≡ count_of t states
 each_free t [] = refl
 each_free t (s ∷ states) =
-    let p = pow_step (length states) in
+    let p = double (length states) in
     let some : 0 < 2 ^ length states = pow_pos (length states) in
     let odd : (2 ^ suc (length states) - 1) % 2 ≡ 1 = omega (arith, p, some) in
     let half : (2 ^ suc (length states) - 1) / 2 ≡ 2 ^ length states - 1 = omega (arith, p, some) in

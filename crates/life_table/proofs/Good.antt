@@ -29,7 +29,7 @@ use Rattle.life_table.specs.declared.table.Transition.{Transition}
 use Rattle.life_table.proofs.Fronts.{any_more}
 use Rattle.life_table.proofs.Cases.{Says, states, neighbors, orders, variable, transition, Case, passed, named, ahead, opens, ends, silent, says, behind}
 use Rattle.life_table.proofs.Values.{tested, below_limit, is_variable_written, is_transition}
-use Rattle.life_table.proofs.Parts.{is_false}
+use Rattle.life_base.proofs.Basics.{false_from_none}
 
 -- 1. One more variable
 
@@ -82,7 +82,7 @@ any_same n k vars v (t ∷ ts) h =
 none_named : (vars : List Var) (name : List ℕ) → variable_named vars name ≡ None → (i : ℕ) (x : Var) → slice_get vars i ≡ Some x → x.name ≢ name
 none_named vars name none i x there same =
     let past : length vars ≤ position_or_len (λ (w : Var). bytes_eq w.name name) vars = ltb-false _ _
-    (is_false (nat_lt (position_or_len (λ (w : Var). bytes_eq w.name name) vars) (length vars)) _ none) in
+    (false_from_none (nat_lt (position_or_len (λ (w : Var). bytes_eq w.name name) vars) (length vars)) _ none) in
     let within : i < length vars = slice_get_within vars i x there in
     let fails : bytes_eq (get_or vars i x).name name ≡ false = fails_before_first (λ (w : Var). bytes_eq w.name name) vars i x (omega (arith, past, within)) in
     let at : get_or vars i x ≡ x = get_or_from_slice_get vars i x x there in

@@ -2,7 +2,6 @@
 use Rattle.std.proofs.Common.{◌≡◌, ◌⊎◌, inl, inr, ℕ, ◌+◌, ◌-◌, ◌^◌, ◌≤◌, min, List, [], ◌∷◌, ◌++◌, length, take, get_or, Bool, true, false, cond, refl, sym, ap, subst, ◌∙◌, arith, append_assoc, length-append, ◌&&◌}
 use Rattle.std.specs.Prelude.{Option, Some, None, Result, Ok, Err, if◌then◌else◌, is_some, is_none, not, codes, ◌≢◌, bytes_eq}
 use Rattle.std.proofs.lemmas.Bool.{ltb-false, or_cases}
-use Rattle.std.proofs.lemmas.Bool.Decides.{nat_tests}
 use Rattle.std.proofs.lemmas.List.{append-nil}
 use Rattle.std.proofs.lemmas.Slice.Eq.{bytes_eq-Decides}
 use Rattle.std.proofs.Math.Seq.{take-append_seam, get_or-append_seam}
@@ -10,6 +9,7 @@ use Rattle.life_base.specs.Text.{is_empty, is_too_long, numbered_from}
 use Rattle.life_base.specs.declared.kind.Kind.{Kind}
 use Rattle.life_base.specs.declared.kind.Kind.TheVariants.{LineTooLong, NoRuleLine, NoTable, BadDescriptor, UnsupportedSymmetry, UnboundOutput, NotQuiet}
 use Rattle.life_base.proofs.Refusals.{UnbrokenBelow}
+use Rattle.life_base.proofs.Texts.{empty_is, not_too_long}
 use Rattle.life_table.specs.Grammar.{IsFile, GrammarsAgree, Lead, LineSays, TextSays, AreGiven, states, neighborhood, symmetry, variable, transition, passed, rule_line, other, table_line, blank, says, section_line, behind}
 use Rattle.life_table.specs.Reading.{AreTable, IsTableFile, Describes, broken, missing, lacking, is_ahead, is_described, parsed_by, number_behind, parse_line, parse_in_section, parse_ahead, parse_descriptor, parse_rest, parse_settled, if_named, if_states, if_neighborhood, if_symmetry, if_variable, if_transition, name_on, is_passed_over, is_table_line, is_section_line, is_descriptor, content, key_of, setting_of, is_states_key, is_neighborhood_key, is_symmetry_key, states_named, neighborhood_named, symmetry_named, agree, is_variable_line, variable_of, transition_of, is_bound}
 use Rattle.life_table.specs.Valid.{neighbour_count, is_quiet}
@@ -27,10 +27,6 @@ use Rattle.life_table.proofs.LineForms.{take_then, take_else, states_are, states
 use Rattle.life_table.proofs.FileLines.{parsed_start}
 
 -- ---- small facts
-
-is_nothing : (text : List ℕ) → is_empty text ≡ true → text ≡ []
-is_nothing [] h = refl
-is_nothing (b ∷ text) h = cc
 
 is_something : (text : List ℕ) → is_empty text ≡ false → text ≢ []
 is_something text h e = let z : is_empty text ≡ true = ap is_empty e in cc
@@ -95,7 +91,7 @@ module _ (parsed : Parsed) (number : ℕ) (line : List ℕ) (directive : Directi
   line_is (cases.opens s name o e t) = table_line name s o e t
   line_is (cases.ends s e d t) = let g = all_given parsed parsed.n_states parsed.neighborhood parsed.symmetry refl refl refl d in
       section_line g.0 g.1 g.2 s e g.3 t
-  line_is (cases.silent s e c t) = blank s e (is_nothing (content line) c) t
+  line_is (cases.silent s e c t) = blank s e (empty_is (content line) c) t
   line_is (cases.says s e c f) = says s e (is_something (content line) c) (text_is parsed number (content line) directive f)
   line_is (cases.behind s t) = behind s t
 
@@ -211,12 +207,9 @@ module _ (parsed : Parsed) (number : ℕ) (line : List ℕ) where
       (is_given parsed n h y g) ∙ ap Ok (sym t)
   in_section directive (behind s t) = at_section Behind s ∙ ap Ok (sym t)
 
-  fits : length line ≤ 2 ^ 20 → is_too_long line ≡ false
-  fits h = grind (arith, nat_tests)
-
   line_tells : (directive : Directive) → length line ≤ 2 ^ 20 → LineSays parsed number line directive → parse_line parsed number line ≡ Ok directive
   unfolding parse_line
-  line_tells directive h f = take_else (is_too_long line) (Err LineTooLong) (parse_in_section parsed.section parsed number line) (fits h)
+  line_tells directive h f = take_else (is_too_long line) (Err LineTooLong) (parse_in_section parsed.section parsed number line) (not_too_long line h)
       ∙ in_section directive f
 
   short_line : (directive : Directive) → parse_line parsed number line ≡ Ok directive → length line ≤ 2 ^ 20

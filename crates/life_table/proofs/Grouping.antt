@@ -18,6 +18,7 @@ use Rattle.life_table.specs.declared.table.Var.{Var}
 use Rattle.life_table.specs.declared.table.Entry.{Entry}
 use Rattle.life_table.specs.declared.table.Entry.TheVariants as entries
 use Rattle.life_table.specs.declared.groups.Group.{Group}
+use Rattle.life_base.proofs.Basics.{true_false}
 
 -- the inputs of one group
 abbrev pub of_group : (ℕ → ℕ) → ℕ → Group → ℕ
@@ -100,9 +101,6 @@ first_add number (g ∷ groups) h = by (nat_eq number g.variable)
 push_any : (v : ℕ) (es : List Entry) (e : Entry) → list_any (is_variable v) (es ++ e ∷ []) ≡ (list_any (is_variable v) es || (is_variable v e || false))
 push_any v es e = list_any-append (is_variable v) es (e ∷ [])
 
-pub is_clash : (b : Bool) → b ≡ true → b ≡ false → ⊥
-is_clash b h k = let e : true ≡ false = sym h ∙ k in let z : ⊥ = cc in z
-
 module _ (first output : Entry) (es : List Entry) (groups : List Group) (h : IsGrouped first output es groups) where
   -- one more open input
   pub grouped_add : (i : ℕ) → is_variable i first ≡ false → IsGrouped first output (es ++ entries.Var i ∷ []) (add_to i groups)
@@ -129,7 +127,7 @@ module _ (first output : Entry) (es : List Entry) (groups : List Group) (h : IsG
         (λ g. IsTrue (list_any (is_variable g.variable) (es ++ entries.Var i ∷ [])) → 0 < g.times) i groups h.distinct h.some
         (λ g p o s. elim (or_cases (list_any (is_variable g.variable) es) (nat_eq g.variable i || false) (sym (push_any g.variable es (entries.Var i)) ∙ s)) [
           | inl old ↦ p old
-          | inr new ↦ absurd (is_clash (nat_eq g.variable i || false) new
+          | inr new ↦ absurd (true_false (nat_eq g.variable i || false) new
               (or_from (nat_eq g.variable i) false (ne_eqb g.variable i (λ e. eqb-false i g.variable o (sym e))) refl))
         ])
         (λ g p o s. omega arith)
@@ -154,7 +152,7 @@ module _ (first output : Entry) (es : List Entry) (groups : List Group) (h : IsG
     some = λ k d below s. elim (or_cases (list_any (is_variable (get_or groups k d).variable) es) (is_variable (get_or groups k d).variable e || false)
         (sym (push_any (get_or groups k d).variable es e) ∙ s)) [
           | inl old ↦ h.some k d below old
-          | inr new ↦ absurd (is_clash (is_variable (get_or groups k d).variable e || false) new
+          | inr new ↦ absurd (true_false (is_variable (get_or groups k d).variable e || false) new
               (or_from (is_variable (get_or groups k d).variable e) false (other (get_or groups k d).variable (h.unsettled k d below)) refl))
         ];
     output_first = h.output_first;
@@ -166,7 +164,7 @@ fixed_skip first s v h = refl
 
 pub centre_skip : (first : Entry) (i : ℕ) → is_variable i first ≡ true → (v : ℕ) → is_variable v first ≡ false → is_variable v (entries.Var i) ≡ false
 centre_skip first i h v open_v = elim (eqb_tells v i) [
-  | inl same ↦ absurd (is_clash (is_variable v first) (ap (λ j. is_variable j first) same.1 ∙ h) open_v)
+  | inl same ↦ absurd (true_false (is_variable v first) (ap (λ j. is_variable j first) same.1 ∙ h) open_v)
   | inr other ↦ other.0
 ]
 
@@ -230,7 +228,7 @@ are_groups vars first output es groups entries_are bound h = record {
     | inl s ↦ s
     | inr s ↦ elim (or_cases (is_variable (get_or groups k d).variable first) (list_any (is_variable (get_or groups k d).variable) es)
         (bound (get_or groups k d).variable s)) [
-          | inl at_first ↦ absurd (is_clash (is_variable (get_or groups k d).variable first) at_first (h.unsettled k d below))
+          | inl at_first ↦ absurd (true_false (is_variable (get_or groups k d).variable first) at_first (h.unsettled k d below))
           | inr later ↦ later
         ]
   ]

@@ -7,7 +7,7 @@ use Rattle.life_table.specs.Orders.{turn, turns, reflected_turn, reflected_turns
 use Rattle.life_table.specs.Meaning.{Gives, GivesAs, GivesByCounts}
 use Rattle.life_table.specs.Found.{Tells, SomeGives}
 use Rattle.life_table.specs.Valid.{neighbour_count}
-use Rattle.life_table.proofs.Members.{in_map, from_map}
+use Rattle.life_base.proofs.Members.{from_map}
 use Rattle.life_table.proofs.Adding.{directives_same}
 use Rattle.life_table.proofs.LawProofs.{permute_law}
 use Rattle.life_table.specs.declared.found.Found.{Found}
@@ -17,6 +17,7 @@ use Rattle.life_table.specs.declared.table.Symmetry.{Symmetry}
 use Rattle.life_table.specs.declared.table.Symmetry.TheVariants.{Identity, ReflectHorizontal, Permute}
 use Rattle.life_table.specs.declared.table.Var.{Var}
 use Rattle.life_table.specs.declared.table.Transition.{Transition}
+use Rattle.life_base.proofs.Basics.{contains-map}
 
 pub four_or_eight : (n : Neighborhood) → (4 ≤ neighbour_count n) × (neighbour_count n ≤ 8)
 four_or_eight VonNeumann = (omega arith, omega arith)
@@ -57,7 +58,7 @@ tells_images symmetry vars line centre others list found are h =
     record { image = u.0; is_image = u.1; gives = subst (λ w. GivesAs vars line w s) (sym u.2) g.gives })
     (λ s g. record {
       image = centre ∷ g.image;
-      is_image = subst (λ ws. Contains ws (centre ∷ g.image)) (sym are) (in_map (λ w. centre ∷ w) (images symmetry others) g.image g.is_image);
+      is_image = subst (λ ws. Contains ws (centre ∷ g.image)) (sym are) (contains-map (λ w. centre ∷ w) (images symmetry others) g.image g.is_image);
       gives = g.gives;
     })
     found h

@@ -19,6 +19,7 @@ use Rattle.life_table.specs.declared.table.Var.{Var}
 use Rattle.life_table.proofs.Cases.{then_part, else_part, not_some}
 use Rattle.life_table.proofs.Texts.{mapped, followed, split_some}
 use Rattle.life_table.proofs.Values.{tested, tested_not, below_limit}
+use Rattle.life_base.proofs.Basics.{slice_get-last}
 
 -- ---- tests that were taken
 
@@ -162,10 +163,6 @@ words_parsed n vars (word ∷ words) es h =
     let s = split_some (entry_of n vars word) (map (entry_of n vars) words) es h in
     subst (AllZip (Writes n vars) (word ∷ words)) (sym s.4) (s.2, words_parsed n vars words s.1 s.3)
 
-pub last_at : {X : Type 0} (xs : List X) (x : X) → slice_get (xs ++ x ∷ []) (length xs) ≡ Some x
-last_at [] x = refl
-last_at (y ∷ xs) x = last_at xs x
-
 last_of : {X : Type 0} (m : ℕ) (xs : List X) (x : X) → length xs ≡ suc m → slice_get xs m ≡ Some x → take m xs ++ x ∷ [] ≡ xs
 last_of m [] x l g = absurd (omega (arith, l))
 last_of {X = X} zero (y ∷ []) x l g = let same : y ≡ x = cc in ap (λ (z : X). z ∷ []) (sym same)
@@ -184,7 +181,7 @@ module _ (n k : ℕ) (vars : List Var) (number : ℕ) (text : List ℕ) (line : 
   transition_is t =
       let long : length whole ≡ k + 2 = omega (arith, length-append line.inputs (line.output ∷ []), t.count) in
       let front : take (k + 1) whole ≡ line.inputs = ap (λ (m : ℕ). take m whole) (sym t.count) ∙ take-append_seam line.inputs (line.output ∷ []) in
-      let last : slice_get whole (k + 1) ≡ Some line.output = ap (slice_get whole) (sym t.count) ∙ last_at line.inputs line.output in
+      let last : slice_get whole (k + 1) ≡ Some line.output = ap (slice_get whole) (sym t.count) ∙ slice_get-last line.inputs line.output in
       let made : Entry → Transition = new_line number (take (k + 1) whole) in
       ap (option_and_then (transition_from k number)) (words_are n vars (transition_words text) whole t.words)
       ∙ take_then (length whole == k + 2) (option_map made (slice_get whole (k + 1))) None (eq-eqb (length whole) (k + 2) long)

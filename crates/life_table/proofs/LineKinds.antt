@@ -1,5 +1,5 @@
 -- The kinds with which the file of a rule table is refused.
-use Rattle.std.proofs.Common.{◌≡◌, ◌⊎◌, inl, inr, ℕ, ◌-◌, ◌<◌, ◌≤◌, List, length, take, Bool, true, false, cond, refl, sym, ap, ◌∙◌, arith}
+use Rattle.std.proofs.Common.{◌≡◌, inl, inr, ℕ, ◌-◌, List, length, take, Bool, true, false, cond, refl, sym, ap, ◌∙◌}
 use Rattle.std.specs.Prelude.{Option, Some, None, Result, Ok, Err, is_some, is_none, not, ◌++◌, ◌∷◌, []}
 use Rattle.std.specs.List.{slice_index_or}
 use Rattle.life_base.specs.Text.{is_empty, is_too_long, numbered_from}
@@ -8,6 +8,7 @@ use Rattle.life_base.specs.declared.kind.Kind.{Kind}
 use Rattle.life_base.specs.declared.kind.Kind.TheVariants as kinds
 use Rattle.life_base.proofs.LineKinds.{names_line as kinds_name_lines}
 use Rattle.life_base.proofs.RuleKinds.{errs_by, errs_by_cases}
+use Rattle.life_base.proofs.Basics.{le_or_lt}
 use Rattle.life_table.specs.Valid.{neighbour_count, is_quiet}
 use Rattle.life_table.specs.Laws.{LinesBreakByKinds, RefusalsHaveKinds}
 use Rattle.life_table.specs.Reading.{is_table_kind, broken, missing, lacking, is_ahead, is_described, parsed_by, number_behind, fault_in, parse_line, parse_in_section, parse_in_table, parse_rest, parse_settled, parse_ahead, parse_descriptor, if_named, if_states, if_neighborhood, if_symmetry, if_variable, if_transition, name_on, is_passed_over, is_table_line, is_section_line, is_descriptor, content, key_of, setting_of, is_states_key, is_neighborhood_key, is_symmetry_key, states_named, neighborhood_named, symmetry_named, agree, is_variable_line, variable_of, transition_of, is_bound}
@@ -146,11 +147,8 @@ missing_kind : (lines : List (List ℕ)) (kind : Kind) → missing lines ≡ Som
 unfolding missing
 missing_kind lines kind e = lacking_kind (parsed_by (numbered_from 1 lines)) kind e
 
-within_or_not : (m n : ℕ) → (n ≤ m) ⊎ (m < n)
-within_or_not m n = grind arith
-
 pub refusals_have_kinds : RefusalsHaveKinds
-refusals_have_kinds lines fault r = elim (within_or_not (length lines) r.n) [
+refusals_have_kinds lines fault r = elim (le_or_lt r.n (length lines)) [
   | inl within ↦ lines_break_by_kinds (take (r.n - 1) lines) (slice_index_or lines (r.n - 1) []) fault.kind (r.at_line within)
   | inr beyond ↦ missing_kind lines fault.kind (r.at_end beyond)
 ]

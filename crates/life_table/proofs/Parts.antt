@@ -6,6 +6,7 @@ use Rattle.std.proofs.lemmas.List.Sums.{position_or_len_is}
 use Rattle.std.proofs.lemmas.List.Splits.{slice_split_first}
 use Rattle.std.proofs.lemmas.Bool.{ltb-false}
 use Rattle.std.specs.List.{position_or_len, slice_split, onto_first}
+use Rattle.life_base.proofs.Basics.{false_from_none}
 
 -- the first separator is at i
 pub parts_at : (p : ℕ → Bool) (text : List ℕ) (i : ℕ) → position p text ≡ Some i → slice_split p text ≡ take i text ∷ slice_split p (drop (i + 1) text)
@@ -31,10 +32,6 @@ last_part : (p : ℕ → Bool) (text : List ℕ) → length text ≤ position_or
 last_part p [] h = refl
 last_part p (b ∷ text) h = last_step p (p b) b text refl (last_part p text) h
 
-pub is_false : (v : Bool) (i : ℕ) → cond v (Some i) None ≡ None → v ≡ false
-is_false true i h = cc
-is_false false i h = refl
-
 -- there is no separator
 pub parts_without : (p : ℕ → Bool) (text : List ℕ) → position p text ≡ None → slice_split p text ≡ text ∷ []
-parts_without p text h = last_part p text (ltb-false _ _ (is_false (ltb (position_or_len p text) (length text)) _ h))
+parts_without p text h = last_part p text (ltb-false _ _ (false_from_none (ltb (position_or_len p text) (length text)) _ h))

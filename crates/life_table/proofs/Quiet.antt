@@ -13,7 +13,7 @@ use Rattle.life_table.specs.Orders.{images, orders, insertions}
 use Rattle.life_table.specs.Meaning.{IsChoice, HasState, has_state, state_of, Gives, GivesNothing}
 use Rattle.life_table.specs.Valid.{IsVariable, IsEntry, IsTransition, allows_zero, fits_zero, is_quiet_output, is_quiet, neighbour_count, is_variable}
 use Rattle.life_table.specs.Laws.{ZeroStaysZero}
-use Rattle.life_table.proofs.Members.{in_one, in_none, in_cases, from_map, from_flat_map}
+use Rattle.life_base.proofs.Members.{in_one, in_none, in_cases, from_map, from_flat_map}
 use Rattle.life_table.proofs.Counts.{order_by_counts}
 use Rattle.life_table.proofs.Choosing.{some_state, with_first, is_first}
 use Rattle.life_table.specs.declared.table.Neighborhood.{Neighborhood}

@@ -35,7 +35,7 @@ pub record TextsStand (ts : List Numbered) : Type 0 where
 alone : (is_key : List ℕ → Bool) (own key : List ℕ) → is_key own ≡ false → bytes_eq key own ≡ true → is_key key ≡ false
 alone is_key own key other e = subst (λ (w : List ℕ). is_key w ≡ false) (sym ((bytes_eq-Decides key own).0 e)) other
 
-neighbors_alone : (key : List ℕ) → is_neighborhood_key key ≡ true → is_symmetry_key key ≡ false
+pub neighbors_alone : (key : List ℕ) → is_neighborhood_key key ≡ true → is_symmetry_key key ≡ false
 neighbors_alone key e = elim (or_cases (bytes_eq key (codes "neighborhood")) (bytes_eq key (codes "neighbourhood")) e) [
   | inl a ↦ alone is_symmetry_key (codes "neighborhood") key refl a
   | inr b ↦ alone is_symmetry_key (codes "neighbourhood") key refl b

@@ -1,5 +1,5 @@
 -- Under `permute` a line gives what it gives by counts.
-use Rattle.std.proofs.Common.{◌≡◌, ℕ, zero, suc, ◌<◌, List, [], ◌∷◌, length, map, take, drop, true, ◌||◌, refl, ap, ◌∙◌, sym, subst, inl, inr, ◌⊎◌, ◌↔◌, eq-eqb}
+use Rattle.std.proofs.Common.{◌≡◌, ℕ, zero, suc, ◌<◌, List, [], ◌∷◌, length, map, take, drop, true, ◌||◌, refl, ap, ◌∙◌, sym, subst, inl, inr, ◌↔◌, eq-eqb}
 use Rattle.std.specs.Prelude.{Option, Contains, count_by, codes, ◌==◌}
 use Rattle.std.specs.List.{list_any}
 use Rattle.std.specs.Option.{unwrap_or}
@@ -8,7 +8,7 @@ use Rattle.std.proofs.lemmas.List.Elements.{All-contains}
 use Rattle.std.proofs.lemmas.Bool.{or_left, or_right}
 use Rattle.std.proofs.lemmas.Option.{same_Some}
 use Rattle.life_table.proofs.LawProofs.{permute_law}
-use Rattle.life_table.proofs.Members.{in_head, in_tail, in_cases, in_none}
+use Rattle.life_base.proofs.Members.{in_head, in_tail, in_cases, in_none, from_map}
 use Rattle.life_table.specs.Grammar.{symmetry_word}
 use Rattle.life_table.specs.Meaning.{Gives, count_of}
 use Rattle.life_table.specs.Meaning.{GivesByCounts as LayerByCounts, state_of as layer_state_of}
@@ -24,10 +24,11 @@ use Rattle.claims.specs.Table.{variable, Transition, Table, states_of, gives}
 use Rattle.table_laws.specs.ByCounts.{state_for, GivesByCounts, PermuteByCounts}
 use Rattle.table_laws.specs.Tables.{entry_in, transition_in, IsTable}
 use Rattle.table_laws.proofs.Decided.{gave, gets}
-use Rattle.table_laws.proofs.Given.{turned_about, has_state_of, is_state_of}
+use Rattle.table_laws.proofs.Given.{has_state_of, is_state_of}
 use Rattle.table_laws.proofs.Read.{tables_read}
 use Rattle.table_laws.proofs.Text.{word_listed}
 use Rattle.table_laws.proofs.Words.{length_is}
+use Rattle.life_base.proofs.Basics.{equal_swapped}
 
 -- ---- lists
 
@@ -44,15 +45,6 @@ in_any s (x ∷ xs) h = elim (eqb_tells x s) [
   | inl e ↦ subst (Contains (x ∷ xs)) e.1 (in_head x xs)
   | inr n ↦ in_tail x xs s (in_any s xs (ap (λ v. v || list_any (λ t. t == s) xs) (sym n.0) ∙ h))
 ]
-
-module _ {X Y : Type 0} (f : X → Y) where
-  from_map : (xs : List X) (y : Y) → Contains (map f xs) y → (x : X) × Contains xs x × (f x ≡ y)
-  from_map [] y c = absurd (in_none y c)
-  from_map (x ∷ xs) y c = by (in_cases (f x) (map f xs) y c) (from_map xs y)
-    where
-      by : (f x ≡ y) ⊎ Contains (map f xs) y → (Contains (map f xs) y → (z : X) × Contains xs z × (f z ≡ y)) → (z : X) × Contains (x ∷ xs) z × (f z ≡ y)
-      by (inl e) below = (x, in_head x xs, e)
-      by (inr d) below = let r = below d in (r.0, in_tail x xs r.0 r.1, r.2)
 
 -- ---- choices, entries and counts
 
@@ -76,7 +68,7 @@ drop_map (suc n) [] = refl
 drop_map (suc n) (e ∷ es) = drop_map n es
 
 count_is : (t : ℕ) (xs : List ℕ) → count_by (λ s. s == t) xs ≡ count_of t xs
-count_is t xs = λ i. count_by (λ s. turned_about s t i) xs
+count_is t xs = λ i. count_by (λ s. equal_swapped s t i) xs
 
 permutes : (y : Symmetry) → symmetry_word y ≡ codes "permute" → y ≡ Permute
 permutes y e = same_Some y Permute (sym (word_listed y).1 ∙ ap symmetry_named e)

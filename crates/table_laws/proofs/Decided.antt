@@ -6,9 +6,9 @@ use Rattle.std.specs.Option.{option_map_or, unwrap_or}
 use Rattle.std.proofs.lemmas.Bool.Decides.{eqb_tells}
 use Rattle.std.proofs.lemmas.List.Elements.{All-nil, All-cons, All-head, All-tail, All-contains}
 use Rattle.std.proofs.lemmas.Bool.{or_left, cases_Bool}
-use Rattle.life_base.proofs.Numbers.{first, second}
+use Rattle.life_base.proofs.Basics.{right_of_and, left_of_and}
 use Rattle.life_table.proofs.LawProofs.{one_law}
-use Rattle.life_table.proofs.Members.{in_head, in_tail, in_cases, in_none}
+use Rattle.life_base.proofs.Members.{in_head, in_tail, in_cases, in_none}
 use Rattle.life_table.specs.Meaning.{has_state, HasState, IsChoice, Gives, GivesNothing, LineAnswers, Decides}
 use Rattle.life_table.specs.Meaning.{Answer as LayerAnswer, Becomes, Ambiguous}
 use Rattle.life_table.specs.Orders.{images as layer_images}
@@ -54,8 +54,8 @@ module _ {X : Type 0} (f : X → Option ℕ) where
 all_same : (s : ℕ) (xs : List ℕ) → list_all (λ t. t == s) xs ≡ true → (t : ℕ) → Contains xs t → t ≡ s
 all_same s [] h t c = absurd (in_none t c)
 all_same s (x ∷ xs) h t c = elim (in_cases x xs t c) [
-  | inl e ↦ sym e ∙ eqb-true x s (first (x == s) _ h)
-  | inr d ↦ all_same s xs (second (x == s) _ h) t d
+  | inl e ↦ sym e ∙ eqb-true x s (left_of_and (x == s) _ h)
+  | inr d ↦ all_same s xs (right_of_and (x == s) _ h) t d
 ]
 
 another : (s : ℕ) (xs : List ℕ) → list_all (λ t. t == s) xs ≡ false → (t : ℕ) × Contains xs t × (s ≢ t)

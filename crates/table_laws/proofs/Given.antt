@@ -3,11 +3,11 @@ use Rattle.std.proofs.Common.{◌≡◌, ℕ, zero, suc, ◌<◌, List, [], ◌�
 use Rattle.std.specs.Prelude.{Option, Some, None, IfSome, IsTrue, All, slice_get, ◌==◌, zip}
 use Rattle.std.specs.List.{list_all, list_any}
 use Rattle.std.specs.Option.{option_map_or}
-use Rattle.std.proofs.lemmas.Bool.Decides.{eqb_tells, nat_tests}
+use Rattle.std.proofs.lemmas.Bool.Decides.{eqb_tells}
 use Rattle.std.proofs.lemmas.List.Elements.{All-head, All-tail}
 use Rattle.std.proofs.lemmas.Bool.{or_left, or_right, and_from, cases_Bool}
 use Rattle.std.proofs.lemmas.Option.{same_Some}
-use Rattle.life_base.proofs.Numbers.{first, second}
+use Rattle.life_base.proofs.Basics.{right_of_and, left_of_and, equal_swapped}
 use Rattle.life_table.specs.Meaning.{has_state, HasState, IsChoice, state_of, GivesAs}
 use Rattle.life_table.specs.Valid.{is_variable, IsEntry}
 use Rattle.life_table.specs.declared.table.Var.{Var}
@@ -18,9 +18,6 @@ use Rattle.claims.specs.Table.{Variable, variable, states_of, taken, allows, giv
 use Rattle.table_laws.specs.Tables.{entry_in, transition_in, AreVariables}
 
 -- ---- tests
-
-pub turned_about : (a b : ℕ) → (a == b) ≡ (b == a)
-turned_about a b = grind (arith, nat_tests)
 
 pub or_rest : (a b : Bool) → a ≡ false → (a || b) ≡ true → b ≡ true
 or_rest true b e h = cc
@@ -56,12 +53,12 @@ module _ (vars : List Var) (variables : List Variable) (same : AreVariables vars
   all_values value choice [] (s ∷ ss) l a h = absurd (omega (arith, l))
   all_values value choice (e ∷ es) [] l a h = absurd (omega (arith, l))
   all_values value choice (entries.Fixed f ∷ es) (s ∷ ss) l a h =
-      let head : f ≡ s = eqb-true f s (first _ _ a) in
-      let tail : map (state_of choice) es ≡ ss = all_values value choice es ss (omega (arith, l)) (second _ _ a) h in
+      let head : f ≡ s = eqb-true f s (left_of_and _ _ a) in
+      let tail : map (state_of choice) es ≡ ss = all_values value choice es ss (omega (arith, l)) (right_of_and _ _ a) h in
       ap (λ (n : ℕ). n ∷ map (state_of choice) es) head ∙ ap (λ (t : List ℕ). s ∷ t) tail
   all_values value choice (entries.Var j ∷ es) (s ∷ ss) l a h =
-      let head : choice j ≡ s = h j (or_left (eqb j j) _ (eq-eqb j j refl)) ∙ eqb-true (value j) s (first _ _ (first _ _ a)) in
-      let tail : map (state_of choice) es ≡ ss = all_values value choice es ss (omega (arith, l)) (second _ _ a) (λ i m. h i (or_right (eqb i j) _ m)) in
+      let head : choice j ≡ s = h j (or_left (eqb j j) _ (eq-eqb j j refl)) ∙ eqb-true (value j) s (left_of_and _ _ (left_of_and _ _ a)) in
+      let tail : map (state_of choice) es ≡ ss = all_values value choice es ss (omega (arith, l)) (right_of_and _ _ a) (λ i m. h i (or_right (eqb i j) _ m)) in
       ap (λ (n : ℕ). n ∷ map (state_of choice) es) head ∙ ap (λ (t : List ℕ). s ∷ t) tail
 
   -- the state that an input takes is one of its variable's
@@ -70,13 +67,13 @@ module _ (vars : List Var) (variables : List Variable) (same : AreVariables vars
       → list_any (λ t. t == value i) (states_of variables (variable i)) ≡ true
   has_taken value i [] ss l a m = cc
   has_taken value i (e ∷ es) [] l a m = absurd (omega (arith, l))
-  has_taken value i (entries.Fixed f ∷ es) (s ∷ ss) l a m = has_taken value i es ss (omega (arith, l)) (second _ _ a) m
+  has_taken value i (entries.Fixed f ∷ es) (s ∷ ss) l a m = has_taken value i es ss (omega (arith, l)) (right_of_and _ _ a) m
   has_taken value i (entries.Var j ∷ es) (s ∷ ss) l a m = elim (eqb_tells i j) [
     | inl e ↦
-        let at : value j ≡ s = eqb-true (value j) s (first _ _ (first _ _ a)) in
+        let at : value j ≡ s = eqb-true (value j) s (left_of_and _ _ (left_of_and _ _ a)) in
         subst (λ n. list_any (λ t. t == value n) (states_of variables (variable n)) ≡ true) (sym e.1)
-        (subst (λ n. list_any (λ t. t == n) (states_of variables (variable j)) ≡ true) (sym at) (second _ _ (first _ _ a)))
-    | inr n ↦ has_taken value i es ss (omega (arith, l)) (second _ _ a) (or_rest (eqb i j) _ n.0 m)
+        (subst (λ n. list_any (λ t. t == n) (states_of variables (variable j)) ≡ true) (sym at) (right_of_and _ _ (left_of_and _ _ a)))
+    | inr n ↦ has_taken value i es ss (omega (arith, l)) (right_of_and _ _ a) (or_rest (eqb i j) _ n.0 m)
   ]
 
   module _ (base : ℕ → ℕ) (is_base : IsChoice vars base) (es : List LayerEntry) (ss : List ℕ) (l : length es ≡ length ss)
@@ -149,7 +146,7 @@ module _ (vars : List Var) (variables : List Variable) (same : AreVariables vars
   taken_is choice i (entries.Var j ∷ es) m = elim (eqb_tells j i) [
     | inl e ↦ ap (λ v. cond v (choice j) (taken (map entry_in es) (map (state_of choice) es) i)) e.0 ∙ ap choice e.1
     | inr n ↦ ap (λ v. cond v (choice j) (taken (map entry_in es) (map (state_of choice) es) i)) n.0
-        ∙ taken_is choice i es (or_rest (eqb i j) _ (turned_about i j ∙ n.0) m)
+        ∙ taken_is choice i es (or_rest (eqb i j) _ (equal_swapped i j ∙ n.0) m)
   ]
 
   all_allowed : (n : ℕ) (value choice : ℕ → ℕ) → IsChoice vars choice → (es : List LayerEntry) → All (IsEntry n vars) es

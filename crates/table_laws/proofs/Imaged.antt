@@ -4,7 +4,7 @@ use Rattle.std.specs.Prelude.{IsTrue, Contains, flat_map, slice_index, slice_ind
 use Rattle.std.specs.List.{list_all}
 use Rattle.std.proofs.lemmas.Bool.Decides.{nat_tests}
 use Rattle.std.proofs.lemmas.Bool.{and_from}
-use Rattle.life_base.proofs.Numbers.{first, second}
+use Rattle.life_base.proofs.Basics.{right_of_and, left_of_and}
 use Rattle.life_table.specs.Grammar.{symmetry_word}
 use Rattle.life_table.specs.Orders.{images as layer_images, orders as layer_orders, insertions as layer_insertions}
 use Rattle.life_table.specs.Valid.{is_listed, neighbour_count}
@@ -49,14 +49,14 @@ have_length n vs = list_all (λ v. length v == n) vs
 in_front : (n y : ℕ) (vs : List (List ℕ)) → have_length n vs ≡ true → have_length (suc n) (map (λ v. y ∷ v) vs) ≡ true
 in_front n y [] h = refl
 in_front n y (v ∷ vs) h =
-    and_from (suc (length v) == suc n) _ (one_more (length v) n ∙ first (length v == n) _ h) (in_front n y vs (second (length v == n) _ h))
+    and_from (suc (length v) == suc n) _ (one_more (length v) n ∙ left_of_and (length v == n) _ h) (in_front n y vs (right_of_and (length v == n) _ h))
   where
     one_more : (a b : ℕ) → (suc a == suc b) ≡ (a == b)
     one_more a b = grind (arith, nat_tests)
 
 have_both : (n : ℕ) (vs ws : List (List ℕ)) → have_length n vs ≡ true → have_length n ws ≡ true → have_length n (vs ++ ws) ≡ true
 have_both n [] ws h k = k
-have_both n (v ∷ vs) ws h k = and_from (length v == n) _ (first (length v == n) _ h) (have_both n vs ws (second (length v == n) _ h) k)
+have_both n (v ∷ vs) ws h k = and_from (length v == n) _ (left_of_and (length v == n) _ h) (have_both n vs ws (right_of_and (length v == n) _ h) k)
 
 insertions_have : (x : ℕ) (ys : List ℕ) → have_length (suc (length ys)) (insertions x ys) ≡ true
 insertions_have x [] = refl
@@ -68,8 +68,8 @@ inserted_have : (n x : ℕ) (vs : List (List ℕ)) → have_length n vs ≡ true
 inserted_have n x [] h = refl
 inserted_have n x (v ∷ vs) h =
     have_both (suc n) (insertions x v) (flat_map (insertions x) vs)
-    (subst (λ m. have_length (suc m) (insertions x v) ≡ true) (eqb-true (length v) n (first (length v == n) _ h)) (insertions_have x v))
-    (inserted_have n x vs (second (length v == n) _ h))
+    (subst (λ m. have_length (suc m) (insertions x v) ≡ true) (eqb-true (length v) n (left_of_and (length v == n) _ h)) (insertions_have x v))
+    (inserted_have n x vs (right_of_and (length v == n) _ h))
 
 orders_have : (v : List ℕ) → have_length (length v) (orders v) ≡ true
 orders_have [] = refl
@@ -77,10 +77,10 @@ orders_have (x ∷ xs) = inserted_have (length xs) x (orders xs) (orders_have xs
 
 has_length : (n : ℕ) (vs : List (List ℕ)) → have_length n vs ≡ true → (v : List ℕ) → Contains vs v → length v ≡ n
 has_length n [] h v c = absurd (omega (arith, c.1))
-has_length n (w ∷ vs) h v c = by c.0 c.1 c.2 (has_length n vs (second (length w == n) _ h) v)
+has_length n (w ∷ vs) h v c = by c.0 c.1 c.2 (has_length n vs (right_of_and (length w == n) _ h) v)
   where
     by : (k : ℕ) → k < length (w ∷ vs) → slice_index_or (w ∷ vs) k v ≡ v → (Contains vs v → length v ≡ n) → length v ≡ n
-    by zero l e below = ap length (sym e) ∙ eqb-true (length w) n (first (length w == n) _ h)
+    by zero l e below = ap length (sym e) ∙ eqb-true (length w) n (left_of_and (length w == n) _ h)
     by (suc k) l e below = below (k, omega (arith, l), e)
 
 -- ---- the images

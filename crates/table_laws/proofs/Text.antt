@@ -3,7 +3,6 @@ use Rattle.std.proofs.Common.{◌≡◌, ℕ, List, map, Bool, true, false, cond
 use Rattle.std.specs.Prelude.{Option, Some, None, Result, Ok, Err, is_some, bytes_eq, codes, nat_lt, nat_le, option_map}
 use Rattle.std.specs.List.{list_any}
 use Rattle.std.proofs.lemmas.Bool.Decides.{nat_tests}
-use Rattle.std.proofs.lemmas.Slice.Eq.{bytes_eq-Decides}
 use Rattle.std.proofs.lemmas.Bool.{cases_Bool}
 use Rattle.life_base.specs.Numbers.{result_map}
 use Rattle.life_base.specs.Text.{is_digit_text, value_of}
@@ -21,6 +20,8 @@ use Rattle.life_table.specs.declared.table.Symmetry.TheVariants.{Identity, Rotat
 use Rattle.claims.specs.Table.{Variable, Table, agree, symmetries_of, neighbours_named, with_neighbours, with_descriptor}
 use Rattle.table_laws.specs.Tables.{transition_in, AreVariables}
 use Rattle.table_laws.proofs.Named.{Parsed, Directive}
+use Rattle.life_base.proofs.Texts.{same_bytes}
+use Rattle.life_table.proofs.Saying.{neighbors_alone}
 
 -- ---- what lines of the table say, in both
 
@@ -72,9 +73,6 @@ agree_is None (Some y) = refl
 agree_is (Some h) None = refl
 agree_is (Some h) (Some y) = words_agree h y
 
-equal_texts : (a b : List ℕ) → bytes_eq a b ≡ true → a ≡ b
-equal_texts a b h = (bytes_eq-Decides a b).0 h
-
 pub word_listed : (y : Symmetry) → (list_any (bytes_eq (symmetry_word y)) (symmetries_of 8) ≡ true) × (symmetry_named (symmetry_word y) ≡ Some y)
 word_listed Identity = (refl, refl)
 word_listed Rotate4 = (refl, refl)
@@ -89,7 +87,7 @@ IsNamed word = ((y : Symmetry) × (word ≡ symmetry_word y)) ⊎ ((symmetry_nam
 
 -- a word is this one, or what it is where it is another
 word_or : (y : Symmetry) (word : List ℕ) → (bytes_eq word (symmetry_word y) ≡ false → IsNamed word) → IsNamed word
-word_or y word other = elim (cases_Bool (bytes_eq word (symmetry_word y))) [ inl e ↦ inl (y, equal_texts word (symmetry_word y) e) | inr n ↦ other n ]
+word_or y word other = elim (cases_Bool (bytes_eq word (symmetry_word y))) [ inl e ↦ inl (y, same_bytes word (symmetry_word y) e) | inr n ↦ other n ]
 
 named : (word : List ℕ) → IsNamed word
 named word =
@@ -203,13 +201,7 @@ module _ (parsed : Parsed) (name : List ℕ) (variables : List Variable) (same :
   by_keys false false false g1 g2 g3 a b c x y z o1 o2 f g h = stops kinds.BadDescriptor
 
   states_key_alone : (key : List ℕ) → is_states_key key ≡ true → (is_neighborhood_key key ≡ false) × (is_symmetry_key key ≡ false)
-  states_key_alone key h = let e : key ≡ codes "n_states" = equal_texts key (codes "n_states") h in (ap is_neighborhood_key e, ap is_symmetry_key e)
-
-  neighborhood_key_alone : (key : List ℕ) → is_neighborhood_key key ≡ true → is_symmetry_key key ≡ false
-  neighborhood_key_alone key h = elim (cases_Bool (bytes_eq key (codes "neighborhood"))) [
-    | inl e ↦ ap is_symmetry_key (equal_texts key (codes "neighborhood") e)
-    | inr n ↦ ap is_symmetry_key (equal_texts key (codes "neighbourhood") (ap (λ v. v || bytes_eq key (codes "neighbourhood")) (sym n) ∙ h))
-  ]
+  states_key_alone key h = let e : key ≡ codes "n_states" = same_bytes key (codes "n_states") h in (ap is_neighborhood_key e, ap is_symmetry_key e)
 
   given_neighbours : (o : Option Neighborhood) → is_some (option_map neighbour_count o) ≡ is_some o
   given_neighbours None = refl
@@ -239,4 +231,4 @@ module _ (parsed : Parsed) (name : List ℕ) (variables : List Variable) (same :
       (given_symmetry parsed.symmetry))
       (by_keys (is_states_key key) (is_neighborhood_key key) (is_symmetry_key key) (is_some parsed.n_states) (is_some parsed.neighborhood)
       (is_some parsed.symmetry) _ _ _ x y z
-      (states_key_alone key) (neighborhood_key_alone key) (number_fits value) (neighbours_fit value) (symmetry_fits value))
+      (states_key_alone key) (neighbors_alone key) (number_fits value) (neighbours_fit value) (symmetry_fits value))

@@ -7,7 +7,6 @@ use Rattle.std.proofs.lemmas.List.{map-append}
 use Rattle.std.proofs.lemmas.Bool.{cases_Bool}
 use Rattle.std.proofs.Math.Bool.{or-false}
 use Rattle.std.proofs.Math.Seq.{take-append_seam}
-use Rattle.life_table.proofs.LineForms.{last_at}
 use Rattle.life_base.specs.declared.kind.Kind.{Kind}
 use Rattle.life_base.specs.declared.kind.Kind.TheVariants as kinds
 use Rattle.life_table.specs.Meaning.{has_state}
@@ -24,9 +23,9 @@ use Rattle.life_table.specs.declared.table.Transition.{Transition as LayerTransi
 use Rattle.claims.specs.Table.{Entry, variable, Variable, Transition, Table, entry_of, entries_of, states_of, transition_texts, is_bound, fits_zero, leaves_zero, with_entries, with_transition}
 use Rattle.table_laws.specs.Tables.{entry_in, transition_in, AreVariables}
 use Rattle.table_laws.proofs.Named.{Parsed}
-use Rattle.table_laws.proofs.Given.{turned_about}
 use Rattle.table_laws.proofs.Text.{table_in, goes, stops, FitsAfter, moved}
 use Rattle.table_laws.proofs.Words.{all_more, all_of, entry_is, entries_are}
+use Rattle.life_base.proofs.Basics.{slice_get-last, equal_swapped}
 
 -- ---- tests of a transition
 
@@ -37,7 +36,7 @@ bound_is inputs (entries.Var i) = by inputs
     by : (es : List LayerEntry) → is_bound (map entry_in es) (variable i) ≡ layer_is_bound es (entries.Var i)
     by [] = refl
     by (entries.Fixed s ∷ es) = by es
-    by (entries.Var j ∷ es) = ap (λ v. v || is_bound (map entry_in es) (variable i)) (turned_about j i) ∙ ap (λ v. i == j || v) (by es)
+    by (entries.Var j ∷ es) = ap (λ v. v || is_bound (map entry_in es) (variable i)) (equal_swapped j i) ∙ ap (λ v. i == j || v) (by es)
 
 leaves_is : (output : LayerEntry) → leaves_zero (entry_in output) ≡ not (is_quiet_output output)
 leaves_is (entries.Fixed s) = refl
@@ -140,7 +139,7 @@ all_parts k number front last l =
     ∙ ap (λ m. option_map (λ (output : LayerEntry). record { line = number; inputs = take m (front ++ last ∷ []); output = output })
     (slice_get (front ++ last ∷ []) m)) (sym l)
     ∙ ap (option_map (λ (output : LayerEntry). record { line = number; inputs = take (length front) (front ++ last ∷ []); output = output }))
-    (last_at front last)
+    (slice_get-last front last)
     ∙ ap (λ (es : List LayerEntry). Some (record { line = number; inputs = es; output = last })) (take-append_seam front (last ∷ []))
 
 module _ (parsed : Parsed) (name : List ℕ) (variables : List Variable) (same : AreVariables parsed.vars variables) (good : IsGood parsed)

@@ -21,16 +21,16 @@ use Rattle.claims.specs.Rules.{has}
 use Rattle.claims.specs.Table.{Entry, Variable, Table, entries_of, states_of, is_name, with_variable}
 use Rattle.table_laws.specs.Tables.{entry_in, AreVariables}
 use Rattle.table_laws.proofs.Named.{Parsed}
-use Rattle.table_laws.proofs.Given.{turned_about}
 use Rattle.table_laws.proofs.Sets.{differs, set_of, set_is, states_are}
 use Rattle.table_laws.proofs.Text.{table_in, goes, stops, FitsAfter, moved}
 use Rattle.table_laws.proofs.Words.{all_more, all_of, is_there, length_is, entries_are}
+use Rattle.life_base.proofs.Basics.{equal_swapped}
 
 -- ---- names
 
 any_turned : (b : ℕ) (xs : List ℕ) → list_any (λ c. c == b) xs ≡ list_any (λ c. b == c) xs
 any_turned b [] = refl
-any_turned b (x ∷ xs) = ap (λ v. v || list_any (λ c. c == b) xs) (turned_about x b) ∙ ap (λ v. b == x || v) (any_turned b xs)
+any_turned b (x ∷ xs) = ap (λ v. v || list_any (λ c. c == b) xs) (equal_swapped x b) ∙ ap (λ v. b == x || v) (any_turned b xs)
 
 name_bytes : (word : List ℕ) → list_all (λ b. is_ascii_graphic b && not (has (codes ",={}:#@") b)) word ≡ list_all is_name_byte word
 name_bytes [] = refl

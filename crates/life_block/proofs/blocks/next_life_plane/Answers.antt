@@ -1,5 +1,5 @@
-use Rattle.std.proofs.Common.{Result, Ok, Err, IfOk, sym, ◌∙◌, ap, subst, arith}
-use Rattle.life_base.proofs.Results.{on_err_both}
+use Rattle.std.proofs.Common.{sym, ◌∙◌, ap, subst, arith}
+use Rattle.life_base.proofs.Results.{on_err_both, if_ok_two}
 use Rattle.life_base.specs.Rules.{has_digit}
 use Rattle.life_base.specs.Sets.{OuterTotalistic}
 use Rattle.life_base.specs.Tree.{tree_cell}
@@ -12,10 +12,6 @@ use Rattle.life_block.proofs.RootLemmas.{IsDivided, around-in_middle, corner, pl
 use Rattle.life_block.proofs.blocks.next_life_plane.Given.{Over}
 use Rattle.life_block.proofs.blocks.next_life_plane.Goals as goal
 use Rattle.life_block.proofs.blocks.next_life_plane.Goals.{After-empty-blank}
-
-both : {T E : Type 0} {P Q R : T → Type 0} (r : Result T E) → ((x : T) → P x → Q x → R x) → IfOk r P → IfOk r Q → IfOk r R
-both (Ok x) f p q = f x p q
-both (Err e) f p q = tt
 
 -- the square's quarters, and a blank one of their level
 divided : (g : Over) (c : After-empty-blank g)
@@ -47,7 +43,7 @@ returns-clause-next g c =
     let quiet = ap (λ (d : OuterTotalistic). has_digit d.sets.births 0) (sym c.rule.view_is) ∙ c.rule.invariant.no_birth_on_zero in
     let around = around-in_middle (divided g (goal.at.returns-clause-next g c).After-empty-blank) c.in_middle-around.ensures in
     let whole = c.requires.whole in
-    both c.next_of_middle.result
+    if_ok_two c.next_of_middle.result
     (λ r at piece.
     plane-next c.args.rule.now t (g.S.Squares.content c.next_of_middle.new.squares r) quiet (omega (arith, whole)) (g.met.S.Squares.full _ _ at.known)
     (at.level ∙ sym whole) c.requires.clear

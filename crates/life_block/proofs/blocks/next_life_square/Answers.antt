@@ -1,25 +1,21 @@
-use Rattle.std.proofs.Common.{◌≡◌, inl, inr, ℕ, suc, ◌+◌, ◌-◌, ◌^◌, pos, neg_ℤ, Result, Ok, Err, IfOk, sym, ◌∙◌, ap, subst, arith, add-one}
-use Rattle.std.proofs.lemmas.Result.{IfOk-weaker}
+use Rattle.std.proofs.Common.{◌≡◌, inl, inr, ℕ, suc, ◌+◌, ◌-◌, ◌^◌, pos, neg_ℤ, sym, ◌∙◌, ap, subst, arith, add-one}
+use Rattle.std.proofs.lemmas.Result.{IfOk-weaker, on_err_weaker}
 use Rattle.life_quad.specs.Refused.{SomePart}
 use Rattle.life_sweep.proofs.NeedLemmas.{adds-more}
 use Rattle.life_block.specs.Pieces.{IsPiece}
-use Rattle.life_base.proofs.Results.{on_err_any, on_err_both}
+use Rattle.life_base.proofs.Results.{on_err_any, on_err_both, if_ok_two}
 use Rattle.life_base.specs.Rules.{has_digit}
 use Rattle.life_base.specs.Sets.{OuterTotalistic}
 use Rattle.life_base.specs.Tree.{depth, tree_cell}
 use Rattle.life_quad.proofs.KeepingLemmas.{keeps-then, adds-as}
 use Rattle.life_sweep.specs.Generation.{next_life}
 use Rattle.life_block.specs.Needed.{square_from}
-use Rattle.life_block.proofs.NeedLemmas.{AreParts, depth-square, is-piece, joined-is, parts-of_pieces, own-part, still-needs, on_err_map}
+use Rattle.life_block.proofs.NeedLemmas.{AreParts, depth-square, is-piece, joined-is, parts-of_pieces, own-part, still-needs}
 use Rattle.life_block.proofs.RememberedLemmas.{Remembers-none}
 use Rattle.life_block.proofs.RootLemmas.{IsDivided, IsDivided-kept, quarters-at, outer, root-next, known-north_west, known-north_east, known-south_west, known-south_east, around-north_west, around-north_east, around-south_west, around-south_east, corner-part}
 use Rattle.life_block.proofs.blocks.next_life_square.Given.{Over}
 use Rattle.life_block.proofs.blocks.next_life_square.Goals as goal
 use Rattle.life_block.proofs.blocks.next_life_square.Goals.{After-empty-blank, After-join}
-
-both : {T E : Type 0} {P Q R : T → Type 0} (r : Result T E) → ((x : T) → P x → Q x → R x) → IfOk r P → IfOk r Q → IfOk r R
-both (Ok x) f p q = f x p q
-both (Err e) f p q = tt
 
 pub next_of_least-requires-clause-at : goal.next_of_least-requires-clause-at
 next_of_least-requires-clause-at g c = record { known = c.requires.known; level = sym c.level-level.ensures.level ∙ c.if-level-eq2.true }
@@ -38,7 +34,7 @@ returns-then-level-eq2-clause-next g c =
     let is : depth t ≡ 2 = sym c.level-level.ensures.level ∙ c.if-level-eq2.true in
     let f = next_life c.args.rule.now (tree_cell t) in
     let quiet = ap (λ (d : OuterTotalistic). has_digit d.sets.births 0) (sym c.rule.view_is) ∙ c.rule.invariant.no_birth_on_zero in
-    both c.next_of_least.result
+    if_ok_two c.next_of_least.result
     (λ r at piece.
     let u = g.S.Squares.content c.next_of_least.new.squares r in
     root-next c.args.rule.now t u quiet (omega (arith, is)) (g.met.S.Squares.full _ _ at.known) (at.level ∙ omega (arith, is))
@@ -51,7 +47,7 @@ returns-then-level-eq2-clause-needed g c =
     let is : depth t ≡ 2 = sym c.level-level.ensures.level ∙ c.if-level-eq2.true in
     let P = g.S.Squares.needs_node c.next_of_least.new.squares in
     let f = next_life c.args.rule.now (tree_cell t) in
-    on_err_map c.next_of_least.result
+    on_err_weaker c.next_of_least.result
     (λ needed. subst (λ (k : ℕ). SomePart P (square_from f (suc k) (neg_ℤ (pos (2 ^ k))) (neg_ℤ (pos (2 ^ k))))) (sym is) needed)
     c.next_of_least.ensures.needed
 
@@ -141,7 +137,7 @@ returns-clause-next g c =
     let k = depth t in
     let quiet = ap (λ (d : OuterTotalistic). has_digit d.sets.births 0) (sym c.rule.view_is) ∙ c.rule.invariant.no_birth_on_zero in
     let joined = joined-is (parts g (goal.at.returns-clause-next g c).After-join (divided g (goal.at.returns-clause-next g c).After-empty-blank)) in
-    both c.join.result
+    if_ok_two c.join.result
     (λ r known e.
     let u = g.S.Squares.content c.join.new.self r in
     let is : u ≡ square_from f (suc k) (outer t) (outer t) = e ∙ joined in

@@ -1,9 +1,9 @@
 use Rattle.std.proofs.Common.{◌≡◌, ◌+◌, ◌*◌, ◌∙◌, arith}
 use Rattle.std.specs.Int.{bit_at}
 use Rattle.std.proofs.lemmas.Nat.Bits.{bit_at-lt, bit_at-zero}
-use Rattle.life_block.proofs.CountLemmas.{eight}
 use Rattle.life_lanes.proofs.WordLemmas.{bit-shr}
 use Rattle.life_block.proofs.counts.live_neighbours.Goals as goal
+use Rattle.life_sweep.proofs.LawLemmas.{eight}
 
 pub returns : goal.returns
 returns c i =

@@ -4,13 +4,14 @@ use Rattle.life_base.specs.Tree.{tree_cell}
 use Rattle.life_quad.specs.Cells.{population}
 use Rattle.life_quad.specs.Keeping.{AddsOnly, IsWantFault}
 use Rattle.life_sweep.specs.Refused.{GenerationRefusal, SomeNext}
-use Rattle.life_block.proofs.LawPlaneLemmas.{accepted-by, kind-of-full, of-equals, of-option}
+use Rattle.life_block.proofs.LawPlaneLemmas.{accepted-by, of-equals, of-option}
 use Rattle.life_block.proofs.law_generation.next_law_generation.Goals as goal
+use Rattle.life_sweep.proofs.NeedLemmas.{full-kind}
 
 pub returns-in_err-next-clause-needed : goal.returns-in_err-next-clause-needed
 returns-in_err-next-clause-needed g c =
     let p = err_from_is_err_and c.from_residual-in_err-next.result c.from_residual-in_err-next.ensures.1 in
-    rw (p.1, p.2) (λ e. c.in_err-next.ensures.grows.needed (kind-of-full c.in_err-next.field-0.0 e))
+    rw (p.1, p.2) (λ e. c.in_err-next.ensures.grows.needed (full-kind c.in_err-next.field-0.0 e))
 
 pub returns-in-Some-clause-accepted : goal.returns-in-Some-clause-accepted
 returns-in-Some-clause-accepted g c =

@@ -2,11 +2,12 @@ use Rattle.std.proofs.Common.{◌≡◌, ◌+◌, ◌-◌, ◌^◌, sym, ◌∙�
 use Rattle.life_base.specs.Tree.{depth, tree_cell}
 use Rattle.life_block.specs.Laws.{IsNextAt}
 use Rattle.life_block.specs.Pieces.{ahead}
-use Rattle.life_block.proofs.LawPieceLemmas.{both-ok, if-some, joined-level, joined-pieces, piece-by, RemembersBy-none, square-next}
+use Rattle.life_block.proofs.LawPieceLemmas.{if-some, joined-level, joined-pieces, piece-by, RemembersBy-none, square-next}
 use Rattle.life_block.proofs.RootLemmas.{IsDivided, quarters-at, outer, around-north_west, around-north_east, around-south_west, around-south_east}
 use Rattle.life_block.proofs.law_squares.next_square.Given.{Over}
 use Rattle.life_block.proofs.law_squares.next_square.Goals as goal
 use Rattle.life_block.proofs.law_squares.next_square.Goals.{After-empty-blank}
+use Rattle.life_base.proofs.Results.{if_ok_two}
 
 -- the square's quarters, and a blank one of their level
 divided : (g : Over) (c : After-empty-blank g)
@@ -47,7 +48,7 @@ returns-clause-next g c =
     let fourth = sw.same ∙ third in
     let high = c.requires.high in
     if-some _ c.join.result c.ok.ensures.value
-    (both-ok c.join.result
+    (if_ok_two c.join.result
     (λ r kept is. square-next (g.L.Law.answers law) (g.L.Law.bound law) (g.met.L.Law.positive law) (g.met.L.Law.quiet law) t
     (g.T.Squares.content c.join.new.self r) high (g.met.T.Squares.full _ _ kept)
     (joined-level _ ne.keeps sw.keeps se.keeps nw.at is ∙ ap (λ n. n + 1) (sym d.level))

@@ -1,9 +1,8 @@
 use Rattle.std.proofs.Common.{ℤ, ℕ}
-use Rattle.std.proofs.lemmas.Result.{IfOk-weaker}
+use Rattle.std.proofs.lemmas.Result.{IfOk-weaker, on_err_weaker}
 use Rattle.life_quad.proofs.KeepingLemmas.{adds-as}
 use Rattle.life_block.specs.Bits.{AreBands}
 use Rattle.life_block.specs.Pieces.{IsBinary, AreSixteen, four_of}
-use Rattle.life_block.proofs.NeedLemmas.{on_err_map}
 use Rattle.life_block.proofs.leaf.next_of_leaf.Given.{Over}
 use Rattle.life_block.proofs.leaf.next_of_leaf.Goals as goal
 
@@ -25,7 +24,7 @@ returns-clause-next g c =
 
 pub returns-clause-needed : goal.returns-clause-needed
 returns-clause-needed g c =
-    on_err_map c.next_of_bands.result (λ needed cells x y binary h. needed cells x y (bands g c cells x y binary h)) c.next_of_bands.ensures.needed
+    on_err_weaker c.next_of_bands.result (λ needed cells x y binary h. needed cells x y (bands g c cells x y binary h)) c.next_of_bands.ensures.needed
 
 pub returns-clause-adds : goal.returns-clause-adds
 returns-clause-adds g c = adds-as _ c.next_of_bands.ensures.adds (λ P some cells x y binary h. some cells x y (bands g c cells x y binary h))

@@ -1,11 +1,10 @@
 use Rattle.std.proofs.Common.{◌*◌, ◌/◌, ◌%◌, ◌^◌, pos, neg_ℤ, arith, ℕ, ℤ}
-use Rattle.std.proofs.lemmas.Result.{IfOk-weaker}
+use Rattle.std.proofs.lemmas.Result.{IfOk-weaker, on_err_weaker}
 use Rattle.life_base.specs.Tree.{tree_cell}
 use Rattle.life_quad.proofs.KeepingLemmas.{adds-as}
 use Rattle.life_block.specs.Bits.{AreBands}
 use Rattle.life_block.specs.Pieces.{four_of}
 use Rattle.life_block.proofs.LeastLemmas.{bands-of_least}
-use Rattle.life_block.proofs.NeedLemmas.{on_err_map}
 use Rattle.life_block.proofs.leaf.next_of_least.Given.{Over}
 use Rattle.life_block.proofs.leaf.next_of_least.Goals as goal
 
@@ -27,7 +26,7 @@ returns-clause-next g c =
 
 pub returns-clause-needed : goal.returns-clause-needed
 returns-clause-needed g c =
-    on_err_map c.next_of_bands.result (λ needed. needed (plane g c) (neg_ℤ (pos 4)) (neg_ℤ (pos 4)) (bands g c))
+    on_err_weaker c.next_of_bands.result (λ needed. needed (plane g c) (neg_ℤ (pos 4)) (neg_ℤ (pos 4)) (bands g c))
     c.next_of_bands.ensures.needed
 
 pub returns-clause-adds : goal.returns-clause-adds

@@ -3,8 +3,8 @@ use Rattle.life_base.specs.declared.cell.TheConstants.{MAX_LEVEL}
 use Rattle.life_quad.proofs.KeepingLemmas.{keeps-then, adds-as, adds-then}
 use Rattle.life_canon.proofs.Adding.{file-few}
 use Rattle.life_canon.proofs.CallFacts.{read-stays, same-read, read-equal}
-use Rattle.life_canon.proofs.Stored.{err_again, error-is}
 use Rattle.life_canon.proofs.compare.same.Goals as goal
+use Rattle.life_base.proofs.Results.{error_is, err_again}
 
 pub returns-clause-answer : goal.returns-clause-answer
 returns-clause-answer c =
@@ -23,18 +23,18 @@ returns-clause-accepted c =
 
 pub returns-in_err-a-clause-fault : goal.returns-in_err-a-clause-fault
 returns-in_err-a-clause-fault c =
-    rw (error-is _ c.from_residual.ensures.1) (elim c.in_err-a.ensures.fault [ inl refuses ↦ inl refuses | inr want ↦ inr (inr want) ])
+    rw (error_is _ c.from_residual.ensures.1) (elim c.in_err-a.ensures.fault [ inl refuses ↦ inl refuses | inr want ↦ inr (inr want) ])
 
 pub returns-in_err-b-clause-fault : goal.returns-in_err-b-clause-fault
 returns-in_err-b-clause-fault c =
     let read = c.in_ok-a.ensures.pattern in
-    rw (error-is _ c.from_residual-in_err-b.ensures.1)
+    rw (error_is _ c.from_residual-in_err-b.ensures.1)
     (elim c.in_err-b.ensures.fault [ inl refuses ↦ inr (inl ((read.universe, read.reads), refuses)) | inr want ↦ inr (inr want) ])
 
 pub returns-in_err-a-clause-reads : goal.returns-in_err-a-clause-reads
 returns-in_err-a-clause-reads c =
     let first = c.in_err-a.ensures.reads in
-    rw (error-is _ c.from_residual.ensures.1) (record {
+    rw (error_is _ c.from_residual.ensures.1) (record {
       all = tt;
       needed = λ e. inl (first.needed (err_again e));
       adds = adds-as _ first.adds (λ P s. inl s);
@@ -49,7 +49,7 @@ returns-in_err-b-clause-reads c =
     let second = c.in_err-b.ensures.reads in
     let few = file-few c.args.first.now c.args.store.now c.read.new.store c.len.ensures.distinct (λ t there. (c.len.ensures.only t there).0) first.adds in
     let limit = first.keeps.limit in
-    rw (error-is _ c.from_residual-in_err-b.ensures.1) (record {
+    rw (error_is _ c.from_residual-in_err-b.ensures.1) (record {
       all = tt;
       needed = λ e. inr ((read.universe, read.reads), second.needed (err_again e));
       adds = adds-then _ first.adds second.adds (λ P s. inl s) (λ P s. inr s);

@@ -11,8 +11,8 @@ use Rattle.life_canon.specs.Room.{AddsLines, AddsFile, HoldsFile, HoldsFront, Ho
 use Rattle.life_canon.specs.Store.{IsRead, RefusesIn}
 use Rattle.life_canon.proofs.Adding.{fronts_hold}
 use Rattle.life_canon.proofs.NeedFacts.{whole-needs}
-use Rattle.life_canon.proofs.Stored.{err_again}
 use Rattle.life_canon.proofs.files.read.Goals as goal
+use Rattle.life_base.proofs.Results.{err_again}
 
 pub returns-in_err-feed-clause-fault : goal.returns-in_err-feed-clause-fault
 returns-in_err-feed-clause-fault c =

@@ -3,8 +3,8 @@ use Rattle.std.proofs.lemmas.Result.{err_from_is_err_and}
 use Rattle.life_quad.proofs.KeepingLemmas.{keeps-then}
 use Rattle.life_canon.specs.Running.{by_length, by_want}
 use Rattle.life_canon.proofs.RunFacts.{reading-on, reading-ends, piece-adds, piece-tight, beyond-most, ended-refused, ended-open, ended-lacks, ended-adds, ended-holds, ended-tight, ended-whole, lacks-front, refused-not-full}
-use Rattle.life_canon.proofs.Stored.{err_again}
 use Rattle.life_canon.proofs.runs.read_by_pieces.Goals as goal
+use Rattle.life_base.proofs.Results.{err_again}
 
 pub loop-reader-preserved : goal.loop-reader-preserved
 loop-reader-preserved g c = (

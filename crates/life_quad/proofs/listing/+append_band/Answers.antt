@@ -8,8 +8,8 @@ use Rattle.life_quad.specs.Bands.{InBand, pieces, upper, lower}
 use Rattle.life_quad.proofs.BandLemmas.{InBand-upper, InBand-lower}
 use Rattle.life_quad.proofs.CellListLemmas.{band_least, append_none, halves_side, both_halves, more_in_first, more_in_second}
 use Rattle.life_quad.proofs.PartLemmas.{within_limit}
-use Rattle.life_quad.proofs.RefusedLemmas.{error_is}
 use Rattle.life_quad.proofs.listing.+append_band.Goals as goal
+use Rattle.life_base.proofs.Results.{error_is}
 
 pub returns-then-room-len-clause-many : goal.returns-then-room-len-clause-many
 returns-then-room-len-clause-many g t c = λ same.

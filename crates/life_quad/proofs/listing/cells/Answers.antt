@@ -2,9 +2,9 @@ use Rattle.std.proofs.Common.{◌≡◌, ◌-◌, ◌^◌, pos, neg_ℤ, length,
 use Rattle.std.proofs.lemmas.Int.{ints}
 use Rattle.life_quad.specs.Cells.{IsCellList}
 use Rattle.life_quad.proofs.CellListLemmas.{square_cells, square_length, IsCellList-square, whole_list, whole_in_band, more_in_square}
-use Rattle.life_quad.proofs.RefusedLemmas.{error_is}
 use Rattle.life_quad.proofs.listing.cells.Given.{Over}
 use Rattle.life_quad.proofs.listing.cells.Goals as goal
+use Rattle.life_base.proofs.Results.{error_is}
 
 pub keep-requires-clause-west : goal.keep-requires-clause-west
 keep-requires-clause-west g c = omega (arith, ints, c.least_coordinate-west.ensures.west)

@@ -3,9 +3,9 @@ use Rattle.std.specs.List.{All}
 use Rattle.std.proofs.lemmas.List.{take_all}
 use Rattle.std.proofs.lemmas.List.Elements.{All-nil}
 use Rattle.life_quad.specs.Bands.{IsPlaced, pieces, northern, southern, upper, lower}
-use Rattle.life_quad.proofs.RefusedLemmas.{error_is}
 use Rattle.life_quad.proofs.CellListLemmas.{quarters_more}
 use Rattle.life_quad.proofs.listing.halves.Goals as goal
+use Rattle.life_base.proofs.Results.{error_is}
 
 pub loop-placed-init : goal.loop-placed-init
 loop-placed-init g c =

@@ -11,8 +11,8 @@ use Rattle.life_quad.specs.declared.id.Id.{Id}
 use Rattle.life_quad.specs.declared.listing.Placed.{Placed}
 use Rattle.life_quad.proofs.BandLemmas.{quarters_kept}
 use Rattle.life_quad.proofs.CellListLemmas.{halves_side}
-use Rattle.life_quad.proofs.RefusedLemmas.{error_is}
 use Rattle.life_quad.proofs.listing.split.Goals as goal
+use Rattle.life_base.proofs.Results.{error_is}
 
 -- a refusal that is passed on
 refused : {e : Kind} (north south northern southern : Type 0) (r : Result Unit Kind) → IsErrAnd r (λ f. f ≡ e) → e ≡ Memory

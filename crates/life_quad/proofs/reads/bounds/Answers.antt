@@ -8,9 +8,9 @@ use Rattle.life_quad.specs.Distances.{HasCellAt, IsLeastOf}
 use Rattle.life_quad.specs.declared.distances.Side.TheVariants.{North, South, West, East}
 use Rattle.life_quad.proofs.DistanceLemmas.{nowhere_blank, box_of_distances}
 use Rattle.life_quad.proofs.PlaneLemmas.{least_box}
-use Rattle.life_quad.proofs.RunLemmas.{side}
-use Rattle.life_quad.proofs.RefusedLemmas.{error_is}
 use Rattle.life_quad.proofs.reads.bounds.Goals as goal
+use Rattle.life_base.proofs.Basics.{halves}
+use Rattle.life_base.proofs.Results.{error_is}
 
 -- a refusal that is passed on
 refused : {T : Type 0} {e : Kind} (least : T → Type 0) (r : Result T Kind) → IsErrAnd r (λ f. f ≡ e) → e ≡ Memory → record {
@@ -55,7 +55,7 @@ pub returns-clause-least : goal.returns-clause-least
 returns-clause-least g c =
     let t = g.S.Squares.content c.args.squares.now c.args.id in
     let half : c.half_side-half.result ≡ half_side t = c.half_side-half.ensures.half ∙ ap (λ l. 2 ^ (l - 1)) c.level.ensures.level in
-    let twice : half_side t + half_side t ≡ 2 ^ depth t = side (depth t) c.requires.high in
+    let twice : half_side t + half_side t ≡ 2 ^ depth t = halves (depth t) c.requires.high in
     let east : c.half_side-half.result + c.half_side-half.result - 1 - c.in-Some-3.east ≡ 2 ^ depth t - suc c.in-Some-3.east = omega (arith, half, twice) in
     let south : c.half_side-half.result + c.half_side-half.result - 1 - c.in-Some-4.south ≡ 2 ^ depth t - suc c.in-Some-4.south = omega (arith, half, twice) in
     let box =

@@ -1,6 +1,7 @@
 use Rattle.std.proofs.Common.{Option, sym, ap, ◌∙◌, subst}
 use Rattle.std.proofs.lemmas.Result.{IfOk-weaker}
 use Rattle.life_base.proofs.Squares.{blank_is}
+use Rattle.life_base.proofs.Results.{error_is}
 use Rattle.life_base.specs.Tree.{Tree, blank, depth}
 use Rattle.life_quad.specs.IdMap.{value_of}
 use Rattle.life_quad.specs.Refused.{SomePart}
@@ -9,7 +10,6 @@ use Rattle.life_quad.specs.declared.id.Id.{Id}
 use Rattle.life_quad.proofs.GrowsLemmas.{grows-as, grows-err, grows-same, grows-still, grows-then, join-refused, made-grows}
 use Rattle.life_quad.proofs.KeepingLemmas.{adds-then, keeps-then}
 use Rattle.life_quad.proofs.MapLemmas.{after_set}
-use Rattle.life_quad.proofs.RefusedLemmas.{error_is}
 use Rattle.life_quad.proofs.TurningLemmas.{AreImages-kept, blank-turned, depth-turned, image-of, part-ne, part-nw, part-se, part-sw, part-whole, quad-turned}
 use Rattle.life_quad.proofs.turning.+turn_square.Goals as goal
 

@@ -4,13 +4,14 @@ use Rattle.std.proofs.lemmas.Result.{IfOk-weaker}
 use Rattle.life_base.specs.Tree.{Tree, depth, blank, quad, tree_cell}
 use Rattle.life_base.specs.declared.bounds.Bounds.{Bounds}
 use Rattle.life_base.proofs.Results.{on_err_any, on_err_both}
+use Rattle.life_base.proofs.Squares.{same_quads}
 use Rattle.life_quad.specs.Cells.{IsLeastBox}
 use Rattle.life_quad.specs.Refused.{SomePart}
 use Rattle.life_quad.proofs.KeepingLemmas.{keeps-then, adds-as}
 use Rattle.life_sweep.proofs.NeedLemmas.{adds-more}
 use Rattle.life_block.specs.Needed.{square_from}
 use Rattle.life_block.specs.Pieces.{IsPiece}
-use Rattle.life_block.proofs.NeedLemmas.{quads, still-needs}
+use Rattle.life_block.proofs.NeedLemmas.{still-needs}
 use Rattle.life_block.proofs.PieceLemmas.{IsPiece-moved}
 use Rattle.life_slide.specs.Pieces.{IsNear, root_from}
 use Rattle.life_slide.proofs.MovedLemmas.{bottom-read, column-near, columns-inside, inner-part, IsTight, joined-root, left-read, level-fits, on-plane, own-root, right-read, row-near, rows-inside, top-read}
@@ -203,7 +204,7 @@ joined : (g : Over) (c : After-join g) → let now = g.T.Squares.content c.squar
     let j = c.level_of_side-level.result in
     let b = now c.empty-blank.result in
     quad b b b (now c.in_ok-quarter.quarter) ≡ quad (blank j) (blank j) (blank j) (now c.in_ok-quarter.quarter)
-joined g c = let b = c.empty-blank.ensures.square in quads _ _ _ _ _ _ _ _ b b b refl
+joined g c = let b = c.empty-blank.ensures.square in same_quads b b b refl
 
 root-part : (g : Over) (c : After-join g) → let t = g.S.Squares.content c.args.from.now c.args.id in
     Fit t c.args.found.now c.level_of_side-level.result c.args.least → (P : Tree → Type 0) →

@@ -1,10 +1,9 @@
 use Rattle.std.proofs.Common.{◌≡◌, pos, ◌+ℤ◌, ◌+◌, ◌-◌, ◌<◌, ◌%◌, ◌^◌, true, false, ◌∙◌, sym, ap, subst, refl, to_z-of_z}
-use Rattle.std.proofs.lemmas.Result.{IfOk-weaker}
+use Rattle.std.proofs.lemmas.Result.{IfOk-weaker, on_err_weaker}
 use Rattle.life_base.specs.Tree.{depth, blank, tree_cell}
 use Rattle.life_quad.specs.declared.id.Id.{Id}
 use Rattle.life_quad.proofs.KeepingLemmas.{adds-as}
 use Rattle.life_block.specs.Pieces.{IsAt, ahead}
-use Rattle.life_block.proofs.NeedLemmas.{on_err_map}
 use Rattle.life_block.proofs.PieceLemmas.{IsPiece-moved}
 use Rattle.life_slide.specs.Pieces.{HasBlockAt, InBlock, IsBlock}
 use Rattle.life_slide.proofs.PlaneLemmas.{begin, block-corner, known-corner, place-is}
@@ -89,7 +88,7 @@ pub returns-clause-needed : goal.returns-clause-needed
 returns-clause-needed g c =
     let d = (goal.at.returns-clause-needed g c).After-slid in
     let b = here g d in
-    on_err_map c.slid.result
+    on_err_weaker c.slid.result
     (λ needed. part-moved (g.T.Squares.needs_node c.slid.new.to) _ _ _ _ _ _ _ refl b.column b.row (needed _ _ _ b.are))
     c.slid.ensures.needed
 

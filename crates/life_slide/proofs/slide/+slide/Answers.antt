@@ -8,7 +8,7 @@ use Rattle.life_quad.proofs.KeepingLemmas.{keeps-then, adds-as}
 use Rattle.life_sweep.proofs.NeedLemmas.{adds-more}
 use Rattle.life_block.specs.Needed.{square_from}
 use Rattle.life_block.specs.Pieces.{IsAt, IsPiece, ahead}
-use Rattle.life_block.proofs.NeedLemmas.{AreParts, is-piece, joined-is, parts-of_pieces, piece-is, own-part, still-needs, on_err_map}
+use Rattle.life_block.proofs.NeedLemmas.{AreParts, is-piece, joined-is, parts-of_pieces, piece-is, own-part, still-needs}
 use Rattle.life_block.proofs.PieceLemmas.{IsPiece-moved}
 use Rattle.life_block.proofs.SquareLemmas.{square-is}
 use Rattle.life_slide.specs.Needed.{SomeOfBlock, SomeOfNine}
@@ -18,10 +18,6 @@ use Rattle.life_slide.proofs.SlideLemmas.{ahead-none, begins, block-eastern, blo
 use Rattle.life_slide.proofs.slide.+slide.Given.{Over}
 use Rattle.life_slide.proofs.slide.+slide.Goals as goal
 use Rattle.life_slide.proofs.slide.+slide.Goals.{slid_of_seen-After-small, slid_by_quarters-After-quarters-nine, slid_by_quarters-After-remember, slid_of_nine-After-join}
-
-both : {T E : Type 0} {P Q R : T → Type 0} (r : Result T E) → ((x : T) → P x → Q x → R x) → IfOk r P → IfOk r Q → IfOk r R
-both (Ok x) f p q = f x p q
-both (Err e) f p q = tt
 
 -- ---- without the squares that aren't seen
 
@@ -103,7 +99,7 @@ leaf-is g m c cells x y h =
 pub slid_of_seen-returns-in-Some-leaf_cells-clause-at : goal.slid_of_seen-returns-in-Some-leaf_cells-clause-at
 slid_of_seen-returns-in-Some-leaf_cells-clause-at g m c =
     let e = c.in-Some-leaf_cells.ensures.level in
-    both c.small.result (λ r known is. record { known = known; level = ap depth is ∙ sym e }) c.small.ensures.known c.small.ensures.square
+    if_ok_two c.small.result (λ r known is. record { known = known; level = ap depth is ∙ sym e }) c.small.ensures.known c.small.ensures.square
 
 pub slid_of_seen-returns-in-Some-leaf_cells-clause-remembers : goal.slid_of_seen-returns-in-Some-leaf_cells-clause-remembers
 slid_of_seen-returns-in-Some-leaf_cells-clause-remembers g m c =
@@ -118,7 +114,7 @@ slid_of_seen-returns-in-Some-leaf_cells-clause-slid g m c =
 
 pub slid_of_seen-returns-in-Some-leaf_cells-clause-needed : goal.slid_of_seen-returns-in-Some-leaf_cells-clause-needed
 slid_of_seen-returns-in-Some-leaf_cells-clause-needed g m c =
-    on_err_map c.small.result
+    on_err_weaker c.small.result
     (λ needed cells x y h. subst (SomePart (g.T.Squares.needs_node c.small.new.self))
     (leaf-is g m (goal.at.slid_of_seen-returns-in-Some-leaf_cells-clause-needed g m c).After-small cells x y h) needed)
     c.small.ensures.needed

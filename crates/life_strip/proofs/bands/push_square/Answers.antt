@@ -1,9 +1,8 @@
 use Rattle.std.proofs.Common.{sym, ◌∙◌, ap, arith}
-use Rattle.std.proofs.lemmas.Result.{err_from_is_err_and}
+use Rattle.std.proofs.lemmas.Result.{err_from_is_err_and, on_ok_weaker}
 use Rattle.life_base.specs.Tree.{depth}
 use Rattle.life_quad.specs.Store.{four}
 use Rattle.life_quad.proofs.GrowsLemmas.{grows-still, grows-same}
-use Rattle.life_strip.proofs.PictureLemmas.{on_ok_map}
 use Rattle.life_strip.proofs.SpanLemmas.{filled-skip, filled-more}
 use Rattle.life_strip.proofs.bands.push_square.Goals as goal
 
@@ -19,7 +18,7 @@ returns-clause-filled g c =
     let K = g.S.Squares.knows in
     let C = g.S.Squares.content in
     let id = c.in_ok-id.ensures in
-    on_ok_map c.extend.result
+    on_ok_weaker c.extend.result
     (λ columns want p same. filled-more {knows = K c.args.squares.now} {knows' = K c.small.new.self} {now = C c.args.squares.now}
     {now' = C c.small.new.self} id.keeps.contents
     2 want c.args.spans.now.items c.extend.new.spans.items c.args.columns.start c.args.columns.end c.in_ok-id.id p (columns p.before)

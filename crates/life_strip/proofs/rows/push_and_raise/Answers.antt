@@ -7,12 +7,12 @@ use Rattle.life_quad.proofs.GrowsLemmas.{grows-err, grows-ok, grows-then}
 use Rattle.life_strip.specs.declared.spans.Strip.{Strip}
 use Rattle.life_strip.specs.Picture.{picture, height, IsLowest}
 use Rattle.life_strip.specs.Needed.{SomeSquare}
-use Rattle.life_strip.proofs.SpanLemmas.{double}
 use Rattle.life_strip.proofs.NeededLemmas.{SomeSquare-same}
 use Rattle.life_strip.proofs.PictureLemmas.{fits_below, stack-kept}
 use Rattle.life_strip.proofs.BandPictures.{picture-over}
 use Rattle.life_strip.proofs.MergeLemmas.{SomeSquare-lower}
 use Rattle.life_strip.proofs.rows.push_and_raise.Goals as goal
+use Rattle.life_base.proofs.Basics.{twice}
 
 -- the shifted number is the power
 power : (k : ℕ) → k ≤ MAX_LEVEL → 1 * 2 ^ k % 18446744073709551616 ≡ 2 ^ k
@@ -24,7 +24,7 @@ higher : (level top rows : ℕ) (xs slice : List Strip) → slice ≡ xs → lev
     → ((l : ℕ) → IsLowest l slice → l ≤ MAX_LEVEL → 2 ^ l ≤ rows + 1 * 2 ^ level % 18446744073709551616 → l ≤ top) → level < top
 higher level top rows xs slice same high fits room lowest largest =
     let low : level < MAX_LEVEL = fits_below (height xs) level (omega (arith, room, fits)) in
-    let two = double level in
+    let two = twice level in
     let side = power level high in
     let le = largest (suc level) (subst (IsLowest (suc level)) (sym same) lowest) (omega (arith, low)) (omega (arith, two, side, fits)) in
     omega (arith, le)

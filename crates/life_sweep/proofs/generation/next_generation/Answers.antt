@@ -12,10 +12,11 @@ use Rattle.life_sweep.specs.Refused.{GenerationRefusal, HasStateFrom}
 use Rattle.life_sweep.specs.Rows.{IsInside, IsRestOf, first_coordinate}
 use Rattle.life_sweep.specs.Sweep.{IsSorted}
 use Rattle.life_sweep.proofs.CellLemmas.{blank-before, cells-sorted, cells-inside}
-use Rattle.life_sweep.proofs.RefusedLemmas.{both-ok, has-from, none-from, beyond, step-refused, accepted}
+use Rattle.life_sweep.proofs.RefusedLemmas.{has-from, none-from, beyond, step-refused, accepted}
 use Rattle.life_sweep.proofs.generation.next_generation.Given.{Over}
 use Rattle.life_sweep.proofs.generation.next_generation.Goals as goal
 use Rattle.life_sweep.proofs.generation.next_generation.Goals.{After-deref-2}
+use Rattle.life_base.proofs.Results.{if_ok_two}
 
 pub returns-in_err-list-clause-refusals : goal.returns-in_err-list-clause-refusals
 returns-in_err-list-clause-refusals g c =
@@ -76,7 +77,7 @@ returns-clause-next g c = IfOk-weaker c.next_square.result _ _ (λ r h. h _ (sor
 pub returns-clause-accepted : goal.returns-clause-accepted
 returns-clause-accepted g c =
     let law = c.args.law.now in
-    both-ok c.next_square.result _ _ _
+    if_ok_two c.next_square.result
     (λ r level next. accepted (g.L.Law.answers law) (g.met.L.Law.one_answer law) (g.L.Law.bound law) c.args.most
     (g.S.Squares.content c.args.squares.now c.args.id) (few g (goal.at.returns-clause-accepted g c).After-deref-2)
     (none g (goal.at.returns-clause-accepted g c).After-deref-2)

@@ -1,13 +1,13 @@
 use Rattle.std.proofs.Common.{refl, sym, ◌∙◌, take, arith}
 use Rattle.std.proofs.lemmas.Grind.{common_steps}
-use Rattle.life_table.proofs.Grouping.{is_clash}
 use Rattle.life_table.proofs.DecidingAt.{takes_all, too_many_at, search_at, completes_at, gives_settled_at, gives_open_at}
 use Rattle.life_table.proofs.choose.by_counts.Goals as goal
+use Rattle.life_base.proofs.Basics.{true_false}
 
 pub returns-then-not-may_take_all : goal.returns-then-not-may_take_all
 returns-then-not-may_take_all c = λ s g.
     let told = takes_all c.args.site.now c.args.line.now c.requires.site c.requires.line c.as_slice-inputs.result.now c.as_slice-inputs.ensures s g in
-    is_clash c.may_take_all.result (c.may_take_all.ensures told.0 told.1) c.if-not-may_take_all.true
+    true_false c.may_take_all.result (c.may_take_all.ensures told.0 told.1) c.if-not-may_take_all.true
 
 pub returns-in_default : goal.returns-in_default
 returns-in_default c =
@@ -35,7 +35,7 @@ returns-then-can_complete c =
 
 pub returns-else-can_complete : goal.returns-else-can_complete
 returns-else-can_complete c = λ s g.
-    is_clash c.can_complete.result (c.can_complete.ensures.1
+    true_false c.can_complete.result (c.can_complete.ensures.1
     (completes_at c.args.site.now c.args.line.now c.requires.site c.requires.line c.as_slice-inputs.result.now c.as_slice-inputs.ensures
     (take c.groups_of-count.result.1 c.groups_of-count.result.0) c.groups_of-count.ensures.grouped c.in-Some.free c.in-Some.ensures.counts s g))
     c.if-can_complete.false

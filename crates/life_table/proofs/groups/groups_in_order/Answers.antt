@@ -7,9 +7,10 @@ use Rattle.life_table.specs.Taking.{IsGrouped, add_to}
 use Rattle.life_table.specs.declared.groups.Group.{Group}
 use Rattle.life_table.specs.declared.table.Entry.{Entry}
 use Rattle.life_table.specs.declared.table.Entry.TheVariants as entries
-use Rattle.life_table.proofs.Grouping.{grouped_add, grouped_skip, grouped_none, grouped_output, small_add, small_more, fixed_skip, centre_skip, centre_open, same_number, is_clash}
+use Rattle.life_table.proofs.Grouping.{grouped_add, grouped_skip, grouped_none, grouped_output, small_add, small_more, fixed_skip, centre_skip, centre_open, same_number}
 use Rattle.life_table.proofs.groups.groups_in_order.Goals as goal
 use Rattle.life_table.proofs.groups.groups_in_order.Goals.{in-Var+then-not-is_variable, in-Var+else-not-is_variable, in_default, in-Var-entry+then-not-is_variable-2, in-Var-entry+else-not-is_variable-2, in_default-entry}
+use Rattle.life_base.proofs.Basics.{true_false}
 
 pub loop-entry-init : goal.loop-entry-init
 loop-entry-init c =
@@ -32,7 +33,7 @@ loop-entry-init c =
           record {
             grouped = subst (IsGrouped c.args.first c.args.output []) (sym none)
                 (grouped_none c.args.first c.args.output
-                (λ i is open_i. is_clash (is_variable i c.args.first)
+                (λ i is open_i. true_false (is_variable i c.args.first)
                 (ap (λ j. is_variable j c.args.first) (same_number i w.in-Var.number (sym is ∙ w.in-Var.is)) ∙ settled_output) open_i));
             few = omega (arith, w.count-is);
             small = subst (All (λ (g : Group). g.times ≤ 0)) (sym none) (λ k d below. absurd (omega (arith, below)));

@@ -40,9 +40,9 @@ use Rattle.life_canon.proofs.FrontFacts.{end-lines, end-says, top-level, macroce
 use Rattle.life_canon.proofs.Holding.{macrocell-holds, ok-both, rle-holds}
 use Rattle.life_canon.proofs.NeedFacts.{same-square}
 use Rattle.life_canon.proofs.Standing.{squares-stay}
-use Rattle.life_canon.proofs.Stored.{err_again}
 use Rattle.life_canon.proofs.WaitingFacts.{kept-joined, kept-squares, waiting-some}
 use Rattle.life_canon.proofs.progress.Progress.end.Goals as goal
+use Rattle.life_base.proofs.Results.{err_again}
 
 -- what the end of an RLE file with these runs gives
 record RleEnd (p : Progress) (runs : List Run) (file : Rle) : Type 1 where

@@ -8,10 +8,10 @@ use Rattle.life_canon.specs.Needs.{LacksForFront}
 use Rattle.life_canon.specs.Room.{AddsLines, HoldsFront, room_for}
 use Rattle.life_canon.proofs.Adding.{front-tight}
 use Rattle.life_canon.proofs.RunFacts.{front-full}
-use Rattle.life_canon.proofs.Stored.{err_again}
 use Rattle.life_canon.specs.Taking.{bytes_of}
 use Rattle.life_canon.proofs.FrontFacts.{front-unrefused, over-keeps-none}
 use Rattle.life_canon.proofs.reader.Reader.feed.Goals as goal
+use Rattle.life_base.proofs.Results.{err_again}
 
 pub returns-in-Ok-clause-bytes : goal.returns-in-Ok-clause-bytes
 returns-in-Ok-clause-bytes c = search rules

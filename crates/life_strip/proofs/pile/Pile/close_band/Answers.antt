@@ -1,6 +1,7 @@
 use Rattle.std.proofs.Common.{◌≡◌, ℕ, ◌+◌, ◌^◌, ◌++◌, ◌∷◌, [], List, length, All, Option, Some, arith, refl, ◌∙◌, ap, subst}
 use Rattle.std.specs.Prelude.{IfSome}
 use Rattle.std.proofs.lemmas.List.Elements.{All-append}
+use Rattle.std.proofs.lemmas.Result.{on_ok_weaker}
 use Rattle.life_base.specs.Tree.{Tree}
 use Rattle.life_quad.specs.declared.id.Id.{Id}
 use Rattle.life_quad.specs.Keeping.{KeepsSquares}
@@ -9,7 +10,7 @@ use Rattle.life_strip.specs.declared.spans.Strip.{Strip}
 use Rattle.life_strip.specs.Picture.{picture, height, IsLowest, IsRow, IsSound}
 use Rattle.life_strip.specs.Needed.{SomeSquare}
 use Rattle.life_strip.proofs.NeededLemmas.{SomeSquare-same}
-use Rattle.life_strip.proofs.PictureLemmas.{on_ok_map, on_ok_map3, stack-kept, rows-kept}
+use Rattle.life_strip.proofs.PictureLemmas.{on_ok_map3, stack-kept, rows-kept}
 use Rattle.life_strip.proofs.PlaneLemmas.{picture-keeps}
 use Rattle.life_strip.proofs.BandPictures.{height-append, height-rows, picture-over, SomeSquare-below}
 use Rattle.life_strip.proofs.pile.Pile.close_band.Goals as goal
@@ -66,7 +67,7 @@ push_rows-requires-clause-rows g c = rows-kept c.in_ok-strip.ensures.grows.keeps
 
 pub returns-in_default-clause-closed : goal.returns-in_default-clause-closed
 returns-in_default-clause-closed g c =
-    on_ok_map c.push_rows.result (λ r. record {
+    on_ok_weaker c.push_rows.result (λ r. record {
       empty = r.empty;
       strips = r.strips;
       height = r.height;

@@ -3,10 +3,11 @@ use Rattle.life_quad.proofs.GrowsLemmas.{grows-as, grows-then, grows-err}
 use Rattle.life_strip.specs.Pile.{strips_of}
 use Rattle.life_strip.specs.declared.spans.Span.{Span}
 use Rattle.life_strip.proofs.NeededLemmas.{SomeSquare-same}
-use Rattle.life_strip.proofs.PictureLemmas.{on_ok_map, picture-blank}
+use Rattle.life_strip.proofs.PictureLemmas.{picture-blank}
 use Rattle.life_strip.proofs.pile.Pile.end_row.Given.{Over}
 use Rattle.life_strip.proofs.pile.Pile.end_row.Goals as goal
 use Rattle.life_strip.proofs.pile.Pile.end_row.Goals.{After-drop-row}
+use Rattle.std.proofs.lemmas.Result.{on_ok_weaker}
 
 no_spans : (xs : List Span) → length xs ≡ 0 → xs ≡ []
 no_spans [] e = refl
@@ -18,7 +19,7 @@ blank g c = no_spans c.args.row.spans.items (grind (arith, c.is_empty.ensures, c
 
 pub returns-then-is_empty-clause-picture : goal.returns-then-is_empty-clause-picture
 returns-then-is_empty-clause-picture g c =
-    on_ok_map c.skip_rows.result
+    on_ok_weaker c.skip_rows.result
     (λ e i j. e i j ∙ sym (picture-blank (g.S.Squares.content c.args.squares.now) (strips_of c.args.self.now) c.args.row (blank g c) i j))
     c.skip_rows.ensures.picture
 
@@ -29,10 +30,10 @@ returns-then-is_empty-clause-grows g c =
     sym (picture-blank (g.S.Squares.content c.args.squares.now) (strips_of c.args.self.now) c.args.row (blank g c) i j)) n)
 
 pub returns-clause-height : goal.returns-clause-height
-returns-clause-height g c = on_ok_map c.skip_rows-2.result (λ e. e ∙ (omega (arith, c.in_ok-push_row.ensures.height))) c.skip_rows-2.ensures.height
+returns-clause-height g c = on_ok_weaker c.skip_rows-2.result (λ e. e ∙ (omega (arith, c.in_ok-push_row.ensures.height))) c.skip_rows-2.ensures.height
 
 pub returns-clause-picture : goal.returns-clause-picture
-returns-clause-picture g c = on_ok_map c.skip_rows-2.result (λ e i j. e i j ∙ c.in_ok-push_row.ensures.picture i j) c.skip_rows-2.ensures.picture
+returns-clause-picture g c = on_ok_weaker c.skip_rows-2.result (λ e i j. e i j ∙ c.in_ok-push_row.ensures.picture i j) c.skip_rows-2.ensures.picture
 
 pub returns-in_err-push_row-clause-grows : goal.returns-in_err-push_row-clause-grows
 returns-in_err-push_row-clause-grows g c =

@@ -1,10 +1,11 @@
 use Rattle.std.proofs.Common.{List, length-append, ◌≡◌, ◌+◌, ◌^◌, ◌++◌, ◌∷◌, [], length, All, arith, rules, refl, sym, ◌∙◌, ap, subst}
 use Rattle.std.proofs.lemmas.List.Elements.{All-push}
+use Rattle.std.proofs.lemmas.Result.{on_ok_weaker}
 use Rattle.life_quad.proofs.GrowsLemmas.{grows-as, grows-same}
 use Rattle.life_strip.specs.Picture.{picture, height, IsRow}
 use Rattle.life_strip.specs.declared.spans.Strip.{Strip}
 use Rattle.life_strip.proofs.NeededLemmas.{SomeSquare-same}
-use Rattle.life_strip.proofs.PictureLemmas.{on_ok_map, append-last, height-last}
+use Rattle.life_strip.proofs.PictureLemmas.{append-last, height-last}
 use Rattle.life_strip.proofs.BandPictures.{height-append, height-rows, lowest-more, no-rows, pile-alone}
 use Rattle.life_strip.proofs.pile.Pile.push_row.Goals as goal
 
@@ -67,7 +68,7 @@ returns-clause-pile g c =
     let h = one-row xs ys c.push.new.self.items c.args.row c.in_ok-push.ensures.items c.requires.row.level in
     let over = height-append xs ys in
     let rows = height-rows (g.S.Squares.knows c.args.squares.now) (g.S.Squares.content c.args.squares.now) ys c.requires.pile.rows in
-    on_ok_map c.close_band.result
+    on_ok_weaker c.close_band.result
     (λ r. pile-alone (g.S.Squares.knows c.close_band.new.squares) (g.S.Squares.content c.close_band.new.squares) c.close_band.new.self r.empty r.strips
     (lowest-more xs c.close_band.new.self.strips.items 4 1 c.requires.pile.lowest r.strips.falling
     (omega (arith, r.height, h, over, rows, n, c.len.ensures, c.if-len-lt4.false, c.requires.pile.few)) refl))
@@ -77,7 +78,7 @@ pub returns-clause-picture : goal.returns-clause-picture
 returns-clause-picture g c =
     let C = g.S.Squares.content in
     let in_order = append-last c.args.self.now.strips.items c.args.self.now.band.items c.push.new.self.items c.args.row c.in_ok-push.ensures.items in
-    on_ok_map c.close_band.result
+    on_ok_weaker c.close_band.result
     (λ r i j. ap (λ z. picture (C c.close_band.new.squares) z i j)
     (no-rows c.close_band.new.self.strips.items c.close_band.new.self.band.items r.empty) ∙ r.picture i j
     ∙ ap (λ z. picture (C c.args.squares.now) z i j) in_order)
@@ -86,7 +87,7 @@ returns-clause-picture g c =
 pub returns-clause-height : goal.returns-clause-height
 returns-clause-height g c =
     let h = one-row c.args.self.now.strips.items c.args.self.now.band.items c.push.new.self.items c.args.row c.in_ok-push.ensures.items c.requires.row.level in
-    on_ok_map c.close_band.result
+    on_ok_weaker c.close_band.result
     (λ r. ap height (no-rows c.close_band.new.self.strips.items c.close_band.new.self.band.items r.empty) ∙ r.height ∙ h) c.close_band.ensures.closed
 
 pub returns-in_err-push-clause-grows : goal.returns-in_err-push-clause-grows

@@ -9,10 +9,10 @@ use Rattle.life_strip.specs.Pile.{strips_of}
 use Rattle.life_strip.specs.Picture.{picture, height, AreFalling, IsLowest, IsSound}
 use Rattle.life_strip.specs.Needed.{SomeSquare}
 use Rattle.life_strip.proofs.NeededLemmas.{SomeSquare-same}
-use Rattle.life_strip.proofs.SpanLemmas.{double}
 use Rattle.life_strip.proofs.PictureLemmas.{all_init, all_last, falling-init, height-push, lowest-init, picture-blank, positive_power}
 use Rattle.life_strip.proofs.BandPictures.{no-rows, none_of, four-divides, lowest-more, pile-alone}
 use Rattle.life_strip.proofs.pile.Pile.skip_rows.Goals as goal
+use Rattle.life_base.proofs.Basics.{twice}
 
 -- a blank strip that is put below strips without rows changes no cell
 skipped : (content new : Id → Tree) (xs ys zs : List Strip) (s : Strip) → ys ≡ [] → s.spans.items ≡ []
@@ -150,7 +150,7 @@ grown-by-fours level top n deep higher e =
 some-rows : (level top n : ℕ) → level < top → n + 2 ^ level ≡ 2 ^ top → 0 < n
 some-rows level top n higher e =
     let more = pow_mono {i = suc level} {j = top} (omega (arith, higher)) in
-    let two = double level in
+    let two = twice level in
     let some = positive_power level in
     omega (arith, more, two, some, e)
 

@@ -1,6 +1,7 @@
 use Rattle.std.proofs.Common.{ℕ, ℤ, pos, nat_abs, ◌+ℤ◌, ◌≡◌, ◌+◌, ◌^◌, ◌++◌, ◌∷◌, [], sym, ◌∙◌, ap, subst, arith}
 use Rattle.std.specs.Prelude.{if◌then◌else◌}
 use Rattle.std.proofs.lemmas.Int.{ints}
+use Rattle.std.proofs.lemmas.Result.{on_ok_weaker}
 use Rattle.life_base.specs.Tree.{Tree, depth}
 use Rattle.life_quad.proofs.KeepingLemmas.{adds-as}
 use Rattle.life_quad.proofs.GrowsLemmas.{grows-err, grows-still}
@@ -14,7 +15,6 @@ use Rattle.life_strip.specs.Needed.{SomeSquare}
 use Rattle.life_strip.specs.Plane.{state_so_far}
 use Rattle.life_base.specs.declared.cell.TheConstants.{MAX_LEVEL}
 use Rattle.life_strip.proofs.SpanLemmas.{before_more, extended-columns}
-use Rattle.life_strip.proofs.PictureLemmas.{on_ok_map}
 use Rattle.life_strip.proofs.PlaneLemmas.{column_of_run, row_of_run, next_ends, below_run, beside_run, row_pushed, row_strip, picture_pushed, AddsRun-span}
 use Rattle.life_strip.proofs.plane.Plane.add_run.Given.{Over}
 use Rattle.life_strip.proofs.plane.Plane.add_run.Goals as goal
@@ -39,7 +39,7 @@ returns-clause-cells g c =
     let fill = c.in_ok-go_to_row.ensures.begun.filled in
     let row : Strip = record { level = self.row.level; spans = c.extend.new.spans } in
     let height_is : height (strips_of self.pile) ≡ c.offset-row.result = fill.rows ∙ c.in_ok-go_to_row.ensures.begun.rows in
-    on_ok_map c.extend.result
+    on_ok_weaker c.extend.result
     (λ extended.
     let columns = extended-columns self.row.spans.items row.spans.items c.offset-column.result (c.offset-column.result + c.args.run.len) c.cell-square.result
     (begun g c) (omega (arith, c.requires.positive)) (extended (begun g c)) in
@@ -65,7 +65,7 @@ returns-clause-filled g c =
     let new = c.extend.new.spans.items in
     let fill = c.in_ok-go_to_row.ensures.begun.filled in
     let known : IsStrip K C 0 old = subst (λ n. IsStrip K C n old) fill.row.level fill.row.sound.squares in
-    on_ok_map c.extend.result
+    on_ok_weaker c.extend.result
     (λ extended.
     let more = extended (begun g c) in
     let columns = extended-columns old new c.offset-column.result (c.offset-column.result + c.args.run.len) c.cell-square.result (begun g c)
@@ -92,7 +92,7 @@ returns-clause-filled g c =
 pub returns-clause-below : goal.returns-clause-below
 returns-clause-below g c =
     let ey = row_of_run c.args.run c.offset-row.result c.requires.inside c.offset-row.ensures in
-    on_ok_map c.extend.result
+    on_ok_weaker c.extend.result
     (λ extended i j below. below_run (record c.go_to_row.new.self { row = record c.go_to_row.new.self.row { spans = c.extend.new.spans } }) c.args.run.y i j
     c.offset-row.result ey c.in_ok-go_to_row.ensures.begun.rows below)
     c.extend.ensures.columns
@@ -101,7 +101,7 @@ pub returns-clause-beside : goal.returns-clause-beside
 returns-clause-beside g c =
     let ex = column_of_run c.args.run c.offset-column.result c.requires.inside c.requires.positive c.offset-column.ensures in
     let ey = row_of_run c.args.run c.offset-row.result c.requires.inside c.offset-row.ensures in
-    on_ok_map c.extend.result
+    on_ok_weaker c.extend.result
     (λ extended i beside. beside_run (record c.go_to_row.new.self { row = record c.go_to_row.new.self.row { spans = c.extend.new.spans } })
     c.args.run.x c.args.run.y i c.offset-column.result c.offset-row.result c.args.run.len
     ex ey c.in_ok-go_to_row.ensures.begun.rows (λ k d lt. ((extended (begun g c)).before k d lt).1) beside)
