@@ -23,13 +23,7 @@ use Rattle.file_keys.proofs.GroupLemmas.{class_of, Entry}
 abbrev pub several_of : List Group → List (List (List ℕ))
 several_of groups = filter has_several (map kept_names groups)
 
--- a group of one file isn't printed
-pub alone_next : (group : Group) (groups : List Group) → length group.more.items ≡ 0 → several_of (group ∷ groups) ≡ several_of groups
-alone_next group groups none =
-    ap (λ n. cond (nat_lt 1 (suc n)) (kept_names group ∷ several_of groups) (several_of groups))
-    (length-map group.more.items (λ (n : Bor (List ℕ)). n.now) ∙ none)
-
--- and one of more files is
+-- a group of two files or more is printed
 pub several_next : (group : Group) (groups : List Group) → 0 < length group.more.items
     → several_of (group ∷ groups) ≡ kept_names group ∷ several_of groups
 several_next group groups some =
@@ -124,10 +118,6 @@ module _ (a b c : Option (List ℕ)) (zero : Bool) (all : List (Bor (List ℕ)))
   name_broken broken = printed_broken a b c zero _ _ ((get_or all i d).now ∷ []) (map (λ (name : Bor (List ℕ)). name.now) (drop (i + 1) all)) printed
       (names_left all i d lt) (subst (WritesPrefix b c) (one_text zero (get_or all i d).now) broken)
 
--- nothing was written yet
-pub printed_none : (a : Option (List ℕ)) (zero : Bool) (names : List (List ℕ)) → Appends a a [] → Printed a a zero names names
-printed_none a zero names nothing = ([], refl, nothing)
-
 -- all was written
 pub printed_all : (a b : Option (List ℕ)) (zero : Bool) (names rest : List (List ℕ)) → rest ≡ [] → Printed a b zero names rest
     → Appends a b (names_text zero names)
@@ -142,10 +132,6 @@ pub left_next : (is_first : Bool) (group : List (List ℕ)) (groups : List (List
     → left_names is_first (group ∷ groups) ≡ next_names is_first group ++ left_names false groups
 left_next true group groups = refl
 left_next false group groups = refl
-
-pub left_none : (is_first : Bool) → left_names is_first [] ≡ []
-left_none true = refl
-left_none false = refl
 
 -- ---- statuses
 

@@ -1,7 +1,6 @@
 -- What runs of the command `duplicates` come to and keep, one file after another.
 use Rattle.std.proofs.Common.{◌≡◌, ℕ, max, List, [], ◌∷◌, ◌++◌, ◌⊎◌, Bool, true, false, map, Option, Result, refl, sym, ap, ap₂, ◌∙◌, subst, arith}
 use Rattle.std.specs.Io.KnownBytes.{Appends}
-use Rattle.std.proofs.KnownBytes.{Appends-nil}
 use Rattle.std.proofs.lemmas.Grind.{flat_map-append}
 use Rattle.std.proofs.lemmas.List.{append_assoc, append-nil, map-append}
 use Rattle.std.specs.declared.io.Error.{Error as IoError}
@@ -24,7 +23,7 @@ use Rattle.command_line.specs.declared.plans.Form.{Form}
 use Rattle.command_line.specs.declared.plans.KeysPlan.{KeysPlan}
 use Rattle.file_keys.proofs.DuplicateLemmas.{group_status, kept_is, none_is}
 use Rattle.file_keys.proofs.GroupLemmas.{classes_more, classes_other}
-use Rattle.file_keys.proofs.KeyRunLemmas.{broken_tells, from_none, greatest_is, greatest_then, one_line, takes_then, tells_all, tells_then, three, told_takes}
+use Rattle.file_keys.proofs.KeyRunLemmas.{broken_tells, from_none, greatest_is, greatest_then, one_line, takes_then, tells_all, tells_then, three, told_takes, tells_none}
 
 -- the classes of files with one more, whatever came of it
 classes_with : (taken : List Taken) (name : Name) (outcome : Outcome)
@@ -32,11 +31,6 @@ classes_with : (taken : List Taken) (name : Name) (outcome : Outcome)
 classes_with taken name (Key key) = classes_more taken (record { name = name; outcome = Key key }) key refl
 classes_with taken name (Refused fault) = classes_other taken (record { name = name; outcome = Refused fault }) refl (λ key. refl)
 classes_with taken name (Unopened kind) = classes_other taken (record { name = name; outcome = Unopened kind }) refl (λ key. refl)
-
-tells_none : {E : Type 0} (contents : E → Option (List ℕ)) (failures : E → ℕ) (stalled : E → Bool) (b : Bool) (err : E)
-    → (b ≡ true → failures err ≡ 0) → TellsOn contents failures stalled b b err err []
-tells_none contents failures stalled true err hears = (Appends-nil (contents err), hears refl)
-tells_none contents failures stalled false err hears = refl
 
 module _ {F R E : Type 0} (step : F → Origin → Result R IoError → F → Type 0) (remaining : R → Option (List ℕ)) (reads_failed : R → ℕ)
     (contents : E → Option (List ℕ)) (failures : E → ℕ) (stalled : E → Bool) where

@@ -8,7 +8,8 @@ use Rattle.file_keys.specs.Groups.{AreInOneGroup, distinct, files_with, groups_o
 use Rattle.file_keys.specs.KeyRuns.{Taken}
 use Rattle.file_keys.specs.declared.keys.outcome.Outcome.{Outcome}
 use Rattle.file_keys.specs.declared.keys.outcome.Outcome.TheVariants.{Key, Refused, Unopened}
-use Rattle.file_keys.proofs.GroupLemmas.{among_distinct, AreApart, distinct_apart, equal, itself}
+use Rattle.file_keys.proofs.GroupLemmas.{among_distinct, AreApart, distinct_apart, itself}
+use Rattle.life_base.proofs.Texts.{same_bytes}
 
 -- ---- members of lists
 
@@ -96,7 +97,7 @@ any_in key (own ∷ keys) is = by (bytes_eq key own) refl is (any_in key keys)
   where
     by : (b : Bool) → bytes_eq key own ≡ b → (b || list_any (bytes_eq key) keys) ≡ true → (list_any (bytes_eq key) keys ≡ true → In keys key)
         → In (own ∷ keys) key
-    by true same is rest = inl (sym (equal key own same))
+    by true same is rest = inl (sym (same_bytes key own same))
     by false other is rest = inr (rest is)
 
 in_any : (key own : List ℕ) (keys : List (List ℕ)) → In keys own → bytes_eq key own ≡ true → list_any (bytes_eq key) keys ≡ true
@@ -111,7 +112,7 @@ in_any key own (next ∷ keys) (inr c) same = by (bytes_eq key next) (in_any key
 
 -- what a file came to where it has a key
 key_of : (key : List ℕ) (outcome : Outcome) → is_key key outcome ≡ true → outcome ≡ Key key
-key_of key (Key own) is = ap Key (sym (equal key own is))
+key_of key (Key own) is = ap Key (sym (same_bytes key own is))
 key_of key (Refused fault) is = absurd (let z : ⊥ = cc in z)
 key_of key (Unopened kind) is = absurd (let z : ⊥ = cc in z)
 

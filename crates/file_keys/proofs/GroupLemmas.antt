@@ -7,6 +7,7 @@ use Rattle.std.proofs.lemmas.Grind.{flat_map-append}
 use Rattle.std.proofs.lemmas.List.{append-nil, map-append}
 use Rattle.std.proofs.lemmas.List.Elements.{filter-append}
 use Rattle.std.proofs.lemmas.Slice.Eq.{bytes_eq-Decides}
+use Rattle.std.proofs.lemmas.Bool.{or_parts}
 use Rattle.indexmap.specs.IndexMap.{insert_entry}
 use Rattle.file_keys.specs.Duplicates.{Class, classes_of, kept_names, with_name}
 use Rattle.file_keys.specs.Groups.{distinct, files_with, has_key, is_key, key_list, keys_in, name_bytes}
@@ -14,6 +15,7 @@ use Rattle.file_keys.specs.KeyRuns.{Taken}
 use Rattle.file_keys.specs.declared.duplicates.groups.Group.{Group}
 use Rattle.file_keys.specs.declared.keys.outcome.Outcome.{Outcome}
 use Rattle.file_keys.specs.declared.keys.outcome.Outcome.TheVariants.{Key, Refused, Unopened}
+use Rattle.life_base.proofs.Texts.{same_bytes}
 
 -- ---- a map of groups
 
@@ -74,19 +76,15 @@ inserted key name (e ∷ es) new none kept = by (bytes_eq key e.0) none (λ foun
 
 -- ---- keys, each once
 
--- equal keys
-pub equal : (a b : List ℕ) → bytes_eq a b ≡ true → a ≡ b
-equal a b = (bytes_eq-Decides a b).0
-
 pub itself : (a : List ℕ) → bytes_eq a a ≡ true
 itself a = (bytes_eq-Decides a a).1 refl
 
 either_way : (a b : List ℕ) (r : Bool) → bytes_eq a b ≡ r → bytes_eq b a ≡ r
-either_way a b true is = subst (λ c. bytes_eq c a ≡ true) (equal a b is) (itself a)
+either_way a b true is = subst (λ c. bytes_eq c a ≡ true) (same_bytes a b is) (itself a)
 either_way a b false is = by (bytes_eq b a) refl
   where
     by : (r : Bool) → bytes_eq b a ≡ r → r ≡ false
-    by true found = sym (subst (λ c. bytes_eq a c ≡ true) (sym (equal b a found)) (itself a)) ∙ is
+    by true found = sym (subst (λ c. bytes_eq a c ≡ true) (sym (same_bytes b a found)) (itself a)) ∙ is
     by false found = refl
 
 -- keys that are all different
@@ -97,15 +95,11 @@ AreApart (key ∷ keys) = (list_any (bytes_eq key) keys ≡ false) × AreApart k
 abbrev others : List ℕ → List (List ℕ) → List (List ℕ)
 others key keys = filter (λ (other : List ℕ). not (bytes_eq key other)) keys
 
-or_none : (a b : Bool) → (a || b) ≡ false → (a ≡ false) × (b ≡ false)
-or_none true b is = absurd (let z : ⊥ = cc in z)
-or_none false b is = (refl, is)
-
 -- what no key of a list passes, none of some of them passes
 none_of_some : (test keep : List ℕ → Bool) (keys : List (List ℕ)) → list_any test keys ≡ false → list_any test (filter keep keys) ≡ false
 none_of_some test keep [] none = refl
 none_of_some test keep (key ∷ keys) none =
-    let both = or_none (test key) (list_any test keys) none in by (keep key) both.0 (none_of_some test keep keys both.1)
+    let both = or_parts (test key) (list_any test keys) none in by (keep key) both.0 (none_of_some test keep keys both.1)
   where
     by : (b : Bool) → test key ≡ false → list_any test (filter keep keys) ≡ false
         → list_any test (cond b (key ∷ filter keep keys) (filter keep keys)) ≡ false
@@ -144,7 +138,7 @@ among_others key own (next ∷ keys) differ = by (bytes_eq key next) refl (among
         → list_any (bytes_eq own) (cond (not b) (next ∷ others key keys) (others key keys)) ≡ (bytes_eq own next || list_any (bytes_eq own) keys)
     by true is rest =
         rest
-        ∙ ap (λ c. c || list_any (bytes_eq own) keys) (sym (subst (λ (k : List ℕ). bytes_eq own k ≡ false) (equal key next is) differ))
+        ∙ ap (λ c. c || list_any (bytes_eq own) keys) (sym (subst (λ (k : List ℕ). bytes_eq own k ≡ false) (same_bytes key next is) differ))
     by false is rest = ap (λ c. bytes_eq own next || c) rest
 
 -- the keys of which each is there once are the same keys
@@ -188,7 +182,7 @@ with_name_new : (names : List ℕ → List (List ℕ)) (keys : List (List ℕ)) 
     → with_name (classes_by names keys) own name ≡ classes_by names keys ++ (own, name ∷ []) ∷ []
 with_name_new names [] own name none = refl
 with_name_new names (key ∷ keys) own name none =
-    let both = or_none (bytes_eq own key) (list_any (bytes_eq own) keys) none in
+    let both = or_parts (bytes_eq own key) (list_any (bytes_eq own) keys) none in
     ap (λ b. cond b ((key, names key ++ name ∷ []) ∷ classes_by names keys) ((key, names key) ∷ with_name (classes_by names keys) own name)) both.0
     ∙ ap (λ (l : List Class). (key, names key) ∷ l) (with_name_new names keys own name both.1)
 
@@ -201,7 +195,7 @@ with_none : (names : List ℕ → List (List ℕ)) (keys : List (List ℕ)) (own
     → classes_by names keys ≡ classes_by (more_names names own name) keys
 with_none names [] own name none = refl
 with_none names (key ∷ keys) own name none =
-    let both = or_none (bytes_eq own key) (list_any (bytes_eq own) keys) none in
+    let both = or_parts (bytes_eq own key) (list_any (bytes_eq own) keys) none in
     ap₂ (λ (l : List (List ℕ)) (rest : List Class). (key, l) ∷ rest)
     (sym (append-nil (names key)) ∙ ap (λ b. names key ++ cond b (name ∷ []) []) (sym (either_way own key false both.0)))
     (with_none names keys own name both.1)
@@ -218,7 +212,7 @@ with_name_there names (key ∷ keys) own name apart there =
         → cond b ((key, names key ++ name ∷ []) ∷ classes_by names keys) ((key, names key) ∷ with_name (classes_by names keys) own name)
         ≡ (key, more_names names own name key) ∷ classes_by (more_names names own name) keys
     by true is there rest =
-        let none : list_any (bytes_eq own) keys ≡ false = subst (λ (k : List ℕ). list_any (bytes_eq k) keys ≡ false) (sym (equal own key is)) apart.0 in
+        let none : list_any (bytes_eq own) keys ≡ false = subst (λ (k : List ℕ). list_any (bytes_eq k) keys ≡ false) (sym (same_bytes own key is)) apart.0 in
         ap₂ (λ (l : List (List ℕ)) (more : List Class). (key, l) ∷ more)
         (ap (λ b. names key ++ cond b (name ∷ []) []) (sym (either_way own key true is))) (with_none names keys own name none)
     by false is there rest =
@@ -249,7 +243,7 @@ no_names (t ∷ taken) own none = by t.outcome none (λ rest. no_names taken own
         → (list_any (bytes_eq own) (keys_in taken) ≡ false → names_with taken own ≡ [])
         → map name_bytes (cond (is_key own o) (t ∷ files_with own taken) (files_with own taken)) ≡ []
     by (Key key) none rest =
-        let both = or_none (bytes_eq own key) (list_any (bytes_eq own) (keys_in taken)) none in
+        let both = or_parts (bytes_eq own key) (list_any (bytes_eq own) (keys_in taken)) none in
         ap (λ b. map name_bytes (cond b (t ∷ files_with own taken) (files_with own taken))) both.0 ∙ rest both.1
     by (Refused fault) none rest = rest none
     by (Unopened kind) none rest = rest none

@@ -1,12 +1,12 @@
 -- Strings of JSON.
-use Rattle.std.proofs.Common.{◌≡◌, ℕ, List, [], ◌∷◌, ◌++◌, length, drop, Option, Result, Ok, Err, sym, ap, ◌∙◌, subst, refl, arith}
+use Rattle.std.proofs.Common.{◌≡◌, ℕ, List, [], ◌∷◌, ◌++◌, length, drop, Option, sym, ap, ◌∙◌, subst, refl, arith}
 use Rattle.std.specs.Io.KnownBytes.{Appends}
 use Rattle.std.specs.Str.Lossy.{utf8_invalid_len, utf8_lossy, utf8_valid_len}
 use Rattle.std.proofs.KnownBytes.{Appends-trans}
 use Rattle.std.proofs.lemmas.Grind.{flat_map-append}
 use Rattle.std.proofs.lemmas.List.{append_assoc}
 use Rattle.std.proofs.lemmas.Str.{utf8_lossy_chunk, utf8_lossy_last_chunk}
-use Rattle.life_base.specs.Writing.{WritesPrefix, WritesText}
+use Rattle.life_base.specs.Writing.{WritesPrefix}
 use Rattle.life_base.proofs.WritingLemmas.{prefix-after, prefix-grows}
 use Rattle.file_keys.specs.Json.{json_byte, json_text, name_text}
 use Rattle.file_keys.specs.Pieces.{replacement_of}
@@ -44,9 +44,3 @@ module _ (name bytes valid invalid rest front : List ℕ) (is : name_text name �
   written_broken a b c first broken = subst (WritesPrefix a c) (sym further)
       (prefix-grows a c (front ++ json_text (valid ++ replacement_of invalid)) (name_text rest)
       (prefix-after a b c front (json_text (valid ++ replacement_of invalid)) first broken))
-
--- a text that was written whole, and then the next or a prefix of it
-pub then_text : {E : Type 0} (a b c : Option (List ℕ)) (xs ys : List ℕ) (r : Result (Unit {0}) E) → Appends a b xs → WritesText b c ys r
-    → WritesText a c (xs ++ ys) r
-then_text a b c xs ys (Ok x) first second = Appends-trans a b c xs ys first second
-then_text a b c xs ys (Err e) first second = prefix-after a b c xs ys first second

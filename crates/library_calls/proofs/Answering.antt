@@ -8,7 +8,7 @@ use Rattle.life_base.specs.declared.kind.Kind.TheVariants.{Full, Memory}
 use Rattle.life_base.specs.Tree.{Tree}
 use Rattle.life_quad.specs.Store.{Nodes, held}
 use Rattle.life_canon.specs.Store.{IsWant}
-use Rattle.library_calls.specs.Told.{Told, Gives, Tells, Answers, by_text, by_fault, told}
+use Rattle.library_calls.specs.Told.{Told, Gives, Tells, Answers, by_text, by_fault}
 use Rattle.library_calls.specs.Texts.{TellsText, Wants, room_of}
 use Rattle.library_calls.specs.Comparing.{Compared, ComparesWithin, compared}
 use Rattle.library_calls.specs.Comparing as placed
@@ -72,12 +72,7 @@ pub where-err : {X Holds : Type 0} (r : Result X Fault) → Holds → OnErr r Ho
 where-err (Ok x) holds = tt
 where-err (Err fault) holds = holds
 
--- nor where no form has the number
-pub no-form : {P : Type 0} (it : Told) → it ≡ told 65 0 0 → TellsText it → P
-no-form it is (inl zero) = let e : 65 ≡ 0 = sym (ap (λ (t : Told). t.status) is) ∙ zero in absurd (omega (arith, e))
-no-form it is (inr long) = let e : 65 ≡ 64 = sym (ap (λ (t : Told). t.status) is) ∙ long in absurd (omega (arith, e))
-
--- nor is an answer
+-- and files are not compared either
 pub not-compared : {P : Type 0} (it : Compared) (fault : Fault) → it ≡ compared (kind_number fault.kind) 0 fault.place.line → it.status ≡ 0 → P
 not-compared it fault is zero = no_text it.status fault.kind (ap (λ (c : Compared). c.status) is) (inl zero)
 

@@ -15,9 +15,10 @@ use Rattle.life_canon.specs.Listing.{canon_text}
 use Rattle.life_canon.specs.Needs.{IsNew, LacksFor}
 use Rattle.life_canon.specs.Room.{AddsFile, FewSquares, HoldsFile, HoldsOnly, RoomSuffices, room_for}
 use Rattle.life_canon.specs.Store.{IsRead, IsWant, RefusesIn, universe_in}
-use Rattle.life_canon.specs.Universe.{Universe, IsSame}
+use Rattle.life_canon.specs.Universe.{Universe}
 use Rattle.life_canon.specs.declared.pattern.Pattern.{Pattern}
 use Rattle.life_canon.proofs.RoomCount.{found-as, find-file}
+use Rattle.life_canon.proofs.Sameness.{same-is_one}
 use Rattle.life_forms.specs.Forms.{IsMoved}
 use Rattle.life_forms.specs.Images.{IsTurnedText}
 use Rattle.life_forms.specs.Needed.{HasLargerForm}
@@ -32,15 +33,11 @@ use Rattle.library_calls.specs.declared.pattern_form.PatternForm.TheVariants.{Pl
 use Rattle.library_calls.proofs.Answering.{not-full, tight, wanted}
 use Rattle.library_calls.proofs.NeedFacts.{HoldsOnce, enough, from-empty, more-than-held, too-low}
 
--- patterns that are the same are one
-one : (u v : Universe) → IsSame u v → u ≡ v
-one u v same = λ i. record { rule = same.rule i; generation = same.generation i; cell = λ x y. same.cells x y i }
-
 -- what a pattern in a store says is what its file says
 pub reads-it : PatternsFit MAX_LEVEL → (bytes : List ℕ) (store : Nodes) (pattern : Pattern) → IsRead MAX_LEVEL bytes store pattern
     → Reads MAX_LEVEL bytes (universe_in store pattern)
 reads-it fit bytes store pattern read =
-    subst (λ (u : Universe). Reads MAX_LEVEL bytes u) (one read.universe (universe_in store pattern) (fit bytes store pattern read).1) read.reads
+    subst (λ (u : Universe). Reads MAX_LEVEL bytes u) (same-is_one read.universe (universe_in store pattern) (fit bytes store pattern read).1) read.reads
 
 pub accepted-it : (bytes : List ℕ) (store : Nodes) (pattern : Pattern) → IsRead MAX_LEVEL bytes store pattern → Accepted MAX_LEVEL bytes
 accepted-it bytes store pattern read = (read.universe, read.reads)

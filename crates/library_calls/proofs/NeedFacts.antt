@@ -1,7 +1,7 @@
 -- How many squares a call needs, by those that its store holds.
 --
 -- A `Needs` says of a property that a square which is needed has it; so `Needs (λ u. u ≡ t)` says that t is needed.
-use Rattle.std.proofs.Common.{◌≡◌, ◌≢◌, ◌⊎◌, inl, inr, ℕ, zero, suc, ◌<◌, ◌≤◌, ◌∙◌, false, List, [], ◌∷◌, ◌++◌, length, AllPairs, Result, Ok, Err, OnOk, IfOk, IfErr, sym, ap, subst, arith}
+use Rattle.std.proofs.Common.{◌≡◌, ◌≢◌, ◌⊎◌, inl, inr, ℕ, zero, suc, ◌<◌, ◌≤◌, ◌∙◌, false, List, [], ◌∷◌, ◌++◌, length, AllPairs, Result, Ok, Err, OnOk, IfOk, IfErr, sym, ap, subst}
 use Rattle.std.specs.Prelude.{All, Contains}
 use Rattle.std.proofs.lemmas.List.{length-map}
 use Rattle.std.proofs.lemmas.List.Elements.{All-contains, All-contains_itself}
@@ -17,7 +17,7 @@ use Rattle.life_quad.specs.Keeping.{AddsOnly}
 use Rattle.life_quad.specs.Store.{Nodes, IsShared, content, held, id_of}
 use Rattle.life_canon.specs.Calls.{EndsInto, FeedsInto, ReadsInto}
 use Rattle.life_canon.specs.Needs.{IsNew, LacksFor}
-use Rattle.life_canon.specs.Room.{FewSquares, HoldsFile, AddsFile, HoldsFront, HoldsOnly, room_for}
+use Rattle.life_canon.specs.Room.{HoldsFile, AddsFile, HoldsFront, HoldsOnly, room_for}
 use Rattle.life_canon.specs.Store.{IsRead}
 use Rattle.life_canon.specs.declared.pattern.Pattern.{Pattern}
 use Rattle.life_canon.proofs.RoomCount.{Found, find-file, find-lines}
@@ -26,16 +26,6 @@ pub use Rattle.life_forms.proofs.SizeFacts.{HoldsOnce, HoldsNeeded, no-square, a
 use Rattle.library_calls.specs.Outputs.{IsTooLowForFront, SomeOfFront}
 use Rattle.library_calls.specs.Texts.{Fits, IsTooLowFor, NeedsMore, SomeToRead, room_of}
 use Rattle.library_calls.proofs.Answering.{tight, tight-alone}
-
--- ---- the bound by the bytes
-
--- where more squares are needed to read a file than the limit, the limit is below the bound by the bytes
-pub below-room : FewSquares → (bytes : List ℕ) (most : ℕ) → NeedsMore (SomeToRead bytes) most → most < room_for (length bytes)
-below-room few bytes most more =
-    let squares = few bytes in
-    let long = longer (SomeToRead bytes) squares.0 most squares.2 more in
-    let short = squares.1 in
-    omega (arith, long, short)
 
 -- ---- what a store holds
 

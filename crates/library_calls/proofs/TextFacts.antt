@@ -34,6 +34,7 @@ use Rattle.library_calls.specs.declared.pattern_form.PatternForm.{PatternForm}
 use Rattle.library_calls.specs.declared.pattern_form.PatternForm.TheVariants as forms
 use Rattle.library_calls.proofs.Answering.{not-full, wanted}
 use Rattle.life_step.proofs.Finding.{find-by_rule, find-by_table}
+use Rattle.life_step.proofs.NeedFacts.{step-lacks}
 use Rattle.library_calls.proofs.NeedFacts.{HoldsOnce, from-needed, more-than-held, needs-more, only-needed}
 
 -- a pattern that is the same as one on the plane is on it too
@@ -133,14 +134,6 @@ rle-fault limit bytes store pattern fault read (inr many) = inr (many.0, many.1 
 
 -- ---- steps
 
--- what the step of a pattern needs, the step of its file needs
-of-file : (Of : Rule → Tree → Type 0) (bytes : List ℕ) (store : Nodes) (pattern : Pattern) → IsRead MAX_LEVEL bytes store pattern
-    → Of pattern.rule (content store pattern.root) → (u : Universe) × Reads MAX_LEVEL bytes u × Of u.rule (whole MAX_LEVEL u)
-of-file Of bytes store pattern read some =
-    let u = read.universe in
-    let of_rule = subst (λ (r : Rule). Of r (content store pattern.root)) read.is.rule some in
-    (u, read.reads, subst (λ (t : Tree). Of u.rule t) read.is.root of_rule)
-
 -- The same of a step, which may be refused. `Of` says of a property that a square has it which the step needs of a root under a rule.
 step-low : (Of : (Tree → Type 0) → Rule → Tree → Type 0) (bytes : List ℕ) (old store : Nodes) (pattern : Pattern) → IsRead MAX_LEVEL bytes old pattern
     → HoldsOnly [] bytes old → HoldsOnce store → AddsOnly held (λ P. Of P pattern.rule (content old pattern.root)) old store
@@ -149,7 +142,7 @@ step-low : (Of : (Tree → Type 0) → Rule → Tree → Type 0) (bytes : List �
 step-low Of bytes old store pattern read only once adds lack at =
     let Needs = λ (P : Tree → Type 0). SomeToRead bytes P ⊎ ((u : Universe) × Reads MAX_LEVEL bytes u × Of P u.rule (whole MAX_LEVEL u)) in
     let Added = λ (P : Tree → Type 0). Of P pattern.rule (content old pattern.root) in
-    let of = λ (P : Tree → Type 0) (s : Added P). of-file (Of P) bytes old pattern read s in
+    let of = λ (P : Tree → Type 0) (s : Added P). step-lacks (Of P) bytes old pattern read s in
     more-than-held Needs store once
     (from-needed (SomeToRead bytes) Added Needs old store (λ P s. inl s) (λ P s. inr (of P s)) (only-needed bytes old only) adds)
     (found-as (λ Q k. inr (of Q k)) lack) at

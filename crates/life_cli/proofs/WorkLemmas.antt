@@ -18,7 +18,7 @@ use Rattle.life_canon.specs.Files.{Accepted, Reads, Refuses, is_file_kind}
 use Rattle.life_canon.specs.Laws.{RefusalsHaveKinds}
 use Rattle.life_canon.specs.Needs.{IsNew}
 use Rattle.life_canon.specs.ReadWhole.{ReadsWhole}
-use Rattle.life_canon.specs.Room.{AddsFile, IsOfFile}
+use Rattle.life_canon.specs.Room.{IsOfFile}
 use Rattle.life_canon.specs.Running.{AddsForRead, HasRead, ReadRefuses, ReadsPattern, ReadsSource}
 use Rattle.life_canon.specs.Running as reading
 use Rattle.life_canon.specs.Store.{IsRead, IsWant, content}
@@ -45,10 +45,11 @@ use Rattle.life_step.specs.Stepped.{IsStepped, IsSteppedBy}
 use Rattle.pattern_sources.specs.Sources.{InputRefuses, by_length, by_source, HasNoText, by_file, by_want, RefusesInForm}
 use Rattle.life_cli.specs.Jobs.{AreUncompared, by_first, by_second, by_form, by_first_shortage, by_second_shortage, RefusesSame}
 use Rattle.pattern_sources.specs.Sources.{AreOfInput, IsTooSmallFor, IsTooSmallToMake, IsWantFor, WantsFor, RefusesMany, HasText, ComesOf}
-use Rattle.life_cli.specs.Jobs.{HoldsTwoFiles, Compares, made_text, made_status, HasAnswer, TaskMakes, Writes, Worked, BreaksOff, FileRefuses}
+use Rattle.life_cli.specs.Jobs.{Compares, made_text, made_status, HasAnswer, TaskMakes, Writes, Worked, BreaksOff, FileRefuses}
 use Rattle.life_cli.specs.Jobs.{by_comparing, by_reading, by_writing, by_telling, HasTextByTable, HasNoTextByTable, MadeOf}
 use Rattle.life_cli.specs.Jobs.{RefusesStep, HasTable, HasNoTable, table_by_input, table_by_lines, table_by_memory, CanonRefuses, OfFile, TaskRan, TaskRefuses}
 use Rattle.pattern_sources.proofs.SourceLemmas.{holds_more, holds_one}
+use Rattle.life_step.proofs.NeedFacts.{step-lacks}
 
 -- no text for want of memory, or with too many cells
 pub refused_lines : {X : Type 0} (source : SourceRun) (r : Result X Fault) → IfErr r (λ fault. fault ≡ fault_of Memory)
@@ -64,13 +65,6 @@ pub refused_rle : {X : Type 0} (source : SourceRun) (store : Nodes) (pattern : P
 refused_rle source store pattern (Ok x) has h = tt
 refused_rle source store pattern (Err fault) has (inl memory) = by_want (inl memory)
 refused_rle source store pattern (Err fault) has (inr many) = by_file has.bytes has.read (inr (many.0, many.1 has.bytes has.is))
-
-pub holds_two : (first second : List ℕ) (old mid new : Nodes) → held old ≡ [] → AddsFile first old mid → AddsFile second mid new
-    → HoldsTwoFiles first second new
-holds_two first second old mid new none one other t there = elim (other.each t there) [
-  | inl before ↦ inl (holds_one first old mid none one t before)
-  | inr own ↦ inr own
-]
 
 -- a fault of a kind that isn't a file's is none of a file
 pub no_file : (base : List Tree) (source : SourceRun) (store : Nodes) (fault : Fault) → RefusalsHaveKinds MAX_LEVEL → ReadRefuses MAX_LEVEL
@@ -163,14 +157,6 @@ module _ (form : Form) (first second : SourceRun) (store : Nodes) (a b : List �
       go (Err fault) (inr refuses) =
           by_form a b one two (reads.universe, reads.reads) (others.universe, others.reads) (refuses a b reads others)
 
--- what the step of a pattern needs, that of its file needs
-of_file : (needs : Rule → Tree → Type 0) (bytes : List ℕ) (store : Nodes) (pattern : Pattern) → IsRead MAX_LEVEL bytes store pattern
-    → needs pattern.rule (content store pattern.root) → (u : Universe) × Reads MAX_LEVEL bytes u × needs u.rule (whole MAX_LEVEL u)
-of_file needs bytes store pattern read of_pattern =
-    let u = read.universe in
-    let of_rule = subst (λ (rule : Rule). needs rule (content store pattern.root)) read.is.rule of_pattern in
-    (u, read.reads, subst (λ (root : Tree). needs u.rule root) read.is.root of_rule)
-
 -- Nothing comes of a pattern that isn't stepped. `Of` says of a property that a square has it which the step needs of a root under a rule.
 module _ {X : Type 0} (Of : (Tree → Type 0) → Rule → Tree → Type 0) (refuses : List ℕ → Fault → Type 0) (source : SourceRun) (empty old new : Nodes)
     (pattern : Pattern) (none : held empty ≡ []) (has : ReadsWhole (2 ^ 30) empty old source pattern) (limit : new.limit ≡ 2 ^ 31)
@@ -184,7 +170,7 @@ module _ {X : Type 0} (Of : (Tree → Type 0) → Rule → Tree → Type 0) (ref
   refused_step (Ok x) h needed = tt
   refused_step (Err fault) (inl want) needed =
       let to_file : (P : Tree → Type 0) → Of P pattern.rule (content old pattern.root)
-      → (u : Universe) × Reads MAX_LEVEL has.bytes u × Of P u.rule (whole MAX_LEVEL u) = λ P s. of_file (Of P) has.bytes old pattern has.is s in
+      → (u : Universe) × Reads MAX_LEVEL has.bytes u × Of P u.rule (whole MAX_LEVEL u) = λ P s. step-lacks (Of P) has.bytes old pattern has.is s in
       let too_small : fault ≡ fault_of Full
       → IsTooSmallToMake (IsOfFile has.bytes) (λ P. (u : Universe) × Reads MAX_LEVEL has.bytes u × Of P u.rule (whole MAX_LEVEL u)) new = λ full. record {
         distinct = distinct;

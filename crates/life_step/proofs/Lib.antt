@@ -1,6 +1,6 @@
 mod StateFacts
 mod RefusalFacts
 mod StepFacts
-mod NeedFacts
+pub mod NeedFacts
 mod Rows
 pub mod Finding

@@ -11,7 +11,7 @@ use Rattle.life_canon.specs.Laws.{FilesAreUnique, PatternsFit}
 use Rattle.life_canon.specs.Listing.{canon_text}
 use Rattle.life_canon.specs.Store.{IsRead, universe_in}
 use Rattle.life_canon.specs.Texts.{IsCanonical}
-use Rattle.life_canon.specs.Universe.{Universe, IsSame}
+use Rattle.life_canon.specs.Universe.{Universe}
 use Rattle.life_canon.specs.declared.pattern.Pattern.{Pattern}
 use Rattle.life_forms.specs.Needed.{HasLargeForm, HasLargeImage, HasLargerForm}
 use Rattle.life_forms.specs.Turns.{image}
@@ -20,10 +20,7 @@ use Rattle.pattern_sources.specs.Forms as files
 use Rattle.pattern_sources.specs.Sources.{RefusesInForm}
 use Rattle.command_line.specs.declared.plans.Form.{Form}
 use Rattle.command_line.specs.declared.plans.Form.TheVariants.{Moved, Turned}
-
--- patterns with one rule, one generation and the same cells are one
-one_universe : (u v : Universe) → IsSame u v → u ≡ v
-one_universe u v s = λ i. record { rule = s.rule i; generation = s.generation i; cell = λ x y. s.cells x y i }
+use Rattle.life_canon.proofs.Sameness.{same-is_one}
 
 -- the limit of a form in the program
 form_limit : (limit : ℕ) → limit ≡ 2 ^ 31 → min (2 ^ 21) limit ≡ 2 ^ 21
@@ -31,7 +28,7 @@ form_limit limit is = ap (λ (n : ℕ). min (2 ^ 21) n) is
 
 module _ (fit : PatternsFit MAX_LEVEL) (store : Nodes) (pattern : Pattern) where
   pub said : (bytes : List ℕ) (read : IsRead MAX_LEVEL bytes store pattern) → read.universe ≡ universe_in store pattern
-  said bytes read = one_universe read.universe (universe_in store pattern) (fit bytes store pattern read).1
+  said bytes read = same-is_one read.universe (universe_in store pattern) (fit bytes store pattern read).1
 
   -- a text of the pattern is that of its file
   pub placed_text : {X : Type 0} (items : X → List ℕ) (r : Result X Fault) → IfOk r (λ x. items x ≡ canon_text MAX_LEVEL (universe_in store pattern))

@@ -1,11 +1,12 @@
 -- The next state of a cell under a B/S rule is that of the layer below.
-use Rattle.std.proofs.Common.{◌≡◌, ℕ, ◌+◌, ◌^◌, ◌<◌, ◌≤◌, List, [], length, Bool, true, false, cond, ◌&&◌, ◌||◌, refl, ap, ◌∙◌, arith}
+use Rattle.std.proofs.Common.{◌≡◌, ℕ, ◌<◌, ◌≤◌, List, [], length, Bool, true, false, cond, ◌&&◌, ◌||◌, refl, ap, ◌∙◌, arith}
 use Rattle.std.proofs.lemmas.List.Sums.{count_by-le-length}
 use Rattle.std.specs.Prelude.{filter, ◌==◌, nat_eq, count_by, ℤ}
 use Rattle.std.specs.List.{list_any}
 use Rattle.std.proofs.lemmas.Bool.{agree_below, agree_below_at}
 use Rattle.std.proofs.lemmas.Bool.Decides.{nat_tests}
 use Rattle.life_base.proofs.RoundTrip.{all_below, all_below_at}
+use Rattle.life_base.proofs.RuleValues.{set_below_512}
 use Rattle.life_base.specs.Rules.{counts, has_digit, most_neighbours, IsLifeRule}
 use Rattle.life_base.specs.Sets.{OuterTotalistic}
 use Rattle.life_base.specs.declared.rule.Near.{Near}
@@ -36,10 +37,6 @@ ones_are around = λ i. count_by (λ state. ones_step state i) around
 not_both : (n : ℕ) → (n == 0) ≡ true → (n == 1) ≡ false
 not_both n h = grind (arith, nat_tests)
 
-small : (near : Near) (set : ℕ) → set < 2 ^ (most_neighbours near + 1) → set < 512
-small Moore set h = h
-small VonNeumann set h = omega (arith, h)
-
 -- by the state, the live neighbours and the sets
 by_count : (births survivals state count : ℕ) → births < 512 → survivals < 512 → count < 9
     → cond {A = ℕ} (list_any (λ n. n == count)
@@ -66,7 +63,7 @@ few_ones around h = let l = count_by-le-length (λ state. state == 1) around in 
 pub next_is : (rule : OuterTotalistic) → IsLifeRule rule → (cell : ℤ → ℤ → ℕ) (x y : ℤ)
     → next_life (most_neighbours rule.near) (filter (has_digit rule.sets.births) counts) (filter (has_digit rule.sets.survivals) counts) cell x y
     ≡ layer_next rule cell x y
-next_is rule valid cell x y = by rule.near (small rule.near rule.sets.births valid.births) (small rule.near rule.sets.survivals valid.survivals)
+next_is rule valid cell x y = by rule.near (set_below_512 rule.near rule.sets.births valid.births) (set_below_512 rule.near rule.sets.survivals valid.survivals)
   where
     by : (near : Near) → rule.sets.births < 512 → rule.sets.survivals < 512
         → next_life (most_neighbours near) (filter (has_digit rule.sets.births) counts) (filter (has_digit rule.sets.survivals) counts) cell x y

@@ -6,7 +6,6 @@ use Rattle.std.proofs.lemmas.Slice.Eq.{bytes_eq-Decides}
 use Rattle.std.proofs.lemmas.Bool.Decides.{leb_tells}
 use Rattle.theorems.proofs.PlaneLaw.{not_of_plane, outside_is}
 use Rattle.life_base.specs.Refusal.{fault_of}
-use Rattle.life_base.specs.declared.cell.Cell.{Cell}
 use Rattle.life_base.specs.declared.fault.Fault.{Fault}
 use Rattle.life_base.specs.declared.kind.Kind.TheVariants as kinds
 use Rattle.life_base.specs.declared.rule.Rule.{Rule as LayerRule}
@@ -25,13 +24,13 @@ use Rattle.life_canon.specs.Files.{Reads, Refuses}
 use Rattle.life_canon.specs.Store.{IsWant}
 use Rattle.life_canon.specs.Laws.{FilesAreOnPlane, FilesAreUnique}
 use Rattle.life_canon.specs.Listing.{canon_text}
-use Rattle.life_canon.specs.Texts.{AreCellsOf, IsCanonical}
+use Rattle.life_canon.specs.Texts.{IsCanonical}
 use Rattle.life_canon.specs.Universe.{Universe}
 use Rattle.life_step.specs.Stepped.{IsSteppedBy as LayerSteppedBy}
 use Rattle.life_step.specs.Refusals.{TableRefusal}
 use Rattle.life_step.specs.Refusals.{HasMoreCells as LayerMoreCells, LeavesPlane as LayerLeaves, SomeAmbiguous, IsFirstAmbiguous as LayerFirst}
 use Rattle.claims.specs.ByTable.{IsSteppedBy, HasStateBeyond, IsFirstAmbiguous, LeavesPlaneBy, IsFirstReasonBy, rule_differs, last_generation, many_cells, state_beyond, two_states, leaves_plane, IsUnsteppedBy}
-use Rattle.claims.specs.Generation.{four_around, eight_around, AreCells, HasMoreCells, decided_at}
+use Rattle.claims.specs.Generation.{four_around, eight_around, HasMoreCells, decided_at}
 use Rattle.claims.specs.Rules.{named}
 use Rattle.claims.specs.Table.{Table, becomes, decided, table_of}
 use Rattle.claims.specs.Files.{pattern_of}
@@ -40,15 +39,10 @@ use Rattle.claims.proofs.RuleLaw.{rule_in}
 use Rattle.theorems.proofs.FileLaw.{Agrees, files_agree}
 use Rattle.theorems.proofs.RefusalLaw.{refuses_agree, want_as}
 use Rattle.theorems.proofs.TextLaw.{text_of_pattern}
+use Rattle.theorems.proofs.CellsLaw.{same_cells as of_layer}
 use Rattle.step_theorems.proofs.StepLaw.{none_some, passes, same_cells, some_of}
 use Rattle.table_laws.specs.Laws.{TablesRead, TablesDecide}
 use Rattle.table_laws.specs.Tables.{IsTable, answer_in}
-
--- ---- cells
-
-cells_from : (c d : ℤ → ℤ → ℕ) (cells : List Cell) → c ≡ d → AreCellsOf d cells → AreCells c cells
-cells_from c d cells e h = subst (λ (f : ℤ → ℤ → ℕ). AreCells f cells) (sym e)
-    (record { in_order = h.in_order; true_cells = h.true_cells; all_cells = h.all_cells })
 
 -- ---- rules
 
@@ -201,7 +195,7 @@ module _ (decide : TablesDecide) (layer : LayerTable) (table : Table) (is : IsTa
       behind_rule (inl h) = as_told (fault_of kinds.GenerationTooLarge) h.1 (last_generation rule (p.generation ∙ h.0))
       behind_rule (inr (g, inl h)) =
           as_told (fault_of kinds.TooManyCells) h.1
-          (many_cells rule (λ e. g (sym p.generation ∙ e)) (h.0.0, cells_from p.pattern.cell u.cell h.0.0 cells h.0.1, h.0.2))
+          (many_cells rule (λ e. g (sym p.generation ∙ e)) (h.0.0, of_layer p.pattern.cell u.cell h.0.0 cells h.0.1, h.0.2))
       behind_rule (inr (g, inr (m, inl h))) =
           as_told (fault_of kinds.StateBeyondTable) h.1 (state_beyond rule (λ e. g (sym p.generation ∙ e)) (λ c. m (more_cells c)) (beyond h.0))
       behind_rule (inr (g, inr (m, inr (s, more)))) =

@@ -1,6 +1,6 @@
 -- What the bytes of a file say is what they say in the layer below; so the theorems of that layer speak of it.
 use Rattle.std.proofs.Common.{◌≡◌, ◌↔◌, ℕ, ◌^◌, ◌<◌, ◌≤◌, List, [], ◌∷◌, length, Bool, true, false, cond, refl, ap, ◌∙◌, sym, subst, arith, ◌⊎◌, inl, inr}
-use Rattle.std.specs.Prelude.{ℤ, codes, Some, None, Result, Ok, Err, IfOk, OnOk, IsTrue}
+use Rattle.std.specs.Prelude.{ℤ, codes, Some, None, Result, Ok, Err, IfOk, IsTrue}
 use Rattle.life_base.specs.Text.{lines_of, begins_with, is_too_long}
 use Rattle.life_base.specs.declared.kind.Kind.TheVariants as kinds
 use Rattle.life_mc.specs.Macrocell.{Macrocell}
@@ -145,10 +145,6 @@ rle_format bytes text h = ap (λ (t : List ℕ). begins_with t (codes "[M2]")) h
     by rule generation [] = refl
     by rule generation (c ∷ cells) = refl
 
-pub both_ok : {X E : Type 0} {A : Type 0} {P Q : X → Type 0} (r : Result X E) → OnOk r A → ((x : X) → A → P x → Q x) → IfOk r P → IfOk r Q
-both_ok (Ok x) a f h = f x a h
-both_ok (Err e) a f h = tt
-
 -- no file with which a canonical text is compared has fewer node lines
 pub text_is_least : FilesAreOnPlane 62 → (a s : List ℕ) → IsLeastText 62 a s → (rival : List ℕ) → IsRival a rival → node_lines s ≤ node_lines rival
 text_is_least on_plane a s l rival r =
@@ -177,7 +173,3 @@ text_is_least on_plane a s l rival r =
 pub map_ok : {X E : Type 0} {P Q : X → Type 0} (r : Result X E) → ((x : X) → P x → Q x) → IfOk r P → IfOk r Q
 map_ok (Ok x) f h = f x h
 map_ok (Err e) f h = tt
-
-pub map_two : {X E : Type 0} {P Q R : X → Type 0} (r : Result X E) → ((x : X) → P x → Q x → R x) → IfOk r P → IfOk r Q → IfOk r R
-map_two (Ok x) f h k = f x h k
-map_two (Err e) f h k = tt

@@ -4,6 +4,7 @@ use Rattle.std.specs.Prelude.{Result, Ok, Err}
 use Rattle.std.proofs.lemmas.Bool.{cases_Bool}
 use Rattle.life_base.proofs.ReadBack.{rules_read_back}
 use Rattle.life_base.proofs.RuleValues.{rule_values}
+use Rattle.life_base.proofs.Results.{ok_same}
 use Rattle.life_base.specs.Numbers.{result_map}
 use Rattle.life_base.specs.Text.{lines_of}
 use Rattle.life_base.specs.Rules.{rule_of as layer_rule_of, rule_text as layer_text}
@@ -25,11 +26,8 @@ use Rattle.theorems.proofs.FileLaw.{files_agree, ok_of, as_mc, as_rle_lines}
 use Rattle.theorems.proofs.PlaneLaw.{not_of_plane, outside_is}
 use Rattle.theorems.proofs.ShownLaw.{rule_text_is}
 
-ok_is : (r : Result Rule Kind) (a b : Rule) → r ≡ Ok a → r ≡ Ok b → a ≡ b
-ok_is r a b e f = cc
-
 rule_back : (r : Result LayerRule Kind) (rule : Rule) → result_map rule_in r ≡ Ok rule → (one : LayerRule) × (r ≡ Ok one) × (rule_in one ≡ rule)
-rule_back (Ok one) rule e = (one, refl, ok_is (Ok (rule_in one)) (rule_in one) rule refl e)
+rule_back (Ok one) rule e = (one, refl, ok_same (Ok (rule_in one)) (rule_in one) rule refl e)
 rule_back (Err kind) rule e = cc
 
 pub have_files : TextsAreFiles 62 → PatternsHaveFiles

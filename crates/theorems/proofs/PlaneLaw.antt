@@ -5,13 +5,11 @@ use Rattle.std.proofs.lemmas.Int.{ints}
 use Rattle.std.proofs.lemmas.Bool.{and_from, true≢false}
 use Rattle.life_canon.specs.Universe.{IsWithin, corner}
 use Rattle.claims.specs.Pattern.{is_coordinate}
-
-within : (x : ℤ) (h : ℕ) → neg_ℤ (pos h) ≤ℤ x → x <ℤ pos h → (int_le (neg_ℤ (pos h)) x && int_lt x (pos h)) ≡ true
-within x h l m = grind (arith, ints)
+use Rattle.life_base.proofs.Basics.{within_span}
 
 coordinate : (x : ℤ) → IsWithin 62 x → is_coordinate x ≡ true
 unfolding corner
-coordinate x h = within x (2 ^ 61) h.0 h.1
+coordinate x h = within_span x (2 ^ 61) h.0 h.1
 
 -- a pair that is not of the plane
 pub not_of_plane : (x y : ℤ) → (is_coordinate x && is_coordinate y) ≡ false → IsWithin 62 x × IsWithin 62 y → ⊥

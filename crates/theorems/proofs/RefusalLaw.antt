@@ -24,14 +24,7 @@ use Rattle.claims.proofs.McFile.{macrocell_refuses}
 use Rattle.claims.proofs.RleFile.{rle_refuses, rle_lacks, begun}
 use Rattle.claims.proofs.Running.{cut_at}
 use Rattle.theorems.proofs.FileLaw.{files_agree, as_mc, as_rle_lines, mc_first, rle_first}
-
-contra : (v : Bool) → v ≡ true → v ≡ false → ⊥
-contra true e f = cc
-contra false e f = cc
-
--- the format of lines is that of their first one
-same_format : (line : List ℕ) (lines more : List (List ℕ)) → is_macrocell ((line ∷ lines) ++ more) ≡ is_macrocell (line ∷ lines)
-same_format line lines more = refl
+use Rattle.life_base.proofs.Basics.{true_false}
 
 front_format : (lines : List (List ℕ)) (k : ℕ) → k < length lines → is_macrocell (take k lines ++ slice_index_or lines k [] ∷ []) ≡ is_macrocell lines
 front_format [] k h = absurd (omega arith)
@@ -80,14 +73,11 @@ unbroken front line m p = by (p.1.0) (p.1.1)
         (index_seam front (kept p.0 continuations) line))
         ∙ are.unbroken (length front) (length_seam front (kept p.0 continuations) line)
     by _ (as_rle file is) =
-        absurd (contra (is_macrocell (front ++ line ∷ [])) m (sym (format front (kept p.0 continuations) line)
+        absurd (true_false (is_macrocell (front ++ line ∷ [])) m (sym (format front (kept p.0 continuations) line)
         ∙ rle_first ((front ++ line ∷ []) ++ kept p.0 continuations) file is))
 
 fault_is : (fault : Fault) (n : ℕ) → fault.place.line ≡ min n (2 ^ 64 - 1) → fault_at n fault.kind ≡ fault
 fault_is fault n e = ap (λ l. record { place = record { line = l }; kind = fault.kind }) (sym e)
-
-chosen : (v w : Bool) (P Q : Type 0) → v ≡ w → MatchBool v P Q → MatchBool w P Q
-chosen v w P Q e h = subst (λ b. MatchBool b P Q) e h
 
 when_true : (v : Bool) (P Q : Type 0) → v ≡ true → MatchBool v P Q → P
 when_true true P Q e h = h
@@ -159,7 +149,7 @@ module _ (bytes : List ℕ) (fault : Fault) (r : Refuses 62 bytes fault) where
               ∙ ap is_macrocell (sym h.whole) ∙ m
 
           at : (u : Universe) → Says 62 (lines_of bytes ++ kept whole.0 continuations) u → ⊥
-          at _ (as_macrocell file are) = contra (is_macrocell (lines_of bytes ++ kept whole.0 continuations))
+          at _ (as_macrocell file are) = true_false (is_macrocell (lines_of bytes ++ kept whole.0 continuations))
               (mc_first (lines_of bytes ++ kept whole.0 continuations) file are) format
           at _ (as_rle file is) = (broken_for_good 62 h.front h.line h.kind h.breaks).2 (h.rest ++ kept whole.0 continuations) file
               (subst (λ (t : List (List ℕ)). IsRle 62 t file) parts is)

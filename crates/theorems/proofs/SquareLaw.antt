@@ -18,6 +18,8 @@ use Rattle.life_canon.specs.Listing.{walk as tree_walk}
 use Rattle.claims.specs.Canonical.{Square, point, quarters, square_at, square_level, is_blank_square, same_square, walk, first_visits, child_number, state_rows, leaf_row, square_line}
 use Rattle.claims.proofs.Bits.{all_over, all_over_at, bit}
 use Rattle.claims.proofs.RuleLaw.{rule_in}
+use Rattle.life_base.proofs.Squares.{same_quads}
+use Rattle.life_base.proofs.Basics.{equal_swapped}
 
 abbrev pub tree : Square → Tree
 tree (point state) = tree_point state
@@ -29,13 +31,10 @@ pub data HasLevel (most : ℕ) : ℕ → Square → Type 0 where
   quarters_level : {level : ℕ} {nw ne sw se : Square} → HasLevel most level nw → HasLevel most level ne → HasLevel most level sw → HasLevel most level se
       → HasLevel most (suc level) (quarters nw ne sw se)
 
-joined : {a b c d e f g h : Tree} → a ≡ e → b ≡ f → c ≡ g → d ≡ h → quad a b c d ≡ quad e f g h
-joined p q r s = cc
-
 pub square_is : (f : ℤ → ℤ → ℕ) (level : ℕ) (x y : ℤ) → tree (square_at f level x y) ≡ square f level x y
 unfolding square
 square_is f zero x y = refl
-square_is f (suc level) x y = joined (square_is f level x y) (square_is f level _ _) (square_is f level _ _) (square_is f level _ _)
+square_is f (suc level) x y = same_quads (square_is f level x y) (square_is f level _ _) (square_is f level _ _) (square_is f level _ _)
 
 pub level_at : (f : ℤ → ℤ → ℕ) (most : ℕ) → ((x y : ℤ) → f x y ≤ most) → (level : ℕ) (x y : ℤ) → HasLevel most level (square_at f level x y)
 level_at f most few zero x y = point_level (few x y)
@@ -56,11 +55,8 @@ blank_is : (s : Square) → is_blank_square s ≡ is_blank_tree (tree s)
 blank_is (point state) = refl
 blank_is (quarters a b c d) = λ i. blank_is a i && blank_is b i && blank_is c i && blank_is d i
 
-swapped : (a b : ℕ) → (a == b) ≡ (b == a)
-swapped a b = grind (arith, nat_tests)
-
 equal_is : (s t : Square) → same_square s t ≡ same_tree (tree t) (tree s)
-equal_is (point a) (point b) = swapped a b
+equal_is (point a) (point b) = equal_swapped a b
 equal_is (point a) (quarters e f g h) = refl
 equal_is (quarters a b c d) (point e) = refl
 equal_is (quarters a b c d) (quarters e f g h) = λ i. equal_is a e i && equal_is b f i && equal_is c g i && equal_is d h i

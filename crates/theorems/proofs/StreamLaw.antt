@@ -1,6 +1,6 @@
 -- What a run from a source to a sink leaves, where both tell their bytes.
 use Rattle.std.proofs.Common.{◌≡◌, ℕ, ◌+◌, ◌^◌, ◌<◌, ◌≤◌, List, [], ◌++◌, length, length-append, ap, ◌∙◌, sym, subst, arith}
-use Rattle.std.specs.Prelude.{Option, Some, None, Result, Ok, Err, OnOk}
+use Rattle.std.specs.Prelude.{Option, Some, None}
 use Rattle.std.specs.Io.KnownBytes.{Appends, Consumes, IsAtEnd}
 use Rattle.std.proofs.lemmas.List.{append-nil}
 use Rattle.life_base.specs.DeviceRuns.{SourceRun, SinkRun}
@@ -76,10 +76,6 @@ stream_fault store source sink bytes fault (by_reading (by_source k h)) e =
     subst (IsStreamFault bytes source.failures sink.failures sink.stalled) (sym k) (unread h)
 stream_fault store source sink bytes fault (by_writing k h) e =
     subst (IsStreamFault bytes source.failures sink.failures sink.stalled) (sym k) (unwritten h.cause)
-
-pub map_on : {X E : Type 0} {A B : Type 0} (r : Result X E) → (A → B) → OnOk r A → OnOk r B
-map_on (Ok x) f h = f h
-map_on (Err e) f h = tt
 
 -- two canonical texts of one file are one
 pub one_text : FilesAreUnique 62 → (bytes s t : List ℕ) → IsCanonical 62 bytes s → IsCanonical 62 bytes t → s ≡ t

@@ -1,5 +1,5 @@
 -- The canonical text of a pattern is that of the layers.
-use Rattle.std.proofs.Common.{◌≡◌, ℕ, zero, suc, ◌+◌, ◌-◌, ◌^◌, ◌<◌, ◌≤◌, List, [], ◌++◌, map, Bool, true, ◌&&◌, refl, ap, ◌∙◌, sym, subst, arith, ◌⊎◌, inl, inr}
+use Rattle.std.proofs.Common.{◌≡◌, ℕ, zero, suc, ◌+◌, ◌^◌, ◌<◌, ◌≤◌, List, [], ◌++◌, map, true, ◌&&◌, refl, ap, ◌∙◌, sym, subst, arith, ◌⊎◌, inl, inr}
 use Rattle.std.specs.Prelude.{ℤ, pos, neg_ℤ, ◌+ℤ◌, ◌≤ℤ◌, ◌<ℤ◌, int_le, int_lt, codes, flat_map}
 use Rattle.std.proofs.lemmas.Int.{ints}
 use Rattle.std.proofs.lemmas.Bool.{and_from, cases_Bool, true≢false}
@@ -26,6 +26,7 @@ use Rattle.theorems.proofs.CellsLaw.{same_cells}
 use Rattle.theorems.proofs.FileLaw.{files_agree}
 use Rattle.theorems.proofs.ShownLaw.{rule_text_is}
 use Rattle.theorems.proofs.SquareLaw.{tree, HasLevel, square_is, level_at, walk_is, visits_are, walk_has, visits_have, lines_are}
+use Rattle.life_base.proofs.Basics.{within_span, right_of_and, left_of_and, double, less_one}
 
 -- ---- the text of a square
 
@@ -51,17 +52,11 @@ text_is rule generation s h =
 
 -- ---- the plane
 
-less_one : (k : ℕ) → suc k - 1 ≡ k
-less_one k = omega arith
-
 middle_is : (f : ℤ → ℤ → ℕ) (k : ℕ) → tree (middle_square f (suc k)) ≡ centred f (suc k)
 unfolding centred corner
 middle_is f k =
     ap (λ n. tree (square_at f (suc k) (neg_ℤ (pos (2 ^ n))) (neg_ℤ (pos (2 ^ n))))) (less_one k) ∙ square_is f (suc k) (neg_ℤ (pos (2 ^ k)))
     (neg_ℤ (pos (2 ^ k)))
-
-twice : (k : ℕ) → 2 ^ suc k ≡ 2 ^ k + 2 ^ k
-twice k = omega arith
 
 west_of : (x : ℤ) (h : ℕ) → (int_le (neg_ℤ (pos h)) x && int_lt x (pos h)) ≡ true → neg_ℤ (pos h) ≤ℤ x
 west_of x h e = grind (arith, ints, e)
@@ -75,27 +70,18 @@ side x h m e l = omega (arith, ints, e, l)
 side_back : (x : ℤ) (h m : ℕ) → m ≡ h + h → x <ℤ (neg_ℤ (pos h) +ℤ pos m) → x <ℤ pos h
 side_back x h m e l = omega (arith, ints, e, l)
 
-both_of : (x : ℤ) (h : ℕ) → neg_ℤ (pos h) ≤ℤ x → x <ℤ pos h → (int_le (neg_ℤ (pos h)) x && int_lt x (pos h)) ≡ true
-both_of x h l m = grind (arith, ints)
-
 to_within : (k : ℕ) (x : ℤ) → is_in_middle (suc k) x ≡ true → IsWithin (suc k) x
 unfolding corner
 to_within k x e =
     let h : (int_le (neg_ℤ (pos (2 ^ k))) x && int_lt x (pos (2 ^ k))) ≡ true =
     sym (ap (λ n. int_le (neg_ℤ (pos (2 ^ n))) x && int_lt x (pos (2 ^ n))) (less_one k)) ∙ e in
-    (west_of x (2 ^ k) h, side x (2 ^ k) (2 ^ suc k) (twice k) (east_of x (2 ^ k) h))
+    (west_of x (2 ^ k) h, side x (2 ^ k) (2 ^ suc k) (double k) (east_of x (2 ^ k) h))
 
 from_within : (k : ℕ) (x : ℤ) → IsWithin (suc k) x → is_in_middle (suc k) x ≡ true
 unfolding corner
 from_within k x w =
     ap (λ n. int_le (neg_ℤ (pos (2 ^ n))) x && int_lt x (pos (2 ^ n))) (less_one k)
-    ∙ both_of x (2 ^ k) w.0 (side_back x (2 ^ k) (2 ^ suc k) (twice k) w.1)
-
-and_left : (a b : Bool) → (a && b) ≡ true → a ≡ true
-and_left a b h = grind arith
-
-and_right : (a b : Bool) → (a && b) ≡ true → b ≡ true
-and_right a b h = grind arith
+    ∙ within_span x (2 ^ k) w.0 (side_back x (2 ^ k) (2 ^ suc k) (double k) w.1)
 
 holds_all : (f : ℤ → ℤ → ℕ) (k : ℕ) → IsBlankOutside (suc k) f → HoldsAllCells f (suc k)
 holds_all f k outside x y e =
@@ -103,7 +89,7 @@ holds_all f k outside x y e =
 
 outside_all : (f : ℤ → ℤ → ℕ) (k : ℕ) → HoldsAllCells f (suc k) → IsBlankOutside (suc k) f
 outside_all f k holds x y never = elim (cases_Bool (is_in_middle (suc k) x && is_in_middle (suc k) y)) [
-  | inl e ↦ absurd (never (to_within k x (and_left (is_in_middle (suc k) x) _ e), to_within k y (and_right (is_in_middle (suc k) x) _ e)))
+  | inl e ↦ absurd (never (to_within k x (left_of_and (is_in_middle (suc k) x) _ e), to_within k y (right_of_and (is_in_middle (suc k) x) _ e)))
   | inr e ↦ holds x y e
 ]
 

@@ -3,8 +3,9 @@ use Rattle.std.proofs.lemmas.Result.{err_from_is_err_and}
 use Rattle.life_base.specs.Writing.{WritesPrefix, WritesText}
 use Rattle.life_base.proofs.WritingLemmas.{prefix-grows}
 use Rattle.file_keys.specs.Json.{json_text}
-use Rattle.file_keys.proofs.JsonLemmas.{text_both, then_text}
+use Rattle.file_keys.proofs.JsonLemmas.{text_both}
 use Rattle.file_keys.proofs.json.write_both.Goals as goal
+use Rattle.file_keys.proofs.KeyLines.{then_text}
 
 pub returns-in_err-write_string-clause-text : goal.returns-in_err-write_string-clause-text
 returns-in_err-write_string-clause-text g c =
