@@ -4,6 +4,7 @@ use Rattle.std.specs.Prelude.{◌==◌}
 use Rattle.std.specs.Int.{bit_at, to_be_bytes}
 use Rattle.life_base.specs.Tree.{Tree, point, quad}
 use Rattle.life_base.proofs.RoundTrip.{all_below, all_below_at}
+use Rattle.life_base.proofs.Basics.{left_of_and, right_of_and}
 use Rattle.life_lanes.specs.Places.{place_in, place_in_leaf}
 use Rattle.life_lanes.proofs.PlaceLemmas.{equal}
 use Rattle.life_lanes.proofs.WordLemmas.{bit-mod, bit-shr}
@@ -132,14 +133,6 @@ place_test half y i =
 each_place : all_below 2 (λ half. all_below 4 (λ y. all_below 4 (place_test half y))) ≡ true
 each_place = refl
 
-first : (a b : Bool) → (a && b) ≡ true → a ≡ true
-first true b h = refl
-first false b h = cc
-
-second : (a b : Bool) → (a && b) ≡ true → b ≡ true
-second true b h = h
-second false b h = cc
-
 module _ (word cells : ℕ) (order : (r i : ℕ) → r < 8 → i < 8 → bit_at word (63 - (8 * r + i)) ≡ bit_at cells (63 - place_in_leaf r i)) where
   module _ (half y : ℕ) (lh : half < 2) (ly : y < 4) where
     tested : (i : ℕ) → i < 4 → place_test half y i ≡ true
@@ -156,10 +149,10 @@ module _ (word cells : ℕ) (order : (r i : ℕ) → r < 8 → i < 8 → bit_at 
         bit-shr word (8 * (7 - (4 * half + y))) (7 - i) ∙ ap (bit_at word) at ∙ order (4 * half + y) i (omega (arith, lh, ly)) li
 
     western : (i : ℕ) → i < 4 → bit_at cells (63 - place_in_leaf row i) ≡ bit_at (cells / 2 ^ (48 - 32 * half) % 2 ^ 16) (15 - place_in y i)
-    western i li = ap (bit_at cells) (equal _ _ (first _ _ (tested i li))) ∙ sym (sixteenth cells (48 - 32 * half) (place_in y i))
+    western i li = ap (bit_at cells) (equal _ _ (left_of_and _ _ (tested i li))) ∙ sym (sixteenth cells (48 - 32 * half) (place_in y i))
 
     eastern : (i : ℕ) → i < 4 → bit_at cells (63 - place_in_leaf row (4 + i)) ≡ bit_at (cells / 2 ^ (32 - 32 * half) % 2 ^ 16) (15 - place_in y i)
-    eastern i li = ap (bit_at cells) (equal _ _ (second _ _ (tested i li))) ∙ sym (sixteenth cells (32 - 32 * half) (place_in y i))
+    eastern i li = ap (bit_at cells) (equal _ _ (right_of_and _ _ (tested i li))) ∙ sym (sixteenth cells (32 - 32 * half) (place_in y i))
 
     row-of_squares : word / 2 ^ (8 * (7 - row)) % 256 ≡ 16 * row_of_four (square_in cells (48 - 32 * half)) y + row_of_four (square_in cells (32 - 32 * half)) y
     row-of_squares =

@@ -8,6 +8,7 @@ use Rattle.std.proofs.lemmas.Bool.Decides.{nat_tests}
 use Rattle.std.proofs.lemmas.Int.{ints}
 use Rattle.life_base.specs.Tree.{Tree, point, quad, depth, state_at, half_side, tree_cell, IsFull, is_blank_tree as is_blank}
 use Rattle.life_mc.specs.Squares.{HasStatesUpTo}
+use Rattle.life_quad.proofs.TurningLemmas.{four-true}
 use Rattle.life_quad.specs.Moves.{trim_up_to, can_trim, outer, inner, trimmed}
 use Rattle.life_canon.specs.Universe.{corner, centred, IsBlankOutside}
 use Rattle.life_canon.proofs.TreeWords.{HasDepth, point_depth, quad_depth, StatesBelow, middle, has_blank_border, trim_times, trimmed_to}
@@ -129,9 +130,6 @@ low_place : (n i : ℕ) → i < n + n → (int_le (neg_ℤ (pos n)) (neg_ℤ (po
 low_place n i h =
     (grind (arith, ints), grind (arith, ints), let e : (neg_ℤ (pos n) +ℤ pos i) +ℤ pos n ≡ pos i = omega (arith, ints) in ap unsigned_abs e)
 
-four_true : (a b c d : Bool) → a ≡ true → b ≡ true → c ≡ true → d ≡ true → (a && b && c && d) ≡ true
-four_true a b c d p q r s = grind arith
-
 half-of : (t : Tree) (k : ℕ) → depth t ≡ suc k → half_side t ≡ 2 ^ k
 half-of t k e = let one : suc k - 1 ≡ k = omega arith in ap (λ n. 2 ^ (n - 1)) e ∙ ap (λ n. 2 ^ n) one
 
@@ -143,7 +141,7 @@ tree_cell-at t n i j e p q =
     let x : ℤ = neg_ℤ (pos n) +ℤ pos i in
     let y : ℤ = neg_ℤ (pos n) +ℤ pos j in
     rw e
-    (cond-true (int_le (neg_ℤ (pos n)) x && int_lt x (pos n) && int_le (neg_ℤ (pos n)) y && int_lt y (pos n)) _ _ (four_true _ _ _ _ a.0 a.1 b.0 b.1)
+    (cond-true (int_le (neg_ℤ (pos n)) x && int_lt x (pos n) && int_le (neg_ℤ (pos n)) y && int_lt y (pos n)) _ _ (four-true _ _ _ _ a.0 a.1 b.0 b.1)
     ∙ ap (λ v. state_at t v (unsigned_abs (y +ℤ pos n))) a.2 ∙ ap (state_at t i) b.2)
 
 -- the square of the cells of a square is that square

@@ -23,8 +23,9 @@ use Rattle.life_canon.specs.Needs.{SomeOfLine, SomeOfLines, of_node_line}
 use Rattle.life_canon.specs.Waiting.{AreTreesOf, AreKeptOf, IsOfNodeLine, IsQuarterOfOne, KeepsLines, NamesFirst}
 use Rattle.life_canon.specs.declared.progress.TheConstants.{MOST_WAITING}
 use Rattle.life_canon.proofs.GrowFacts.{get-first, get-within, line-stays, tree-stays, trees-grow}
-use Rattle.life_canon.proofs.LineFacts.{less_one, square-valid, valid-square}
+use Rattle.life_canon.proofs.LineFacts.{square-valid, valid-square}
 use Rattle.life_canon.proofs.LineWords.{IsChild, IsQuarter, IsValidLine}
+use Rattle.life_base.proofs.Basics.{less_one}
 
 -- the Ids that are kept
 abbrev pub IsKeptId : List Id → List Quarters → Id → Type 0

@@ -116,7 +116,7 @@ one-blank true false a b c d p q r s = q
 one-blank false true a b c d p q r s = r
 one-blank true true a b c d p q r s = s
 
-four-true : (p q r s : Bool) → p ≡ true → q ≡ true → r ≡ true → s ≡ true → (p && q && r && s) ≡ true
+pub four-true : (p q r s : Bool) → p ≡ true → q ≡ true → r ≡ true → s ≡ true → (p && q && r && s) ≡ true
 four-true p q r s ep eq er es = rw (ep, eq, er, es)
 
 blank-stays : (turn : Turn) (t : Tree) → is_blank_tree t ≡ true → is_blank_tree (turned_tree turn t) ≡ true

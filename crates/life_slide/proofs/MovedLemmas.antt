@@ -50,36 +50,6 @@ square-from f a b (suc k) x y =
     (ap (λ v. square_from f k (x +ℤ a) v) ey ∙ square-from f a b k x (ahead y d))
     ((λ i. square_from f k (ex i) (ey i)) ∙ square-from f a b k (ahead x d) (ahead y d))
 
--- ---- the whole of a plane is in a square that is a piece of it, where all is 0 outside
-
-pub cells-of_root : (cells : ℤ → ℤ → ℕ) (r : Tree) (start : ℤ) → IsFull r → 1 ≤ depth r → start ≡ corner r → IsPiece cells start start r
-    → ((x y : ℤ) → (Inside (half_side r) x y → ⊥) → cells x y ≡ 0) → (x y : ℤ) → tree_cell r x y ≡ cells x y
-cells-of_root cells r start full high begin piece outside x y = by (is_inside (half_side r) x y) refl
-  where
-    whole : half_side r + half_side r ≡ 2 ^ depth r
-    whole = side (depth r) high
-
-    by : (b : Bool) → is_inside (half_side r) x y ≡ b → tree_cell r x y ≡ cells x y
-    by true e =
-        let k = inside_facts (half_side r) x y e in
-        let a = inside_offset (half_side r) x k.west k.east in
-        let b = inside_offset (half_side r) y k.north k.south in
-        let at-x = a.1 in
-        let at-y = b.1 in
-        let ex : corner r +ℤ pos a.0 ≡ x = omega (arith, ints, at-x) in
-        let ey : corner r +ℤ pos b.0 ≡ y = omega (arith, ints, at-y) in
-        cell_inside r x y a.0 b.0 e a.1 b.1 ∙ cells-of_piece cells r (corner r) (corner r) full
-        (IsPiece-moved cells _ _ _ _ r begin begin piece) a.0 b.0 (omega (arith, whole, a.2)) (omega (arith, whole, b.2))
-        ∙ (λ z. cells (ex z) (ey z))
-    by false e = cell_outside r x y e ∙ sym (outside x y (λ i. true≢false (sym (inside_test (half_side r) x y i) ∙ e)))
-
-pub less-or-not : (a b : ℕ) → (a < b) ⊎ (b ≤ a)
-less-or-not a b = grind arith
-
-zero-unless : (n : ℕ) → (n ≢ 0 → ⊥) → n ≡ 0
-zero-unless zero h = refl
-zero-unless (suc n) h = absurd (h (λ e. omega (arith, e)))
-
 -- ---- squares of planes without states above 255
 
 one-below : (v w : Bool) (p q r s : ℕ) → p < 256 → q < 256 → r < 256 → s < 256 → (if v then (if w then p else q) else (if w then r else s)) < 256

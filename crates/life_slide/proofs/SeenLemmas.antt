@@ -3,6 +3,8 @@ use Rattle.std.proofs.Common.{◌≡◌, ℕ, zero, suc, ◌+◌, ◌^◌, ◌<�
 use Rattle.std.specs.Prelude.{if◌then◌else◌, int_lt}
 use Rattle.std.proofs.lemmas.Int.{ints, by_lt_z}
 use Rattle.life_base.specs.Tree.{Tree, point, depth, blank, IsFull}
+use Rattle.life_base.proofs.Basics.{lt-int_lt}
+use Rattle.life_base.proofs.Squares.{same_quads}
 use Rattle.life_quad.specs.declared.id.Id.{Id}
 use Rattle.life_quad.specs.declared.moves.Quarters.{Quarters}
 use Rattle.life_block.specs.Needed.{square_from}
@@ -28,9 +30,6 @@ square-agrees f g (suc k) x y h =
     (square-agrees f g k _ _ (λ u v a b c d.
     h u v (omega (arith, ints, a)) (omega (arith, ints, b, double)) (omega (arith, ints, c)) (omega (arith, ints, d, double))))
 
-before-test : (u m : ℤ) → u <ℤ m → int_lt u m ≡ true
-before-test u m h = grind (arith, ints, h)
-
 behind-test : (u m : ℤ) → m ≤ℤ u → int_lt u m ≡ false
 behind-test u m h = grind (arith, ints, h)
 
@@ -42,19 +41,19 @@ module _ (f : ℤ → ℤ → ℕ) (nw ne sw se : Bool) (x y : ℤ) (side : ℕ)
 
   pub in-nw : (u v : ℤ) → u <ℤ ahead x side → v <ℤ ahead y side → kept_cells u v ≡ (if nw then f u v else 0)
   in-nw u v h k =
-      let a = before-test u (ahead x side) h in
-      let b = before-test v (ahead y side) k in
+      let a = lt-int_lt u (ahead x side) h in
+      let b = lt-int_lt v (ahead y side) k in
       (λ i. if (if b i then (if a i then nw else ne) else (if a i then sw else se)) then f u v else 0)
 
   pub in-ne : (u v : ℤ) → ahead x side ≤ℤ u → v <ℤ ahead y side → kept_cells u v ≡ (if ne then f u v else 0)
   in-ne u v h k =
       let a = behind-test u (ahead x side) h in
-      let b = before-test v (ahead y side) k in
+      let b = lt-int_lt v (ahead y side) k in
       (λ i. if (if b i then (if a i then nw else ne) else (if a i then sw else se)) then f u v else 0)
 
   pub in-sw : (u v : ℤ) → u <ℤ ahead x side → ahead y side ≤ℤ v → kept_cells u v ≡ (if sw then f u v else 0)
   in-sw u v h k =
-      let a = before-test u (ahead x side) h in
+      let a = lt-int_lt u (ahead x side) h in
       let b = behind-test v (ahead y side) k in
       (λ i. if (if b i then (if a i then nw else ne) else (if a i then sw else se)) then f u v else 0)
 

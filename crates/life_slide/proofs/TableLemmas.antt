@@ -3,12 +3,12 @@ use Rattle.std.proofs.Common.{◌≡◌, ◌⊎◌, inl, inr, ℕ, ◌+◌, ◌<
 use Rattle.std.proofs.lemmas.List.{get_or_append_left}
 use Rattle.std.proofs.lemmas.Option.{slice_get-get_or, slice_get_within, same_Some}
 use Rattle.std.proofs.Math.Seq.{get_or-append_seam}
+use Rattle.std.proofs.lemmas.Bool.{cases_lt}
 use Rattle.life_base.specs.Tree.{Tree}
 use Rattle.life_quad.specs.declared.id.Id.{Id}
 use Rattle.life_slide.specs.declared.margins.Margins.{Margins}
 use Rattle.life_slide.specs.declared.margins.MarginTable.{MarginTable}
 use Rattle.life_slide.specs.Margins.{AreMargins, AreMarginsOf}
-use Rattle.life_slide.proofs.MovedLemmas.{less-or-not}
 
 pub get-front : {X : Type 0} (xs : List X) (x : X) (i : ℕ) → i < length xs → slice_get (xs ++ x ∷ []) i ≡ slice_get xs i
 get-front xs x i h =
@@ -57,7 +57,7 @@ module _ (content : Id → Tree) (old new : MarginTable) (h : AreMargins content
             omega (arith, b, l, number);
         right = λ i q n a b.
             each i q n (sym (ap (λ ids. slice_get ids i) e) ∙ a) (sym (ap (λ ms. slice_get ms i) f) ∙ b)
-            (less-or-not i (length old.margins.items));
+            (cases_lt i (length old.margins.items));
       }
     where
       count : length old.numbers.ids ≡ length old.margins.items
