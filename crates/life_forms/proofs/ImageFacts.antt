@@ -95,7 +95,7 @@ line-itself : (e : Bool) (x : ℤ) → line e x x ≡ x
 line-itself false x = refl
 line-itself true x = refl
 
-turned-centred : (turn : Turn) (cell : ℤ → ℤ → ℕ) (k : ℕ) → 1 ≤ k → turned_tree turn (centred cell k) ≡ centred (image_cells turn cell) k
+pub turned-centred : (turn : Turn) (cell : ℤ → ℤ → ℕ) (k : ℕ) → 1 ≤ k → turned_tree turn (centred cell k) ≡ centred (image_cells turn cell) k
 unfolding centred
 turned-centred turn cell k high =
     let side = λ (b : Bool). ap (begin b k) (line-itself turn.exchange (corner k)) ∙ begin-corner b k high in

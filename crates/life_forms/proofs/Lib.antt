@@ -9,5 +9,6 @@ pub mod ImageFacts
 pub mod PatternFacts
 pub mod MovedFacts
 pub mod TextFacts
+pub mod TransposeFacts
 pub mod RefusalFacts
 pub mod ComparingFacts

@@ -1,16 +1,13 @@
 -- The least of the texts of eight images is that of the turned form.
-use Rattle.std.proofs.Common.{◌≡◌, ◌⊎◌, inl, inr, ℕ, ◌+◌, ◌<◌, ◌≤◌, List, refl, sym, ap, ◌∙◌, subst, arith}
-use Rattle.std.proofs.lemmas.Bool.Decides.{nat_tests}
-use Rattle.std.proofs.lemmas.Option.{get_or_from_slice_get, slice_get-get_or}
-use Rattle.life_canon.specs.Lesser.{IsUpTo}
+use Rattle.std.proofs.Common.{◌≡◌, ◌⊎◌, inl, inr, ℕ, ◌≤◌, Bool, true, false, List, refl, sym, ap, ◌∙◌, subst}
+use Rattle.life_canon.specs.Lesser.{IsLesserText, IsUpTo}
 use Rattle.life_canon.specs.Listing.{canon_text}
 use Rattle.life_canon.specs.Universe.{Universe, IsSame, IsBlankOutside}
-use Rattle.life_canon.proofs.OrderFacts.{up-to-itself, up-to-on}
-use Rattle.life_forms.specs.Turns.{Turn, image, turns, upright}
-use Rattle.life_forms.specs.Forms.{IsMoved}
+use Rattle.life_canon.proofs.OrderFacts.{up-to-on}
+use Rattle.life_forms.specs.Turns.{Turn, image, turn_of}
 use Rattle.life_forms.specs.Needed.{HasLargerForm}
-use Rattle.life_forms.specs.Images.{IsImageText, IsLeastOfFirst, IsLesserImageText, IsTurnedText, numbered}
-use Rattle.life_forms.proofs.TurnFacts.{turns-are-eight, image-outside}
+use Rattle.life_forms.specs.Images.{AreSmall, IsImageText, IsLeastOfTwo, IsLesserOfTwo, IsTurnedText}
+use Rattle.life_forms.proofs.TurnFacts.{image-outside}
 use Rattle.life_forms.proofs.ShiftFacts.{same-refl, still, forms-of-shifts}
 
 -- patterns that are the same have one text, on the plane or not
@@ -27,80 +24,85 @@ one-text top u some outside turn a b first second =
     (still _ _ (same-refl (image turn u))))
     ∙ sym second.is
 
-pub first-text : (top : ℕ) (u : Universe) → 1 ≤ top → IsBlankOutside top u.cell → (text : List ℕ) → IsImageText top u (numbered 0) text
-    → IsLeastOfFirst top u 1 text
-first-text top u some outside text is = record {
-  turn = numbered 0;
-  of_image = is;
-  least = λ k other low also. first k other low also;
-}
-  where
-    first : (k : ℕ) (other : List ℕ) → k < 1 → IsImageText top u (numbered k) other → IsUpTo text other
-    first k other low also =
-        let none : k ≡ 0 = omega arith in
-        let here = subst (λ (n : ℕ). IsImageText top u (numbered n) other) none also in
-        subst (λ (t : List ℕ). IsUpTo text t) (one-text top u some outside (numbered 0) text other is here) (up-to-itself text)
+module _ (top : ℕ) (u : Universe) (some : 1 ≤ top) (outside : IsBlankOutside top u.cell) where
+  -- the text is no greater than each text of this image
+  up-to-image : (turn : Turn) (text a : List ℕ) → IsImageText top u turn a → IsUpTo text a → (other : List ℕ) → IsImageText top u turn other → IsUpTo text other
+  up-to-image turn text a is up other also = subst (λ (t : List ℕ). IsUpTo text t) (one-text top u some outside turn a other is also) up
 
-earlier : (n k : ℕ) → k < n + 1 → (k < n) ⊎ (k ≡ n)
-earlier n k low = grind (arith, nat_tests)
+  module _ (columns rows : Bool) (a b : List ℕ) (of_image : IsImageText top u (turn_of false columns rows) a)
+      (exchanged : IsImageText top u (turn_of true columns rows) b) where
+    no-greater : (text : List ℕ) → IsUpTo text a → IsUpTo text b → (also : Bool) (other : List ℕ) → IsImageText top u (turn_of also columns rows) other
+        → IsUpTo text other
+    no-greater text first second false = up-to-image (turn_of false columns rows) text a of_image first
+    no-greater text first second true = up-to-image (turn_of true columns rows) text b exchanged second
 
-pub next-text : (top : ℕ) (u : Universe) → 1 ≤ top → IsBlankOutside top u.cell → (n : ℕ) (best text : List ℕ) → IsLeastOfFirst top u n best
-    → IsLesserImageText top u (numbered n) best text → IsLeastOfFirst top u (n + 1) text
-next-text top u some outside n best text so_far is = elim is.lesser.one [
-  | inl e ↦ record { turn = so_far.turn; of_image = subst (λ (t : List ℕ). IsImageText top u so_far.turn t) (sym e) so_far.of_image; least = below }
-  | inr e ↦ record { turn = numbered n; of_image = subst (λ (t : List ℕ). IsImageText top u (numbered n) t) (sym e) is.of_image; least = below }
-]
-  where
-    below : (k : ℕ) (other : List ℕ) → k < n + 1 → IsImageText top u (numbered k) other → IsUpTo text other
-    below k other low also = elim (earlier n k low) [
-      | inl before ↦ up-to-on text best other is.lesser.first (so_far.least k other before also)
-      | inr last ↦
-          let here = subst (λ (m : ℕ). IsImageText top u (numbered m) other) last also in
-          subst (λ (t : List ℕ). IsUpTo text t) (one-text top u some outside (numbered n) is.other other is.of_image here) is.lesser.second
+    pub least-of-two : (text : List ℕ) → IsLesserText a b text → IsLeastOfTwo top u columns rows text
+    least-of-two text is = elim is.one [
+      | inl e ↦ record {
+        exchange = false;
+        of_image = subst (IsImageText top u (turn_of false columns rows)) (sym e) of_image;
+        least = no-greater text is.first is.second;
+      }
+      | inr e ↦ record {
+        exchange = true;
+        of_image = subst (IsImageText top u (turn_of true columns rows)) (sym e) exchanged;
+        least = no-greater text is.first is.second;
+      }
     ]
 
--- a turn is that with its place in the list as its number
-number-of : (turn : Turn) → numbered (turns-are-eight turn).0 ≡ turn
-number-of turn =
-    let place = turns-are-eight turn in
-    get_or_from_slice_get turns place.0 _ upright (slice_get-get_or turns place.0 turn place.1) ∙ place.2
+    pub lesser-of-two : (best mid text : List ℕ) → IsLesserText best a mid → IsLesserText mid b text → IsLesserOfTwo top u columns rows best text
+    lesser-of-two best mid text before is = record {
+      one = elim is.one [
+        | inl e ↦ (elim before.one as (λ _. (text ≡ best) ⊎ ((exchange : Bool) × IsImageText top u (turn_of exchange columns rows) text)) [
+          | inl f ↦ inl (e ∙ f)
+          | inr f ↦ inr (false, subst (IsImageText top u (turn_of false columns rows)) (sym (e ∙ f)) of_image)
+        ])
+        | inr e ↦ inr (true, subst (IsImageText top u (turn_of true columns rows)) (sym e) exchanged)
+      ];
+      first = up-to-on text mid best is.first before.first;
+      second = no-greater text (up-to-on text mid a is.first before.second) is.second;
+    }
 
-pub turned-text : (top : ℕ) (u : Universe) (text : List ℕ) → IsLeastOfFirst top u 8 text → IsTurnedText top u text
-turned-text top u text h = record {
-  form = h.of_image.form;
-  turned = record {
-    turn = h.turn;
-    moved = h.of_image.moved;
-    least = λ other w moved. subst (λ (t : List ℕ). IsUpTo t (canon_text top w)) h.of_image.is (below other w moved);
-  };
-  is = h.of_image.is;
-}
-  where
-    below : (other : Turn) (w : Universe) → IsMoved top (image other u) w → IsUpTo text (canon_text top w)
-    below other w moved =
-        let place = turns-are-eight other in
-        let e = number-of other in
-        h.least place.0 (canon_text top w) place.1 (record { form = w; moved = subst (λ (t : Turn). IsMoved top (image t u) w) (sym e) moved; is = refl })
+  still-image : (columns rows : Bool) (best text : List ℕ) → IsLesserOfTwo top u columns rows best text → (turn : Turn) × IsImageText top u turn best
+      → (turn : Turn) × IsImageText top u turn text
+  still-image columns rows best text is had = elim is.one [
+    | inl e ↦ (had.0, subst (IsImageText top u had.0) (sym e) had.1)
+    | inr it ↦ (turn_of it.0 columns rows, it.1)
+  ]
+
+  -- two images at a time
+  pub least-of-eight : (a b c d : List ℕ) → IsLeastOfTwo top u false false a → IsLesserOfTwo top u true false a b → IsLesserOfTwo top u true true b c
+      → IsLesserOfTwo top u false true c d → IsTurnedText top u d
+  least-of-eight a b c d first second third fourth =
+      let two = still-image true false a b second (turn_of first.exchange false false, first.of_image) in
+      let had = still-image false true c d fourth (still-image true true b c third two) in
+      record {
+        form = had.1.form;
+        turned = record {
+          turn = had.0;
+          moved = had.1.moved;
+          least = λ other w moved. subst (λ (t : List ℕ). IsUpTo t (canon_text top w)) had.1.is
+              (below other.exchange other.columns other.rows (canon_text top w) (record { form = w; moved = moved; is = refl }));
+        };
+        is = had.1.is;
+      }
+    where
+      below : (exchange columns rows : Bool) (other : List ℕ) → IsImageText top u (turn_of exchange columns rows) other → IsUpTo d other
+      below exchange false false other is =
+          up-to-on d c other fourth.first (up-to-on c b other third.first (up-to-on b a other second.first (first.least exchange other is)))
+      below exchange true false other is = up-to-on d c other fourth.first (up-to-on c b other third.first (second.second exchange other is))
+      below exchange true true other is = up-to-on d c other fourth.first (third.second exchange other is)
+      below exchange false true other is = fourth.second exchange other is
 
 -- ---- the sizes of the images
 
--- none of the first so many images has a larger form
-abbrev pub AreSmall : ℕ → Universe → ℕ → Type 0
-AreSmall most u count = (k : ℕ) → k < count → ¬ HasLargerForm most (image (numbered k) u)
-
-pub first-small : (most : ℕ) (u : Universe) → ¬ HasLargerForm most (image (numbered 0) u) → AreSmall most u 1
-first-small most u small k low =
-    let none : k ≡ 0 = omega arith in
-    subst (λ (n : ℕ). ¬ HasLargerForm most (image (numbered n) u)) (sym none) small
-
-pub next-small : (most : ℕ) (u : Universe) (n : ℕ) → AreSmall most u n → ¬ HasLargerForm most (image (numbered n) u) → AreSmall most u (n + 1)
-next-small most u n so_far small k low = elim (earlier n k low) [
-  | inl before ↦ so_far k before
-  | inr last ↦ subst (λ (m : ℕ). ¬ HasLargerForm most (image (numbered m) u)) (sym last) small
-]
-
--- the first eight are all
-pub all-small : (most : ℕ) (u : Universe) → AreSmall most u 8 → (turn : Turn) → ¬ HasLargerForm most (image turn u)
-all-small most u small turn =
-    let place = turns-are-eight turn in
-    subst (λ (t : Turn). ¬ HasLargerForm most (image t u)) (number-of turn) (small place.0 place.1)
+-- two images at a time
+pub all-small : (most : ℕ) (u : Universe) → AreSmall most u false false → AreSmall most u true false → AreSmall most u true true → AreSmall most u false true
+    → (turn : Turn) → ¬ HasLargerForm most (image turn u)
+all-small most u first second third fourth turn = by turn.exchange turn.columns turn.rows
+  where
+    by : (exchange columns rows : Bool) → ¬ HasLargerForm most (image (turn_of exchange columns rows) u)
+    by exchange false false = first exchange
+    by exchange true false = second exchange
+    by exchange true true = third exchange
+    by exchange false true = fourth exchange

@@ -38,7 +38,7 @@ counted-twice true false x = refl
 counted-twice true true x = backwards-twice x
 
 -- the turn t takes the place (v, w) to the place that the turn q takes (x, y) to
-abbrev IsTaken : Turn → ℤ → ℤ → Turn → ℤ → ℤ → Type 0
+abbrev pub IsTaken : Turn → ℤ → ℤ → Turn → ℤ → ℤ → Type 0
 IsTaken t v w q x y = (column_of t v w ≡ column_of q x y) × (row_of t v w ≡ row_of q x y)
 
 placed-after : (fe fc fr se sc sr : Bool) (x y : ℤ)
@@ -60,7 +60,7 @@ counted-back : (a : Bool) (x : ℤ) → counted a (counted a x) ≡ x
 counted-back false x = refl
 counted-back true x = backwards-twice x
 
-placed-back : (e c r : Bool) (x y : ℤ)
+pub placed-back : (e c r : Bool) (x y : ℤ)
     → IsTaken (turn_of e c r) (column_of (back (turn_of e c r)) x y) (row_of (back (turn_of e c r)) x y) upright x y
 placed-back false c r x y = (counted-back c x, counted-back r y)
 placed-back true c r x y = (counted-back c x, counted-back r y)

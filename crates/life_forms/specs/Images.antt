@@ -1,11 +1,11 @@
 -- The texts of a pattern's images.
-use Rattle.std.specs.Prelude.{◌≡◌, ℕ, ◌<◌, List}
-use Rattle.std.specs.List.{slice_index_or}
-use Rattle.life_canon.specs.Lesser.{IsLesserText, IsUpTo}
+use Rattle.std.specs.Prelude.{◌≡◌, ◌⊎◌, ℕ, Bool, List}
+use Rattle.life_canon.specs.Lesser.{IsUpTo}
 use Rattle.life_canon.specs.Listing.{canon_text}
 use Rattle.life_canon.specs.Universe.{Universe}
-use Rattle.life_forms.specs.Turns.{Turn, image, turns, upright}
+use Rattle.life_forms.specs.Turns.{Turn, image, turn_of}
 use Rattle.life_forms.specs.Forms.{IsMoved, IsTurned}
+use Rattle.life_forms.specs.Needed.{HasLargerForm}
 
 -- the text is the canonical text of this image, moved
 pub record IsImageText (top : ℕ) (u : Universe) (turn : Turn) (text : List ℕ) : Type 0 where
@@ -13,21 +13,21 @@ pub record IsImageText (top : ℕ) (u : Universe) (turn : Turn) (text : List ℕ
   pub moved : IsMoved top (image turn u) form
   pub is : text ≡ canon_text top form
 
--- the text is the lesser of a text and of that of this image
-pub record IsLesserImageText (top : ℕ) (u : Universe) (turn : Turn) (best text : List ℕ) : Type 0 where
-  pub other : List ℕ
-  pub of_image : IsImageText top u turn other
-  pub lesser : IsLesserText best other text
+-- the text is that of this image or of the one with columns and rows exchanged too, and no greater than either
+pub record IsLeastOfTwo (top : ℕ) (u : Universe) (columns rows : Bool) (text : List ℕ) : Type 0 where
+  pub exchange : Bool
+  pub of_image : IsImageText top u (turn_of exchange columns rows) text
+  pub least : (also : Bool) (other : List ℕ) → IsImageText top u (turn_of also columns rows) other → IsUpTo text other
 
--- the turn with this number, counted from 0
-abbrev pub numbered : ℕ → Turn
-numbered number = slice_index_or turns number upright
+-- the text is another one or that of one of the two images, and no greater than any of the three
+pub record IsLesserOfTwo (top : ℕ) (u : Universe) (columns rows : Bool) (best text : List ℕ) : Type 0 where
+  pub one : (text ≡ best) ⊎ ((exchange : Bool) × IsImageText top u (turn_of exchange columns rows) text)
+  pub first : IsUpTo text best
+  pub second : (also : Bool) (other : List ℕ) → IsImageText top u (turn_of also columns rows) other → IsUpTo text other
 
--- the text is that of an image, and no text of the first so many images is less
-pub record IsLeastOfFirst (top : ℕ) (u : Universe) (count : ℕ) (text : List ℕ) : Type 0 where
-  pub turn : Turn
-  pub of_image : IsImageText top u turn text
-  pub least : (k : ℕ) (other : List ℕ) → k < count → IsImageText top u (numbered k) other → IsUpTo text other
+-- neither of the two images has a larger form
+abbrev pub AreSmall : ℕ → Universe → Bool → Bool → Type 0
+AreSmall most u columns rows = (exchange : Bool) → ¬ HasLargerForm most (image (turn_of exchange columns rows) u)
 
 -- the text is the canonical text of the turned form
 pub record IsTurnedText (top : ℕ) (u : Universe) (text : List ℕ) : Type 0 where

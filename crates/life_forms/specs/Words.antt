@@ -9,10 +9,10 @@ pub use Rattle.life_canon.specs.Store.{IsTrimmed, universe_in, IsKnown, content}
 pub use Rattle.life_canon.specs.Texts.{IsOrdered}
 pub use Rattle.life_canon.specs.Universe.{Universe, square_universe, least_level}
 pub use Rattle.life_forms.specs.Forms.{IsShift, IsTurnedShift, IsMoved, IsInPlace}
-pub use Rattle.life_forms.specs.Images.{IsImageText, IsLesserImageText, IsTurnedText, numbered}
+pub use Rattle.life_forms.specs.Images.{AreSmall, IsLeastOfTwo, IsLesserOfTwo, IsTurnedText}
 pub use Rattle.life_forms.specs.Laws.{TurnsAreEight, TurnsAreClosed, TurnsHaveInverses, ImagesStayOnPlane, ImagesKeepShifts, ShiftsHaveOneSize, TurnsHaveOneSize, MovedFormsExist, MovedFormsAreOnPlane, MovedFormsTellShifts, MovedFormsAreFixed, MovedTextsTellShifts, MovedTextsTellFiles, TurnedTextsTellFiles, MovedTextsAreFiles, TurnedTextsAreFiles, FilesHaveForms, ForFaithfulTexts, TurnedFormsExist, TurnedFormsAreOnPlane, TurnedTextsTellTurns, TurnedFormsAreFixed}
 pub use Rattle.life_forms.specs.Needed.{AddsMoved, HasLargeForm, HasLargeImage, HasLargerForm, IsMovedRoot, LacksForMoved, RefusesTurning, SomeOfMovedForm, SomeOfMovedRoot}
-pub use Rattle.life_forms.specs.Turns.{image}
+pub use Rattle.life_forms.specs.Turns.{image, transpose}
 pub use Rattle.life_mc.specs.Macrocell.{largest_state}
 pub use Rattle.life_quad.specs.Cells.{IsLeastBox as IsSquareBox}
 pub use Rattle.life_quad.specs.Keeping.{IsWantKind}

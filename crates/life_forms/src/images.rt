@@ -1,36 +1,26 @@
 //! Texts of a pattern's images.
 
-ghost use Rattle.std.specs.Prelude.{◌≡◌, ◌⊎◌, ◌^◌, ◌≤◌, min, IfOk, IfErr, OnOk};
-ghost use Rattle.life_forms.specs.Words.{MAX_LEVEL, Full, OrMemory, fault_of, IsTrimmed, universe_in, IsMoved, IsImageText, IsLesserImageText, IsTurnedText, numbered, HasLargerForm, HasLargeImage, RefusesTurning, image};
+ghost use Rattle.std.specs.Prelude.{◌≡◌, ◌^◌, ◌≤◌, true, false, min, IfOk, IfErr, OnOk};
+ghost use Rattle.life_forms.specs.Words.{MAX_LEVEL, Full, OrMemory, fault_of, IsTrimmed, universe_in, IsMoved, IsLeastOfTwo, IsLesserOfTwo, AreSmall, IsTurnedText, HasLargerForm, HasLargeImage, RefusesTurning, image, transpose};
 
-use crate::patterns::{form_of, most_squares, without_limit};
+use crate::patterns::{form_of, most_squares, moved_of, without_limit};
 use life_base::Fault;
 use life_canon::laws::{centred_squares_tell_cells, squares_are_centred};
-use life_canon::{Pattern, lesser_text, text_of};
+use life_canon::{Pattern, lesser_text, lesser_turned_text, text_of};
 use life_quad::{Shared, SharedSquares, Turn, turned};
 use std::alloc::Global;
 
 /// A store of an image that isn't moved yet is bounded by memory alone.
 pub(crate) const WITHOUT_LIMIT: u64 = 1 << 62;
 
-/// The turn with this number.
-fn numbered(number: u8) -> Turn
-    ensures { result ≡ numbered number }
+/// The reflection that exchanges columns and rows.
+fn transpose() -> Turn
+    ensures { result ≡ transpose }
 {
-    let (exchange, columns, rows) = match number {
-        1 => (false, true, false),
-        2 => (true, true, false),
-        3 => (true, true, true),
-        4 => (false, true, true),
-        5 => (false, false, true),
-        6 => (true, false, true),
-        7 => (true, false, false),
-        _ => (false, false, false),
-    };
     Turn {
-        exchange,
-        columns,
-        rows,
+        exchange: true,
+        columns: false,
+        rows: false,
     }
 }
 
@@ -80,41 +70,65 @@ fn limited_image(
     moved_image(alloc, store, most_squares(store), pattern, turn)
 }
 
-/// The canonical text of an image of a pattern, moved.
-fn image_text(
+/// The moved form of a pattern, which is that of its first image.
+fn limited_form(
     alloc: Global,
     store: &Shared,
     pattern: &Pattern,
-    turn: Turn,
-) -> Result<Vec<u8>, Fault>
+) -> Result<(Shared, Pattern), Fault>
     requires { IsTrimmed store.now pattern.now }
-    ensures text { IfOk result
-        (λ text. IsImageText MAX_LEVEL (universe_in store.now pattern.now) turn text.items) }
+    ensures trimmed { IfOk result (λ form. IsTrimmed form.0 form.1) }
+    ensures moved { IfOk result (λ form. IsMoved MAX_LEVEL (universe_in store.now pattern.now)
+        (universe_in form.0 form.1)) }
     ensures small { OnOk result (¬ HasLargerForm (min (2 ^ 21) store.now.limit)
-        (image turn (universe_in store.now pattern.now))) }
+        (universe_in store.now pattern.now)) }
     ensures fault { IfErr result (RefusesTurning store.now pattern.now) }
 {
-    let (form, moved) = limited_image(alloc, store, pattern, turn)?;
-    text_of(alloc, &form, &moved)
+    moved_of(alloc, store, pattern)
 }
 
-/// The lesser, byte by byte, of a text and of the canonical text of an image of a pattern, moved.
+/// The lesser of the texts of a pattern, moved, and of its image with columns and rows exchanged: this one is made by a walk over the same squares.
+fn first_text(alloc: Global, store: &Shared, pattern: &Pattern) -> Result<Vec<u8>, Fault>
+    requires { IsTrimmed store.now pattern.now }
+    ensures text { IfOk result (λ text. IsLeastOfTwo MAX_LEVEL (universe_in store.now pattern.now)
+        false false text.items) }
+    ensures small { OnOk result (AreSmall (min (2 ^ 21) store.now.limit)
+        (universe_in store.now pattern.now) false false) }
+    ensures fault { IfErr result (RefusesTurning store.now pattern.now) }
+{
+    squares_are_centred();
+    centred_squares_tell_cells();
+    let (form, moved) = limited_form(alloc, store, pattern)?;
+    let text = text_of(alloc, &form, &moved)?;
+    lesser_turned_text(alloc, &form, &moved, transpose(), text)
+}
+
+/// The lesser of a text and of those of two images of a pattern, moved: with columns and rows counted from the other side or not, and with both exchanged.
 fn lesser_image_text(
     alloc: Global,
     store: &Shared,
     pattern: &Pattern,
-    turn: Turn,
+    columns: bool,
+    rows: bool,
     best: Vec<u8>,
 ) -> Result<Vec<u8>, Fault>
     requires { IsTrimmed store.now pattern.now }
-    ensures text { IfOk result (λ text. IsLesserImageText MAX_LEVEL
-        (universe_in store.now pattern.now) turn best.items text.items) }
-    ensures small { OnOk result (¬ HasLargerForm (min (2 ^ 21) store.now.limit)
-        (image turn (universe_in store.now pattern.now))) }
+    ensures text { IfOk result (λ text. IsLesserOfTwo MAX_LEVEL
+        (universe_in store.now pattern.now) columns rows best.items text.items) }
+    ensures small { OnOk result (AreSmall (min (2 ^ 21) store.now.limit)
+        (universe_in store.now pattern.now) columns rows) }
     ensures fault { IfErr result (RefusesTurning store.now pattern.now) }
 {
+    squares_are_centred();
+    centred_squares_tell_cells();
+    let turn = Turn {
+        exchange: false,
+        columns,
+        rows,
+    };
     let (form, moved) = limited_image(alloc, store, pattern, turn)?;
-    lesser_text(alloc, &form, &moved, best)
+    let lesser = lesser_text(alloc, &form, &moved, best)?;
+    lesser_turned_text(alloc, &form, &moved, transpose(), lesser)
 }
 
 /// The canonical text of the turned form of a pattern: of the eight turns and reflections of the pattern, each moved as by `moved_of`, the one
@@ -132,9 +146,8 @@ pub fn turned_text(alloc: Global, store: &Shared, pattern: &Pattern) -> Result<V
     ensures small { OnOk result (¬ HasLargeImage store.now pattern.now) }
     ensures fault { IfErr result (RefusesTurning store.now pattern.now) }
 {
-    let mut best = image_text(alloc, store, pattern, numbered(0))?;
-    for number in 1..8u8 {
-        best = lesser_image_text(alloc, store, pattern, numbered(number), best)?;
-    }
-    Ok(best)
+    let first = first_text(alloc, store, pattern)?;
+    let second = lesser_image_text(alloc, store, pattern, true, false, first)?;
+    let third = lesser_image_text(alloc, store, pattern, true, true, second)?;
+    lesser_image_text(alloc, store, pattern, false, true, third)
 }
