@@ -1,6 +1,5 @@
 -- What is read in the words of the claims is a file in the layers below.
-use Rattle.std.proofs.Common.{◌≡◌, ℕ, zero, suc, ◌+◌, ◌<◌, List, [], ◌∷◌, length, take, drop, map, Bool, true, false, cond, not, ◌&&◌, refl, ap, ◌∙◌, sym, arith, ◌⊎◌, inl, inr, true≢false}
-use Rattle.std.specs.Prelude.{Option, Some, None, Result, Ok, Err, codes, slice_index, slice_index_or, slice_get, filter_map}
+use Rattle.std.proofs.Common.{◌≡◌, ℕ, zero, suc, ◌+◌, ◌<◌, List, [], ◌∷◌, length, take, drop, map, Bool, true, false, cond, not, ◌&&◌, refl, ap, ◌∙◌, sym, arith, ◌⊎◌, inl, inr, true≢false, Option, Some, None, Result, Ok, Err, codes, slice_index, slice_index_or, slice_get, filter_map}
 use Rattle.std.specs.List.{list_any, list_all, cons_option}
 use Rattle.std.proofs.lemmas.Bool.{or_parts}
 use Rattle.life_base.specs.Text.{lines_of, is_blank, begins_with, trim, is_digit_text, value_of, words_of}

@@ -1,6 +1,5 @@
 -- The cells of a pattern that aren't 0 have one list.
-use Rattle.std.proofs.Common.{◌≡◌, ℕ, suc, ◌<◌, List, [], ◌∷◌, length, refl, ◌∙◌, sym, subst, arith, ◌⊎◌, inl, inr}
-use Rattle.std.specs.Prelude.{ℤ, Contains, AllPairs, ◌<ℤ◌}
+use Rattle.std.proofs.Common.{◌≡◌, ℕ, suc, ◌<◌, List, [], ◌∷◌, length, refl, ◌∙◌, sym, subst, arith, ◌⊎◌, inl, inr, ℤ, Contains, AllPairs, ◌<ℤ◌}
 use Rattle.std.proofs.lemmas.Int.{ints}
 use Rattle.life_base.specs.declared.cell.Cell.{Cell}
 use Rattle.claims.specs.Generation.{AreCells, HasMoreCells}

@@ -1,6 +1,5 @@
 -- The format of an input is that of its first line.
-use Rattle.std.proofs.Common.{◌≡◌, ℕ, suc, List, [], ◌∷◌, length, take, Bool, true, false, cond, ◌&&◌, ◌||◌, refl, ap, ◌∙◌, sym, inl, inr, arith}
-use Rattle.std.specs.Prelude.{◌==◌, bytes_eq}
+use Rattle.std.proofs.Common.{◌≡◌, ℕ, suc, List, [], ◌∷◌, length, take, Bool, true, false, cond, ◌&&◌, ◌||◌, refl, ap, ◌∙◌, sym, inl, inr, arith, ◌==◌, bytes_eq}
 use Rattle.std.proofs.lemmas.Bool.Decides.{nat_tests}
 use Rattle.std.proofs.lemmas.Bool.{or_parts, cases_Bool}
 use Rattle.life_base.specs.Text.{lines_of, onto_first}

@@ -1,8 +1,6 @@
 -- The lines before a refused one are the front of a file.
-use Rattle.std.proofs.Common.{◌≡◌, ℕ, zero, suc, ◌+◌, ◌-◌, ◌<◌, min, List, [], ◌∷◌, ◌++◌, length, take, Bool, true, false, cond, not, ◌&&◌, refl, ap, ◌∙◌, sym, subst, arith, inl, inr}
-use Rattle.std.specs.Prelude.{◌==◌, Result, Ok, Err, IsOk, codes}
+use Rattle.std.proofs.Common.{◌≡◌, ℕ, zero, suc, ◌+◌, ◌-◌, ◌<◌, min, List, [], ◌∷◌, ◌++◌, length, take, Bool, true, false, cond, not, ◌&&◌, refl, ap, ◌∙◌, sym, subst, arith, inl, inr, ◌==◌, Result, Ok, Err, IsOk, codes, append-nil}
 use Rattle.std.specs.List.{list_all}
-use Rattle.std.proofs.lemmas.List.{append-nil}
 use Rattle.std.proofs.lemmas.Bool.{and_from, cases_Bool}
 use Rattle.life_base.proofs.WholeLines.{lines-joined}
 use Rattle.life_base.proofs.Basics.{right_of_and, left_of_and}
@@ -14,8 +12,7 @@ use Rattle.life_base.specs.declared.fault.Fault.{Fault}
 use Rattle.claims.specs.Outcomes.{◌>>=◌}
 use Rattle.claims.specs.Rules.{default_rule}
 use Rattle.claims.specs.Pattern.{Pattern}
-use Rattle.claims.specs.Macrocell.{Macrocell, first_line, cell}
-use Rattle.claims.specs.Macrocell.{with_line as with_node_line}
+use Rattle.claims.specs.Macrocell.{Macrocell, first_line, cell, with_line as with_node_line}
 use Rattle.claims.specs.Rle.{Lines, PositionFields, before_header, after_header, after_end, with_line}
 use Rattle.claims.specs.Files.{fault_at, on_line, read_lines, macrocell_of, end_of_rle, pattern_of}
 use Rattle.claims.specs.Laws.{ended, FrontsGoOn}

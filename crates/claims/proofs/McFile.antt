@@ -1,8 +1,6 @@
 -- A macrocell file says what it says in the layer below.
-use Rattle.std.proofs.Common.{◌≡◌, ℕ, zero, suc, ◌+◌, ◌<◌, List, [], ◌∷◌, ◌++◌, length, take, drop, map, Bool, true, false, cond, refl, ap, ◌∙◌, sym, subst, arith, append_assoc, length-take-le}
-use Rattle.std.specs.Prelude.{Option, Some, None, Result, Ok, Err, ℤ, codes, filter_map, slice_index_or}
+use Rattle.std.proofs.Common.{◌≡◌, ℕ, zero, suc, ◌+◌, ◌<◌, List, [], ◌∷◌, ◌++◌, length, take, drop, map, Bool, true, false, cond, refl, ap, ◌∙◌, sym, subst, arith, append_assoc, length-take-le, Option, Some, None, Result, Ok, Err, ℤ, codes, filter_map, slice_index_or, append-nil}
 use Rattle.std.specs.Option.{option_to_list, unwrap_or}
-use Rattle.std.proofs.lemmas.List.{append-nil}
 use Rattle.std.proofs.lemmas.List.Elements.{filter_map-append}
 use Rattle.std.proofs.lemmas.Option.{same_Some}
 use Rattle.life_base.specs.Text.{is_empty, is_too_long, begins_with}
@@ -10,8 +8,7 @@ use Rattle.life_base.specs.Rules.{default_rule as layer_default}
 use Rattle.life_base.specs.declared.kind.Kind.{Kind}
 use Rattle.life_base.specs.declared.kind.Kind.TheVariants as kinds
 use Rattle.life_base.specs.declared.rule.Rule.{Rule as LayerRule}
-use Rattle.life_mc.specs.Macrocell.{Macrocell as LayerFile, level_of as line_level}
-use Rattle.life_mc.specs.Macrocell.{AreSquares}
+use Rattle.life_mc.specs.Macrocell.{Macrocell as LayerFile, level_of as line_level, AreSquares}
 use Rattle.life_mc.specs.Cells.{cell_of, cell as layer_cell}
 use Rattle.life_mc.specs.Reading.{AreMacrocell, broken, broken_after, rule_on, generation_on, square_on, rule_in_force, generation_in_force, squares_of, last_or}
 use Rattle.life_mc.specs.declared.line.Line.{Line}

@@ -1,16 +1,13 @@
 -- The cells of a macrocell file are those of the layer below.
-use Rattle.std.proofs.Common.{◌≡◌, ℕ, zero, suc, ◌+◌, ◌-◌, ◌/◌, ◌%◌, ◌^◌, ◌<◌, ◌≤◌, List, [], ◌∷◌, ◌++◌, length, take, map, replicate, Bool, true, false, cond, ◌&&◌, ◌||◌, refl, ap, ◌∙◌, sym, subst, arith, eqb-true, ltb-true}
-use Rattle.std.specs.Prelude.{nat_le, nat_lt, ◌==◌, slice_get, slice_index, slice_index_or, sum_by, Option, Some, None, ℤ, pos, negsuc, neg_ℤ, ◌+ℤ◌, int_le, int_lt, unsigned_abs}
+use Rattle.std.proofs.Common.{◌≡◌, ℕ, zero, suc, ◌+◌, ◌-◌, ◌/◌, ◌%◌, ◌^◌, ◌<◌, ◌≤◌, List, [], ◌∷◌, ◌++◌, length, take, map, replicate, Bool, true, false, cond, ◌&&◌, ◌||◌, refl, ap, ◌∙◌, sym, subst, arith, eqb-true, ltb-true, nat_le, nat_lt, ◌==◌, slice_get, slice_index, slice_index_or, sum_by, Option, Some, None, ℤ, pos, negsuc, neg_ℤ, ◌+ℤ◌, int_le, int_lt, unsigned_abs}
 use Rattle.std.specs.List.{list_all}
 use Rattle.std.proofs.Math.Nat.{mod-lt, two-pow-succ}
 use Rattle.std.proofs.Math.Pow.{pow_pos}
 use Rattle.std.proofs.lemmas.Bool.Decides.{nat_tests}
 use Rattle.life_base.proofs.Basics.{in_span, out_of_span, right_of_and, left_of_and}
 use Rattle.life_base.specs.declared.rule.Rule.{Rule as LayerRule}
-use Rattle.life_mc.specs.Macrocell.{AreSquares, IsSquare, is_level, is_quarter}
-use Rattle.life_mc.specs.Macrocell.{level_of as line_level, largest_state as layer_largest}
-use Rattle.life_mc.specs.Cells.{cell_in, leaf_cell, cell_of, cell_from}
-use Rattle.life_mc.specs.Cells.{root_level as layer_root_level}
+use Rattle.life_mc.specs.Macrocell.{AreSquares, IsSquare, is_level, is_quarter, level_of as line_level, largest_state as layer_largest}
+use Rattle.life_mc.specs.Cells.{cell_in, leaf_cell, cell_of, cell_from, root_level as layer_root_level}
 use Rattle.life_mc.specs.Reading.{row_byte, columns}
 use Rattle.life_mc.specs.declared.line.Line.{Line}
 use Rattle.life_mc.specs.declared.line.Line.TheVariants.{Leaf, Quad}

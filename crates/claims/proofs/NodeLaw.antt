@@ -1,6 +1,5 @@
 -- The square of a node line is that of the layer below.
-use Rattle.std.proofs.Common.{◌≡◌, ℕ, zero, suc, ◌-◌, List, [], ◌∷◌, ◌++◌, length, take, drop, map, replicate, Bool, true, false, cond, not, ◌&&◌, ◌||◌, refl, ap, ◌∙◌, sym, subst, arith}
-use Rattle.std.specs.Prelude.{nat_le, nat_lt, ◌==◌, slice_get, slice_index, Option, Some, None, Result, Ok, Err}
+use Rattle.std.proofs.Common.{◌≡◌, ℕ, zero, suc, ◌-◌, List, [], ◌∷◌, ◌++◌, length, take, drop, map, replicate, Bool, true, false, cond, not, ◌&&◌, ◌||◌, refl, ap, ◌∙◌, sym, subst, arith, nat_le, nat_lt, ◌==◌, slice_get, slice_index, Option, Some, None, Result, Ok, Err}
 use Rattle.std.specs.List.{list_all}
 use Rattle.std.specs.Option.{option_to_list}
 use Rattle.std.proofs.lemmas.Bool.Decides.{nat_tests}
@@ -10,10 +9,8 @@ use Rattle.life_base.specs.declared.kind.Kind.{Kind}
 use Rattle.life_base.specs.declared.kind.Kind.TheVariants as kinds
 use Rattle.life_base.specs.declared.rule.Rule.{Rule as LayerRule}
 use Rattle.life_base.specs.declared.rule.Rule.TheVariants.{Life, Named}
-use Rattle.life_mc.specs.Macrocell.{is_level, is_quarter}
-use Rattle.life_mc.specs.Macrocell.{level_of as line_level, numbered as layer_numbered, largest_state as layer_largest, is_child as layer_child}
-use Rattle.life_mc.specs.Reading.{leaf_rows, is_leaf, is_at_end, row_byte, square_of, broken_by_node, broken_by_square}
-use Rattle.life_mc.specs.Reading.{quad_of as layer_quad_of}
+use Rattle.life_mc.specs.Macrocell.{is_level, is_quarter, level_of as line_level, numbered as layer_numbered, largest_state as layer_largest, is_child as layer_child}
+use Rattle.life_mc.specs.Reading.{leaf_rows, is_leaf, is_at_end, row_byte, square_of, broken_by_node, broken_by_square, quad_of as layer_quad_of}
 use Rattle.life_mc.specs.declared.line.Line.{Line}
 use Rattle.life_mc.specs.declared.line.Line.TheVariants.{Leaf, Quad}
 use Rattle.claims.specs.Outcomes.{◌>>=◌}

@@ -1,8 +1,6 @@
 -- A file in extended RLE says what it says in the layer below.
-use Rattle.std.proofs.Common.{◌≡◌, ℕ, ◌+◌, List, [], ◌∷◌, ◌++◌, length, Bool, true, false, cond, ◌||◌, refl, ap, ◌∙◌, sym, subst, append_assoc, inl, inr}
-use Rattle.std.specs.Prelude.{codes, ℤ, Option, Some, None, Result, Ok, Err}
+use Rattle.std.proofs.Common.{◌≡◌, ℕ, ◌+◌, List, [], ◌∷◌, ◌++◌, length, Bool, true, false, cond, ◌||◌, refl, ap, ◌∙◌, sym, subst, append_assoc, inl, inr, codes, ℤ, Option, Some, None, Result, Ok, Err, append-nil}
 use Rattle.std.specs.Option.{option_or}
-use Rattle.std.proofs.lemmas.List.{append-nil}
 use Rattle.life_rle.proofs.Progress.{option_or-both}
 use Rattle.life_base.specs.Numbers.{result_map}
 use Rattle.life_base.specs.Text.{is_too_long, is_blank, begins_with}
@@ -12,16 +10,14 @@ use Rattle.life_base.specs.declared.rule.Rule.{Rule as LayerRule}
 use Rattle.life_rle.specs.declared.position.Position.{Position as LayerPosition}
 use Rattle.life_rle.specs.declared.line.Opening.TheVariants.{Comment, PositionLine, Header}
 use Rattle.life_rle.specs.declared.line.Later.TheVariants.{Passed, Data}
-use Rattle.life_rle.specs.Position.{and_then, position_of, is_position_line}
+use Rattle.life_rle.specs.Position.{and_then, position_of, is_position_line, default_position}
 use Rattle.life_rle.specs.Header.{header_of as layer_header_of}
-use Rattle.life_rle.specs.Pattern.{Rle as LayerRle, cell as layer_cell}
+use Rattle.life_rle.specs.Pattern.{Rle as LayerRle, cell as layer_cell, Placed, placed_item, placed_behind, placed_fault, first_fault}
 use Rattle.life_rle.specs.declared.item.Item.{Item as LayerItem}
 use Rattle.life_rle.specs.declared.line.Opening.{Opening}
 use Rattle.life_rle.specs.declared.line.Later.{Later}
 use Rattle.life_rle.specs.Items.{Next, End, Mark, Spelled, Broken, Spells}
-use Rattle.life_rle.specs.Pattern.{Placed, placed_item, placed_behind, placed_fault, first_fault}
 use Rattle.life_rle.specs.Grammar.{opening_of, later_of, IsPreamble, LineSpells, BodySpells, IsUnmarked, IsMarked, IsRle, Breaks, before_header as breaks_before, by_form, by_text, by_item}
-use Rattle.life_rle.specs.Position.{default_position}
 use Rattle.claims.specs.Outcomes.{◌>>=◌}
 use Rattle.claims.specs.Rules.{Rule}
 use Rattle.claims.specs.Pattern.{Pattern}

@@ -1,6 +1,5 @@
 -- A header line gives the rule that it gives in the layer below.
-use Rattle.std.proofs.Common.{◌≡◌, ℕ, List, [], ◌∷◌, length, drop, Bool, true, false, cond, refl, ap, ◌∙◌}
-use Rattle.std.specs.Prelude.{codes, Option, Some, None, Result, Ok, Err}
+use Rattle.std.proofs.Common.{◌≡◌, ℕ, List, [], ◌∷◌, length, drop, Bool, true, false, cond, refl, ap, ◌∙◌, codes, Option, Some, None, Result, Ok, Err}
 use Rattle.life_base.specs.Numbers.{result_map}
 use Rattle.life_base.specs.Text.{begins_with, is_digit_text, trim_start}
 use Rattle.life_base.specs.declared.kind.Kind.{Kind}

@@ -1,6 +1,5 @@
 -- The items of extended RLE stand where they stand in the layer below, and so the cells are the same.
-use Rattle.std.proofs.Common.{◌≡◌, ℕ, ◌+◌, List, [], ◌∷◌, ◌++◌, map, Bool, true, false, cond, not, ◌&&◌, refl, ap, ◌∙◌, sym, arith}
-use Rattle.std.specs.Prelude.{nat_lt, Option, Some, None, Result, Ok, Err, ℤ, pos, ◌+ℤ◌, int_le, int_lt}
+use Rattle.std.proofs.Common.{◌≡◌, ℕ, ◌+◌, List, [], ◌∷◌, ◌++◌, map, Bool, true, false, cond, not, ◌&&◌, refl, ap, ◌∙◌, sym, arith, nat_lt, Option, Some, None, Result, Ok, Err, ℤ, pos, ◌+ℤ◌, int_le, int_lt}
 use Rattle.std.specs.Ordering.{int_eq}
 use Rattle.std.specs.List.{list_any}
 use Rattle.std.proofs.lemmas.Bool.Decides.{nat_tests}
@@ -13,8 +12,7 @@ use Rattle.life_rle.specs.declared.item.Item.{Item as LayerItem}
 use Rattle.life_rle.specs.declared.item.Item.TheVariants.{Cells, RowEnds}
 use Rattle.life_rle.specs.declared.position.Position.{Position as LayerPosition}
 use Rattle.life_rle.specs.States.{is_state_of}
-use Rattle.life_rle.specs.Pattern.{Rle as LayerRle, is_row_end, placed_item, placed_behind, cell_among, placed_fault}
-use Rattle.life_rle.specs.Pattern.{rows_in as layer_rows, columns_in as layer_columns, cell as layer_cell}
+use Rattle.life_rle.specs.Pattern.{Rle as LayerRle, is_row_end, placed_item, placed_behind, cell_among, placed_fault, rows_in as layer_rows, columns_in as layer_columns, cell as layer_cell}
 use Rattle.claims.specs.Rules.{largest_state}
 use Rattle.claims.specs.Pattern.{coordinate_bound}
 use Rattle.claims.specs.Rle.{Item, run, row_ends, Rle, PositionFields, rows_in, ends_rows, columns_in, row_after, column_after, state_by, cell, with_item}

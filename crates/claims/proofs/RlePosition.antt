@@ -1,6 +1,5 @@
 -- A position line gives what it gives in the layer below.
-use Rattle.std.proofs.Common.{◌≡◌, ℕ, zero, suc, ◌+◌, ◌<◌, ◌≤◌, List, [], ◌∷◌, length, drop, Bool, true, false, cond, not, ◌&&◌, refl, ap, ◌∙◌, sym, arith, ◌⊎◌, inl, inr, true≢false}
-use Rattle.std.specs.Prelude.{◌==◌, codes, Option, Some, None, Result, Ok, Err, ℤ, pos, neg_ℤ, slice_index}
+use Rattle.std.proofs.Common.{◌≡◌, ℕ, zero, suc, ◌+◌, ◌<◌, ◌≤◌, List, [], ◌∷◌, length, drop, Bool, true, false, cond, not, ◌&&◌, refl, ap, ◌∙◌, sym, arith, ◌⊎◌, inl, inr, true≢false, ◌==◌, codes, Option, Some, None, Result, Ok, Err, ℤ, pos, neg_ℤ, slice_index}
 use Rattle.std.specs.Char.{is_ascii_digit}
 use Rattle.std.specs.List.{slice_split, before_first, after_first, position_or_len}
 use Rattle.std.proofs.lemmas.Bool.Decides.{nat_tests}
@@ -14,8 +13,7 @@ use Rattle.life_base.specs.Text.{begins_with, is_digit_text, is_empty, value_of,
 use Rattle.life_base.specs.declared.kind.Kind.{Kind}
 use Rattle.life_base.specs.declared.kind.Kind.TheVariants as kinds
 use Rattle.life_rle.specs.declared.position.Position.{Position as LayerPosition}
-use Rattle.life_rle.specs.Position.{Field, Corner, Generation, Other, signed_number, corner_of, corner_in, field_of, and_then, position_with, position_of, default_position}
-use Rattle.life_rle.specs.Position.{with_field as layer_with_field}
+use Rattle.life_rle.specs.Position.{Field, Corner, Generation, Other, signed_number, corner_of, corner_in, field_of, and_then, position_with, position_of, default_position, with_field as layer_with_field}
 use Rattle.claims.specs.Outcomes.{◌>>=◌}
 use Rattle.claims.specs.Pattern.{is_coordinate}
 use Rattle.claims.specs.Rle.{PositionFields, number_of, with_corner, with_field, with_fields, no_position_fields}

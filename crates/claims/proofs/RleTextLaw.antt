@@ -1,6 +1,5 @@
 -- The text of a pattern in extended RLE is that of the layer below.
-use Rattle.std.proofs.Common.{◌≡◌, ◌≢◌, ℕ, zero, suc, ◌+◌, ◌<◌, List, [], ◌∷◌, ◌++◌, length, map, Bool, true, false, cond, refl, ap, ◌∙◌, sym, subst, arith, append_assoc, ◌⊎◌, inl, inr}
-use Rattle.std.specs.Prelude.{ℤ, pos, ◌+ℤ◌, ◌-ℤ◌, ◌≤ℤ◌, ◌<ℤ◌, nat_abs, nat_le, ◌==◌, Contains, Option, Some, None, codes, decimal, flat_map}
+use Rattle.std.proofs.Common.{◌≡◌, ◌≢◌, ℕ, zero, suc, ◌+◌, ◌<◌, List, [], ◌∷◌, ◌++◌, length, map, Bool, true, false, cond, refl, ap, ◌∙◌, sym, subst, arith, append_assoc, ◌⊎◌, inl, inr, ℤ, pos, ◌+ℤ◌, ◌-ℤ◌, ◌≤ℤ◌, ◌<ℤ◌, nat_abs, nat_le, ◌==◌, Contains, Option, Some, None, codes, decimal, flat_map}
 use Rattle.std.specs.Fmt.{signed_decimal}
 use Rattle.std.specs.Int.{int_min, int_max}
 use Rattle.std.specs.Ordering.{int_eq}
@@ -13,8 +12,7 @@ use Rattle.life_base.specs.Rules.{rule_text as layer_rule_text}
 use Rattle.life_base.specs.declared.rule.Rule.{Rule as LayerRule}
 use Rattle.life_base.specs.declared.rule.Rule.TheVariants.{Life, Named}
 use Rattle.life_rle.specs.States.{state_text as layer_state_text}
-use Rattle.life_rle.specs.Written.{box_of, with_gap, with_cells, way_to, items_from, wrapped, generation_text, position_text, header_text, span, rle_text}
-use Rattle.life_rle.specs.Written.{item_text as layer_item_text}
+use Rattle.life_rle.specs.Written.{box_of, with_gap, with_cells, way_to, items_from, wrapped, generation_text, position_text, header_text, span, rle_text, item_text as layer_item_text}
 use Rattle.life_rle.specs.declared.item.Item.{Item as LayerItem}
 use Rattle.life_rle.specs.declared.item.Item.TheVariants.{Cells, RowEnds}
 use Rattle.claims.specs.Pattern.{Pattern}

@@ -1,7 +1,6 @@
 -- The first text of a line of data is the item that the layer below reads in front of it.
 use mathlib.Core.Bool.{and-false}
-use Rattle.std.proofs.Common.{◌≡◌, ℕ, suc, ◌+◌, ◌-◌, ◌*◌, ◌^◌, ◌<◌, ◌≤◌, List, [], ◌∷◌, take, drop, Bool, true, false, cond, ◌&&◌, ◌||◌, refl, ap, ◌∙◌, sym, subst, arith, ◌⊎◌, inl, inr}
-use Rattle.std.specs.Prelude.{nat_le, nat_lt, ◌==◌, bytes_eq, codes, take_while, Option, Some, None, Result, Ok, Err}
+use Rattle.std.proofs.Common.{◌≡◌, ℕ, suc, ◌+◌, ◌-◌, ◌*◌, ◌^◌, ◌<◌, ◌≤◌, List, [], ◌∷◌, take, drop, Bool, true, false, cond, ◌&&◌, ◌||◌, refl, ap, ◌∙◌, sym, subst, arith, ◌⊎◌, inl, inr, nat_le, nat_lt, ◌==◌, bytes_eq, codes, take_while, Option, Some, None, Result, Ok, Err}
 use Rattle.std.specs.Char.{is_ascii_digit}
 use Rattle.std.specs.List.{prefix_len}
 use Rattle.std.specs.Option.{option_or}
@@ -12,8 +11,7 @@ use Rattle.life_base.specs.declared.kind.Kind.{Kind}
 use Rattle.life_base.specs.declared.kind.Kind.TheVariants as kinds
 use Rattle.life_rle.specs.declared.item.Item.{Item as LayerItem}
 use Rattle.life_rle.specs.declared.item.Item.TheVariants.{Cells, RowEnds}
-use Rattle.life_rle.specs.Items.{Next, Spelled, Broken, front_digits, behind_digits, item_behind, counted}
-use Rattle.life_rle.specs.Items.{cells_of as layer_cells_of}
+use Rattle.life_rle.specs.Items.{Next, Spelled, Broken, front_digits, behind_digits, item_behind, counted, cells_of as layer_cells_of}
 use Rattle.life_rle.specs.States.{single_state, prefixed_number, prefixed_state, with_rest, state_at}
 use Rattle.claims.specs.Outcomes.{◌>>=◌}
 use Rattle.claims.specs.Rle.{Item, row_ends, letter_state, prefixed, state_of, count_of, run_of, item_of, texts_of}

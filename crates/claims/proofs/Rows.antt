@@ -1,7 +1,6 @@
 -- The definitions at worked examples, by computation.
-use Rattle.std.proofs.Common.{◌≡◌, ℕ, zero, suc, ℤ, ◌+◌, ◌^◌, ◌<◌, List, [], ◌∷◌, ◌++◌, length, map, refl, pos, neg_ℤ, Bool, true, false, cond}
+use Rattle.std.proofs.Common.{◌≡◌, ℕ, zero, suc, ℤ, ◌+◌, ◌^◌, ◌<◌, List, [], ◌∷◌, ◌++◌, length, map, refl, pos, neg_ℤ, Bool, true, false, cond, codes, replicate, ◌==◌, Option, Some, None, Result, Ok, Err}
 use Rattle.std.specs.Fmt.{digits}
-use Rattle.std.specs.Prelude.{codes, replicate, ◌==◌, Option, Some, None, Result, Ok, Err}
 use Rattle.life_base.specs.declared.bounds.Bounds.{Bounds}
 use Rattle.life_base.specs.declared.cell.Cell.{Cell}
 use Rattle.life_base.specs.declared.fault.Fault.{Fault}
@@ -11,8 +10,7 @@ use Rattle.claims.specs.Outcomes.{◌>>=◌}
 use Rattle.claims.specs.Rules.{Rule, counting, named, rule_of, digits_of, rule_text}
 use Rattle.claims.specs.Pattern.{Pattern}
 use Rattle.claims.specs.Macrocell.{Macrocell, first_line, with_line}
-use Rattle.claims.specs.Rle.{PositionFields, Rle, before_header, after_header, after_end, state_of}
-use Rattle.claims.specs.Rle.{with_line as with_rle_line}
+use Rattle.claims.specs.Rle.{PositionFields, Rle, before_header, after_header, after_end, state_of, with_line as with_rle_line}
 use Rattle.claims.specs.Files.{pattern_of, fault_at}
 use Rattle.claims.specs.Generation.{next_life}
 use Rattle.claims.specs.Shown.{box_line}

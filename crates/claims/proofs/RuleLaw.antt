@@ -1,6 +1,5 @@
 -- The rule that a text names is that of the layer below, with its sets as lists.
-use Rattle.std.proofs.Common.{◌≡◌, ℕ, ◌-◌, List, [], ◌∷◌, length, take, drop, map, Bool, true, false, cond, ◌&&◌, ◌||◌, refl, ap, ◌∙◌, sym}
-use Rattle.std.specs.Prelude.{is_some, filter, nat_le, nat_lt, ◌==◌, bytes_eq, codes, Option, Some, None, Result, Ok, Err}
+use Rattle.std.proofs.Common.{◌≡◌, ℕ, ◌-◌, List, [], ◌∷◌, length, take, drop, map, Bool, true, false, cond, ◌&&◌, ◌||◌, refl, ap, ◌∙◌, sym, is_some, filter, nat_le, nat_lt, ◌==◌, bytes_eq, codes, Option, Some, None, Result, Ok, Err}
 use Rattle.std.specs.Char.{to_ascii_uppercase}
 use Rattle.std.specs.List.{list_all, list_any}
 use Rattle.std.specs.Option.{option_map}

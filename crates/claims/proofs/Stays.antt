@@ -1,6 +1,5 @@
 -- What is refused at a line stays refused there, whatever comes behind it.
-use Rattle.std.proofs.Common.{◌≡◌, ℕ, zero, suc, ◌+◌, ◌-◌, ◌^◌, ◌<◌, ◌≤◌, min, List, [], ◌∷◌, length, take, Bool, true, false, cond, refl, ap, ◌∙◌, sym, subst, arith}
-use Rattle.std.specs.Prelude.{Result, Ok, Err, codes}
+use Rattle.std.proofs.Common.{◌≡◌, ℕ, zero, suc, ◌+◌, ◌-◌, ◌^◌, ◌<◌, ◌≤◌, min, List, [], ◌∷◌, length, take, Bool, true, false, cond, refl, ap, ◌∙◌, sym, subst, arith, Result, Ok, Err, codes}
 use Rattle.life_base.specs.Text.{lines_of, begins_with}
 use Rattle.life_base.specs.declared.kind.Kind.{Kind}
 use Rattle.life_base.specs.declared.fault.Fault.{Fault}

@@ -1,17 +1,14 @@
 -- What words have in which `clap` finds no fault.
-use Rattle.std.proofs.Common.{◌≡◌, ◌<◌, ◌++◌, ◌&&◌, ◌||◌, ◌⊎◌, inl, inr, ◌∙◌, not, cond, ℕ, Bool, true, false, zero, suc, refl, sym, ap, subst, arith, List, [], ◌∷◌, length, Option, Some, None, is_some, IsSome, codes, option_map, find, fold}
-use Rattle.std.specs.Prelude.{option_and_then, slice_get, drop, encode_utf8, unwrap_or}
+use Rattle.std.proofs.Common.{◌≡◌, ◌<◌, ◌++◌, ◌&&◌, ◌||◌, ◌⊎◌, inl, inr, ◌∙◌, not, cond, ℕ, Bool, true, false, zero, suc, refl, sym, ap, subst, arith, List, [], ◌∷◌, length, Option, Some, None, is_some, IsSome, codes, option_map, find, fold, option_and_then, slice_get, drop, encode_utf8, unwrap_or, lt-ltb}
 use Rattle.std.specs.Option.{option_map_or}
 use Rattle.std.specs.Str.{bytes_eq, chars}
-use Rattle.std.proofs.lemmas.Bool.{lt-ltb}
 use Rattle.clap.specs.Lexer.{long_of, short_of}
 use Rattle.clap.specs.Facts.{explicit_source, unwrap_or_range}
 use Rattle.clap.specs.Kinds.{Kinds, or_else, range_kinds, check_kinds}
 use Rattle.clap.specs.Simple.{App, Shape, argument_words, built, built_leaf, entered, inherited, label_of, marked_built, names_of, on_top, rows_at, subcommand_of, with_leaf_noted}
 use Rattle.clap.specs.Takes.{is_given}
 use Rattle.clap.specs.Faults.{use_fault, action_fault, settle_fault, react_fault, option_fault, long_fault, short_fault, bundle_step_fault, flags_fault, bundle_fault, flag_word_fault, other_fault, word_fault, positional_fault, step_fault, stray_fault, turn_fault, walk_fault, level_fault, entered_fault, defaults_fault, check_fault, fault_of}
-use Rattle.clap.specs.Walk.{Held, Names, Outcome, Row, Rule, Step, Text, Waiting, Walk, action_of, arg_by_id, arg_by_index, arg_by_long, arg_by_short, at_row, attached_value, more_values, option_met, option_word, plain_word, after_flag, long_met, flag_met, short_met, bundle_step, bundle_met, bundle, long_or_other, short_or_plain, subcommand_met, subcommand_or_other, word_met, is_pending, takes_several, takes_values, positional_held, to_positional, after_step, walked_from, walked, walk, walk_from, with_default, has_row, default_rows, finished, nothing_held, rows_after, reacted, settled, settled_rows, used, used_as, used_by_id, reading_by, values_or_missing, most_values, first_of, answers_to, with_values, without}
-use Rattle.clap.specs.Walk.{done, waits, plain, refused, idle, option, positional, next, trailing, subcommand, value}
+use Rattle.clap.specs.Walk.{Held, Names, Outcome, Row, Rule, Step, Text, Waiting, Walk, action_of, arg_by_id, arg_by_index, arg_by_long, arg_by_short, at_row, attached_value, more_values, option_met, option_word, plain_word, after_flag, long_met, flag_met, short_met, bundle_step, bundle_met, bundle, long_or_other, short_or_plain, subcommand_met, subcommand_or_other, word_met, is_pending, takes_several, takes_values, positional_held, to_positional, after_step, walked_from, walked, walk, walk_from, with_default, has_row, default_rows, finished, nothing_held, rows_after, reacted, settled, settled_rows, used, used_as, used_by_id, reading_by, values_or_missing, most_values, first_of, answers_to, with_values, without, done, waits, plain, refused, idle, option, positional, next, trailing, subcommand, value}
 use Rattle.clap.specs.declared.builder.action.ArgAction.{ArgAction}
 use Rattle.clap.specs.declared.builder.action.ArgAction.TheVariants.{Set, SetTrue, Help}
 use Rattle.clap.specs.declared.error.kind.ErrorKind.{ErrorKind}

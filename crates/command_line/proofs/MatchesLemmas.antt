@@ -1,15 +1,12 @@
 -- From what the getters of `clap` read to the matches that it states.
-use Rattle.std.specs.Prelude.{unwrap_or}
-use Rattle.std.proofs.Common.{◌≡◌, ◌≢◌, codes, ◌↔◌, ◌+◌, cond, fold, ◌∙◌, option_map, refl, ℕ, Bool, map, count_by, Bor, List, [], ◌∷◌, Option, Some, None, IsSome, IfOk, IfErr, Result, Ok, Err, true, ap, sym, subst, inl, inr}
-use Rattle.clap.specs.Words.{App, Kinds, FailsBy, fault_of, is_simple_and_free}
-use Rattle.clap.specs.Words.{Row, Text, first_of, matched_of, raw_values, rows_of}
+use Rattle.std.proofs.Common.{◌≡◌, ◌≢◌, codes, ◌↔◌, ◌+◌, cond, fold, ◌∙◌, option_map, refl, ℕ, Bool, map, count_by, Bor, List, [], ◌∷◌, Option, Some, None, IsSome, IfOk, IfErr, Result, Ok, Err, true, ap, sym, subst, inl, inr, unwrap_or}
+use Rattle.clap.specs.Words.{App, Kinds, FailsBy, fault_of, is_simple_and_free, Row, Text, first_of, matched_of, raw_values, rows_of}
 use Rattle.clap.specs.declared.parser.matches.Found.{Found}
 use Rattle.clap.proofs.WalkLemmas.{raw_values-rows}
 use Rattle.clap.specs.declared.error.Error.{Error}
 use Rattle.clap.specs.declared.error.kind.ErrorKind.{ErrorKind}
 use Rattle.clap.specs.declared.error.kind.ErrorKind.TheVariants.{InvalidSubcommand, InvalidValue}
-use Rattle.command_line.specs.Plans.{AreOfAnyFiles, Explains, ExplainsPlan, HasSecond, HoldsForm, HoldsMatches, IfWork, IsKeysPlanOf, IsRequestOf, IsTaskPlanOf, NamesInputTwice}
-use Rattle.command_line.specs.Plans.{NamesOtherForm, RefusesAs, RefusesWord, TakesAnyFiles, TakesOtherForm, command_of, form_word, values_of}
+use Rattle.command_line.specs.Plans.{AreOfAnyFiles, Explains, ExplainsPlan, HasSecond, HoldsForm, HoldsMatches, IfWork, IsKeysPlanOf, IsRequestOf, IsTaskPlanOf, NamesInputTwice, NamesOtherForm, RefusesAs, RefusesWord, TakesAnyFiles, TakesOtherForm, command_of, form_word, values_of}
 use Rattle.command_line.specs.declared.plans.Form.{Form}
 use Rattle.command_line.specs.declared.plans.Form.TheVariants.{Placed}
 use Rattle.command_line.specs.declared.plans.KeysPlan.{KeysPlan}

@@ -1,11 +1,10 @@
 -- The names that a run of the command `duplicates` prints.
-use Rattle.std.proofs.Common.{◌≡◌, ℕ, suc, ◌<◌, List, [], ◌∷◌, ◌++◌, map, filter, Bool, true, false, cond, Bor, Option, drop, get_or, ◌+◌, inl, inr, refl, sym, ap, ◌∙◌, subst, length, nat_lt, arith, lt-ltb}
-use Rattle.std.specs.Prelude.{flat_map, if◌then◌else◌}
+use Rattle.std.proofs.Common.{◌≡◌, ℕ, suc, ◌<◌, List, [], ◌∷◌, ◌++◌, map, filter, Bool, true, false, cond, Bor, Option, drop, get_or, ◌+◌, inl, inr, refl, sym, ap, ◌∙◌, subst, length, nat_lt, arith, lt-ltb, flat_map, if◌then◌else◌, append_assoc, append-nil}
 use Rattle.std.specs.Io.KnownBytes.{Appends}
 use Rattle.std.specs.Map.{values_of}
 use Rattle.std.proofs.KnownBytes.{Appends-trans}
 use Rattle.std.proofs.lemmas.Grind.{flat_map-append}
-use Rattle.std.proofs.lemmas.List.{append_assoc, append-nil, drop_more, length-map}
+use Rattle.std.proofs.lemmas.List.{drop_more, length-map}
 use Rattle.life_base.specs.Text.{is_empty}
 use Rattle.life_base.specs.Writing.{WritesPrefix}
 use Rattle.life_base.proofs.WritingLemmas.{prefix-after, prefix-grows}

@@ -1,9 +1,8 @@
 -- Files are in one group exactly if they have one key.
-use Rattle.std.proofs.Common.{◌≡◌, ◌⊎◌, ◌<◌, ℕ, zero, suc, List, [], ◌∷◌, map, filter, Bool, true, false, cond, ◌||◌, inl, inr, refl, sym, ap, ◌∙◌, subst, length, get_or, lt-ltb, ◌++◌, arith, Contains, Some, slice_get}
+use Rattle.std.proofs.Common.{◌≡◌, ◌⊎◌, ◌<◌, ℕ, zero, suc, List, [], ◌∷◌, map, filter, Bool, true, false, cond, ◌||◌, inl, inr, refl, sym, ap, ◌∙◌, subst, length, get_or, lt-ltb, ◌++◌, arith, Contains, Some, slice_get, ltb-true}
 use Rattle.std.specs.List.{list_any}
 use Rattle.std.specs.Str.{bytes_eq}
 use Rattle.std.proofs.lemmas.Option.{slice_get_within, get_or_from_slice_get}
-use borrow.Author.Tests.{ltb-true}
 use Rattle.file_keys.specs.Groups.{AreInOneGroup, distinct, files_with, groups_of, GroupsAreByKey, has_key, has_several, HaveOneKey, is_key, key_list, keys_in}
 use Rattle.file_keys.specs.KeyRuns.{Taken}
 use Rattle.file_keys.specs.declared.keys.outcome.Outcome.{Outcome}

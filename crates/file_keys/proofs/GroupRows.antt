@@ -1,6 +1,5 @@
 -- The definitions of the command `duplicates` at worked examples, by computation.
-use Rattle.std.proofs.Common.{◌≡◌, List, [], ◌∷◌, ◌++◌, true, false, refl}
-use Rattle.std.specs.Prelude.{codes}
+use Rattle.std.proofs.Common.{◌≡◌, List, [], ◌∷◌, ◌++◌, true, false, refl, codes}
 use Rattle.std.specs.declared.io.ErrorKind.TheVariants as io
 use Rattle.life_base.specs.Refusal.{fault_of}
 use Rattle.life_base.specs.declared.kind.Kind.TheVariants.{Full}

@@ -1,10 +1,10 @@
 -- What runs of the command `keys` come to and write, one after another.
-use Rattle.std.proofs.Common.{None, OnErr, IsTrue, ◌↔◌, ◌≤◌, zero, suc, Bor, get_or, drop, drop-cons, add-one, ◌+◌, length, ◌<◌, ◌≡◌, ℕ, max, List, [], ◌∷◌, ◌++◌, ◌⊎◌, inl, inr, Bool, true, false, map, filter, not, Option, Result, Ok, Err, ◌^◌, IfOk, IfErr, OnOk, Some, refl, sym, ap, ◌∙◌, subst, arith}
+use Rattle.std.proofs.Common.{None, OnErr, IsTrue, ◌↔◌, ◌≤◌, zero, suc, Bor, get_or, drop, drop-cons, add-one, ◌+◌, length, ◌<◌, ◌≡◌, ℕ, max, List, [], ◌∷◌, ◌++◌, ◌⊎◌, inl, inr, Bool, true, false, map, filter, not, Option, Result, Ok, Err, ◌^◌, IfOk, IfErr, OnOk, Some, refl, sym, ap, ◌∙◌, subst, arith, append_assoc, append-nil, take_all}
 use Rattle.std.specs.List.{FoldsTo}
 use Rattle.std.specs.Io.KnownBytes.{Appends, Keeps}
 use Rattle.std.proofs.KnownBytes.{Appends-nil, Appends-trans}
 use Rattle.std.proofs.lemmas.Grind.{flat_map-append}
-use Rattle.std.proofs.lemmas.List.{append_assoc, append-nil, map-append, take_all}
+use Rattle.std.proofs.lemmas.List.{map-append}
 use Rattle.std.specs.declared.io.Error.{Error as IoError}
 use Rattle.std.specs.declared.io.ErrorKind.TheVariants as io
 use Rattle.life_base.specs.DeviceRuns.{sink_run, source_run, SourceRun}

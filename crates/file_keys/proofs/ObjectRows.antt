@@ -1,6 +1,5 @@
 -- The definitions of the objects of `keys --json` at worked examples, by computation.
-use Rattle.std.proofs.Common.{◌≡◌, [], ◌∷◌, ◌++◌, refl}
-use Rattle.std.specs.Prelude.{codes, decimal}
+use Rattle.std.proofs.Common.{◌≡◌, [], ◌∷◌, ◌++◌, refl, codes, decimal}
 use Rattle.std.specs.declared.io.ErrorKind.TheVariants as io
 use Rattle.life_base.specs.Refusal.{fault_of}
 use Rattle.life_base.specs.declared.kind.Kind.TheVariants.{Memory}

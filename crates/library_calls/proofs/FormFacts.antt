@@ -1,6 +1,5 @@
 -- Patterns that were read into a store, and their forms.
-use Rattle.std.proofs.Common.{◌≡◌, ◌⊎◌, inl, inr, ℕ, ◌+◌, ◌^◌, ◌<◌, List, [], length, sym, ap, ◌∙◌, subst, arith}
-use Rattle.std.specs.Prelude.{◌↔◌, IsTrue, Bool, Contains, min}
+use Rattle.std.proofs.Common.{◌≡◌, ◌⊎◌, inl, inr, ℕ, ◌+◌, ◌^◌, ◌<◌, List, [], length, sym, ap, ◌∙◌, subst, arith, ◌↔◌, IsTrue, Bool, Contains, min}
 use Rattle.life_base.specs.Refusal.{OrMemory, fault_of}
 use Rattle.life_base.specs.Text.{lines_of}
 use Rattle.life_base.specs.Tree.{Tree}

@@ -1,8 +1,7 @@
 -- How many squares a call needs, by those that its store holds.
 --
 -- A `Needs` says of a property that a square which is needed has it; so `Needs (λ u. u ≡ t)` says that t is needed.
-use Rattle.std.proofs.Common.{◌≡◌, ◌≢◌, ◌⊎◌, inl, inr, ℕ, zero, suc, ◌<◌, ◌≤◌, ◌∙◌, false, List, [], ◌∷◌, ◌++◌, length, AllPairs, Result, Ok, Err, OnOk, IfOk, IfErr, sym, ap, subst}
-use Rattle.std.specs.Prelude.{All, Contains}
+use Rattle.std.proofs.Common.{◌≡◌, ◌≢◌, ◌⊎◌, inl, inr, ℕ, zero, suc, ◌<◌, ◌≤◌, ◌∙◌, false, List, [], ◌∷◌, ◌++◌, length, AllPairs, Result, Ok, Err, OnOk, IfOk, IfErr, sym, ap, subst, All, Contains}
 use Rattle.std.proofs.lemmas.List.{length-map}
 use Rattle.std.proofs.lemmas.List.Elements.{All-contains, All-contains_itself}
 use Rattle.std.proofs.lemmas.List.Kept.{AllPairs-cons}

@@ -25,7 +25,6 @@ pub use Rattle.std.proofs.raw_atomic.Walks.{proved}
 pub use Rattle.std.specs.Prelude.{Some}
 pub use Rattle.std.specs.contracts.impls.GlobalAllocator.TheImpl.{ghosts, dict}
 pub use Rattle.library_calls.specs.Owning.{owned}
-use lib.Dec.{T}
 use seplogic.Ra.Ura.{Ura}
 use base.Fml.{flft}
 use base.Logic.{emp}
@@ -52,12 +51,11 @@ use mir.Syntax.{Dict, ty_ptr, impl, tcons, tnil, dnil}
 use mir.Val.{Val, has_ty, WT}
 use types.Kit.{Item, Goal, Seq, Soaks, Step, step, some, later, use0, pick, await, fjoin}
 use types.Logic.{Logic}
-use Rattle.std.proofs.Common.{List}
+use Rattle.std.proofs.Common.{List, T, Option, None, true, is_some}
 use Rattle.std.proofs.ResultValues.{and_tt}
 use Rattle.std.proofs.lemmas.Bool.{false≢true}
 use Rattle.std.proofs.alloc.Global.TheLaws as global_laws
 use Rattle.std.proofs.boxed.Box.TheLaws as box_laws
-use Rattle.std.specs.Prelude.{Option, None, true, is_some}
 use Rattle.std.specs.contracts.alloc.Global as global
 use Rattle.std.specs.contracts.boxed.Box as box
 use Rattle.library_calls.proofs.Destruct++none.drop.Symbol as no_drop

@@ -1,6 +1,5 @@
 -- What a limit bounds: how many squares a store counts into which files were read by themselves.
-use Rattle.std.proofs.Common.{◌≡◌, ◌≢◌, ◌⊎◌, inl, inr, ℕ, ◌<◌, ◌≤◌, ◌∙◌, false, true, List, [], length, AllPairs, Result, Ok, Err, sym, ap, subst, arith}
-use Rattle.std.specs.Prelude.{Contains, IfOk, IsOk, OnOk}
+use Rattle.std.proofs.Common.{◌≡◌, ◌≢◌, ◌⊎◌, inl, inr, ℕ, ◌<◌, ◌≤◌, ◌∙◌, false, true, List, [], length, AllPairs, Result, Ok, Err, sym, ap, subst, arith, Contains, IfOk, IsOk, OnOk}
 use Rattle.std.proofs.lemmas.Bool.{cases_lt}
 use Rattle.std.proofs.lemmas.List.Elements.{All-contains_itself}
 use Rattle.life_base.specs.Kinds.{kind_number}

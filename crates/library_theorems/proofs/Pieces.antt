@@ -1,7 +1,6 @@
 -- What a stream has of the pieces that were fed, and what its end tells of them.
-use Rattle.std.proofs.Common.{◌≡◌, ℕ, ◌+◌, ◌*◌, ◌<◌, ◌≤◌, ◌++◌, ◌⊎◌, inl, inr, List, [], take, drop, length, length-append, ◌∙◌, ap, sym, subst, arith}
+use Rattle.std.proofs.Common.{◌≡◌, ℕ, ◌+◌, ◌*◌, ◌<◌, ◌≤◌, ◌++◌, ◌⊎◌, inl, inr, List, [], take, drop, length, length-append, ◌∙◌, ap, sym, subst, arith, Option, Some, None, IfSome}
 use Rattle.std.specs.Global.{Vec}
-use Rattle.std.specs.Prelude.{Option, Some, None, IfSome}
 use Rattle.life_base.specs.Kinds.{kind_number}
 use Rattle.life_base.specs.declared.fault.Fault.{Fault}
 use Rattle.life_base.specs.declared.kind.Kind.TheVariants.{Memory}

@@ -1,6 +1,5 @@
 -- What the calls of the library tell, in the words of the formats.
-use Rattle.std.proofs.Common.{◌≡◌, ◌⊎◌, inl, inr, ℕ, ◌+◌, ◌<◌, List, [], ◌∷◌, ◌++◌, length, take, drop, refl, ap, ◌∙◌, sym, subst, arith}
-use Rattle.std.specs.Prelude.{◌≢◌, Ok, Err, IsOk}
+use Rattle.std.proofs.Common.{◌≡◌, ◌⊎◌, inl, inr, ℕ, ◌+◌, ◌<◌, List, [], ◌∷◌, ◌++◌, length, take, drop, refl, ap, ◌∙◌, sym, subst, arith, ◌≢◌, Ok, Err, IsOk}
 use Rattle.life_base.specs.Kinds.{kind_number}
 use Rattle.life_base.specs.Refusal.{OrMemory}
 use Rattle.life_base.specs.Text.{lines_of}
@@ -32,8 +31,7 @@ use Rattle.theorems.proofs.TextLaw.{rle_of_file}
 use Rattle.theorems.proofs.StreamLaw.{one_text}
 use Rattle.step_theorems.proofs.StepLaw.{unstepped_is}
 use Rattle.step_theorems.proofs.StepBy.{next_by_is_fixed, stepped_is, unstepped_is as unstepped_by_is}
-use Rattle.library_calls.specs.Texts.{IsTooLowFor, NeedsMore, Wants, RefusesWithin, RefusesRleWithin}
-use Rattle.library_calls.specs.Texts.{IsCanonicalText as LayerText, IsRleText as LayerRle}
+use Rattle.library_calls.specs.Texts.{IsTooLowFor, NeedsMore, Wants, RefusesWithin, RefusesRleWithin, IsCanonicalText as LayerText, IsRleText as LayerRle}
 use Rattle.library_calls.specs.declared.compared.Compared.{Compared}
 use Rattle.library_calls.specs.Comparing.{ComparesWithin, by_answer, IsAnswerOf, IsTooLowForBoth, RefusesEither}
 use Rattle.library_calls.specs.Comparing as comparing

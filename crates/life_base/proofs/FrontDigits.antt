@@ -1,6 +1,5 @@
 -- The digits in front of a text.
-use Rattle.std.proofs.Common.{◌≡◌, ℕ, zero, suc, ◌+◌, ◌<◌, Bool, true, false, not, cond, ◌&&◌, List, [], ◌∷◌, take, refl, ap, ◌∙◌, arith}
-use Rattle.std.specs.Prelude.{take_while}
+use Rattle.std.proofs.Common.{◌≡◌, ℕ, zero, suc, ◌+◌, ◌<◌, Bool, true, false, not, cond, ◌&&◌, List, [], ◌∷◌, take, refl, ap, ◌∙◌, arith, take_while}
 use Rattle.std.specs.Char.{is_ascii_digit}
 use Rattle.std.specs.List.{list_all, prefix_len}
 use Rattle.life_base.specs.Text.{is_empty, is_digit_text}

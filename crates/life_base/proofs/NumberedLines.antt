@@ -1,9 +1,8 @@
 -- Lines that are read one after another, each with its number.
-use Rattle.std.proofs.Common.{◌≡◌, ℕ, ◌+◌, ◌-◌, ◌^◌, ◌≤◌, min, suc, List, [], ◌∷◌, ◌++◌, length, take, get_or, map, Bor, refl, ap, sym, subst, ◌∙◌, arith, length-append}
-use Rattle.std.specs.Prelude.{Option, Some}
+use Rattle.std.proofs.Common.{◌≡◌, ℕ, ◌+◌, ◌-◌, ◌^◌, ◌≤◌, min, suc, List, [], ◌∷◌, ◌++◌, length, take, get_or, map, Bor, refl, ap, sym, subst, ◌∙◌, arith, length-append, Option, Some, append-nil}
 use Rattle.std.proofs.Math.Seq.{take-append_seam, get_or-append_seam}
 use Rattle.std.proofs.Math.ListN.{get_or-append}
-use Rattle.std.proofs.lemmas.List.{append-nil, take-append-le, map-append}
+use Rattle.std.proofs.lemmas.List.{take-append-le, map-append}
 use Rattle.life_base.specs.Lines.{AreNumbered}
 use Rattle.life_base.specs.Text.{numbered_from}
 use Rattle.life_base.specs.Refusal.{IsRefusal, BreaksBy}

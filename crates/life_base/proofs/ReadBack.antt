@@ -1,10 +1,8 @@
 -- The text of a rule says that rule.
-use Rattle.std.proofs.Common.{◌≡◌, ℕ, ◌<◌, ◌≤◌, List, [], ◌∷◌, ◌++◌, length, Bool, true, false, not, ◌&&◌, ◌||◌, refl, ap, sym, ◌∙◌, arith, length-append, append_assoc}
-use Rattle.std.specs.Prelude.{codes, nat_le, nat_lt, ◌==◌, Some, Ok}
+use Rattle.std.proofs.Common.{◌≡◌, ℕ, ◌<◌, ◌≤◌, List, [], ◌∷◌, ◌++◌, length, Bool, true, false, not, ◌&&◌, ◌||◌, refl, ap, sym, ◌∙◌, arith, length-append, append_assoc, codes, nat_le, nat_lt, ◌==◌, Some, Ok, append-nil}
 use Rattle.std.specs.List.{list_all}
 use Rattle.std.proofs.lemmas.Bool.{and_from}
 use Rattle.std.proofs.lemmas.Bool.Decides.{nat_tests}
-use Rattle.std.proofs.lemmas.List.{append-nil}
 use Rattle.std.proofs.lemmas.List.Folds.{list_all-append}
 use Rattle.life_base.proofs.RoundTrip.{moore_again, text_passes, sets_again, set_again, set_digits, set_short, digit_visible, digit_no_colon}
 use Rattle.life_base.proofs.RuleForms.{life_texts_are_forms, rule_texts_are_plain}

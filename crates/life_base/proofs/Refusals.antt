@@ -1,6 +1,6 @@
 -- Which line a refused file breaks at, for a grammar that says of each line whether it may stand where it stands.
-use Rattle.std.proofs.Common.{◌≡◌, ℕ, ◌+◌, ◌-◌, ◌^◌, ◌<◌, ◌≤◌, min, List, [], ◌++◌, length, take, get_or, Option, Some, None, refl, ap, sym, ◌∙◌, arith, length-append, inl, inr}
-use Rattle.std.proofs.lemmas.List.{take-take, get_or-take, take-append-le, length-take-le}
+use Rattle.std.proofs.Common.{◌≡◌, ℕ, ◌+◌, ◌-◌, ◌^◌, ◌<◌, ◌≤◌, min, List, [], ◌++◌, length, take, get_or, Option, Some, None, refl, ap, sym, ◌∙◌, arith, length-append, inl, inr, take-take, get_or-take, length-take-le}
+use Rattle.std.proofs.lemmas.List.{take-append-le}
 use Rattle.std.proofs.Math.ListN.{get_or-append}
 use Rattle.life_base.specs.Refusal.{Prefix, IsPlace, IsRefusal, BreaksBy, kept, continuations}
 use Rattle.life_base.specs.declared.kind.Kind.{Kind}

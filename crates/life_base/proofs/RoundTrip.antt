@@ -1,8 +1,7 @@
 -- The text of a rule of the eight neighbours says that rule.
-use Rattle.std.proofs.Common.{◌≡◌, ℕ, zero, suc, ◌<◌, ◌≤◌, List, [], ◌∷◌, ◌++◌, length, Bool, true, false, cond, not, ◌&&◌, ◌||◌, refl, ap, ◌∙◌, arith, length-append, append_assoc, ◌⊎◌, inl, inr}
-use Rattle.std.specs.Prelude.{codes, filter, nat_le, ◌==◌, Ok, Err, map}
+use Rattle.std.proofs.Common.{◌≡◌, ℕ, zero, suc, ◌<◌, ◌≤◌, List, [], ◌∷◌, ◌++◌, length, Bool, true, false, cond, not, ◌&&◌, ◌||◌, refl, ap, ◌∙◌, arith, length-append, append_assoc, ◌⊎◌, inl, inr, codes, filter, nat_le, ◌==◌, Ok, Err, map, leb-true, eqb-true, le-ltb}
 use Rattle.std.specs.List.{list_all, list_any, slice_split}
-use Rattle.std.proofs.lemmas.Bool.{leb-true, and_from, not-true, eqb-true, le-ltb}
+use Rattle.std.proofs.lemmas.Bool.{and_from, not-true}
 use Rattle.std.proofs.lemmas.Bool.Decides.{nat_tests}
 use Rattle.std.proofs.lemmas.List.Folds.{list_all-append}
 use Rattle.std.specs.Char.{to_ascii_uppercase}

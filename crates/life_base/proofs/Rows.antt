@@ -1,6 +1,5 @@
 -- The definitions at worked examples, by computation.
-use Rattle.std.proofs.Common.{◌≡◌, ℕ, ◌^◌, List, [], ◌∷◌, map, refl}
-use Rattle.std.specs.Prelude.{codes, Result, Ok, Err}
+use Rattle.std.proofs.Common.{◌≡◌, ℕ, ◌^◌, List, [], ◌∷◌, map, refl, codes, Result, Ok, Err}
 use Rattle.life_base.specs.Text.{lines_of, words_of, value_of}
 use Rattle.life_base.specs.Rules.{rule_of, rule_text, life_sets, four_sets, moore_rule_of, counting}
 use Rattle.life_base.specs.declared.kind.Kind.{Kind}

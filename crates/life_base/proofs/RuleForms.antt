@@ -1,16 +1,13 @@
 -- What rule texts say, told as what each text is.
-use Rattle.std.proofs.Common.{◌≡◌, ℕ, ◌<◌, ◌-◌, List, [], ◌∷◌, ◌++◌, length, take, drop, Bool, true, false, cond, not, ◌&&◌, ◌||◌, refl, ap, sym, subst, ◌∙◌, arith, append_assoc, length-append, ◌⊎◌, inl, inr}
-use Rattle.std.specs.Prelude.{◌==◌, ◌↔◌, nat_lt, map, filter, codes, bytes_eq, is_some, Option, Some, None, Ok, Err}
+use Rattle.std.proofs.Common.{◌≡◌, ℕ, ◌<◌, ◌-◌, List, [], ◌∷◌, ◌++◌, length, take, drop, Bool, true, false, cond, not, ◌&&◌, ◌||◌, refl, ap, sym, subst, ◌∙◌, arith, append_assoc, length-append, ◌⊎◌, inl, inr, ◌==◌, ◌↔◌, nat_lt, map, filter, codes, bytes_eq, is_some, Option, Some, None, Ok, Err, le-ltb, take-append-drop}
 use Rattle.std.specs.List.{list_all, list_any, onto_first}
-use Rattle.std.proofs.lemmas.Bool.{not-true, and_from, or_parts, le-ltb}
+use Rattle.std.proofs.lemmas.Bool.{not-true, and_from, or_parts}
 use Rattle.std.proofs.lemmas.Bool.Decides.{nat_tests}
-use Rattle.std.proofs.lemmas.List.{take-append-drop}
 use Rattle.std.proofs.Math.Seq.{take-append_seam, drop-append_seam}
 use Rattle.std.specs.Char.{to_ascii_uppercase}
 use Rattle.std.proofs.lemmas.List.Folds.{list_all-append}
 use Rattle.life_base.proofs.NamesRead.{all_pass, solid, visible_solid, good_text, four_none}
-use Rattle.life_base.proofs.RoundTrip.{visible}
-use Rattle.life_base.proofs.RoundTrip.{is_mark, split_at, split_end, no_marks, none_left, no_any}
+use Rattle.life_base.proofs.RoundTrip.{visible, is_mark, split_at, split_end, no_marks, none_left, no_any}
 use Rattle.life_base.proofs.Texts.{same_bytes, blank_front}
 use Rattle.life_base.proofs.Basics.{right_of_and, left_of_and}
 use Rattle.life_base.specs.Sets.{DigitSets}

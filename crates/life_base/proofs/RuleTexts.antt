@@ -1,6 +1,5 @@
 -- What the canonical texts of rules are like.
-use Rattle.std.proofs.Common.{◌≡◌, ℕ, List, ◌∷◌, false, ap, sym, ◌∙◌, append_assoc}
-use Rattle.std.specs.Prelude.{codes, Ok}
+use Rattle.std.proofs.Common.{◌≡◌, ℕ, List, ◌∷◌, false, ap, sym, ◌∙◌, append_assoc, codes, Ok}
 use Rattle.life_base.specs.Sets.{DigitSets}
 use Rattle.life_base.specs.Rules.{rule_of, rule_text, counting, is_bad_text, digits_of, IsLifeRule, RuleTextsTellRules, RuleTextsAreVisible}
 use Rattle.life_base.specs.declared.rule.Near.{Near}

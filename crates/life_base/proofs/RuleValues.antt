@@ -1,6 +1,5 @@
 -- What a rule text says is a rule.
-use Rattle.std.proofs.Common.{◌≡◌, ℕ, ◌<◌, ◌+◌, ◌-◌, ◌^◌, ◌&&◌, length, take, List, [], ◌∷◌, Bool, true, false, cond, refl, ap, subst, ◌∙◌, arith}
-use Rattle.std.specs.Prelude.{◌==◌, nat_lt, codes, bytes_eq, Option, Some, None, Ok, Err}
+use Rattle.std.proofs.Common.{◌≡◌, ℕ, ◌<◌, ◌+◌, ◌-◌, ◌^◌, ◌&&◌, length, take, List, [], ◌∷◌, Bool, true, false, cond, refl, ap, subst, ◌∙◌, arith, ◌==◌, nat_lt, codes, bytes_eq, Option, Some, None, Ok, Err}
 use Rattle.std.specs.List.{list_any}
 use Rattle.life_base.proofs.NamesRead.{rule_text_trimmed}
 use Rattle.life_base.specs.Sets.{DigitSets, OuterTotalistic}

@@ -1,6 +1,5 @@
 -- A cell that is counted from a north west corner is in a span of columns of a row where it is in the run of cells there.
-use Rattle.std.proofs.Common.{◌≡◌, ℕ, ◌+◌, ◌≤◌, ◌<◌, Bool, true, ◌&&◌, nat_lt, nat_le, ℤ, pos, ◌+ℤ◌, ◌<ℤ◌, ◌≤ℤ◌, arith}
-use Rattle.std.specs.Prelude.{◌==◌}
+use Rattle.std.proofs.Common.{◌≡◌, ℕ, ◌+◌, ◌≤◌, ◌<◌, Bool, true, ◌&&◌, nat_lt, nat_le, ℤ, pos, ◌+ℤ◌, ◌<ℤ◌, ◌≤ℤ◌, arith, ◌==◌}
 use Rattle.std.proofs.lemmas.Int.{ints}
 
 -- whether a column and a row are in the span

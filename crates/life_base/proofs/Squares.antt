@@ -1,6 +1,5 @@
 -- Facts about squares of cells, by their quarters and on the plane.
-use Rattle.std.proofs.Common.{◌≡◌, ℕ, zero, suc, ◌+◌, ◌-◌, ◌^◌, ◌<◌, Bool, true, false, ◌&&◌, nat_lt, ℤ, pos, negsuc, neg_ℤ, ◌+ℤ◌, ◌≤ℤ◌, ◌<ℤ◌, refl, ◌∙◌, ap, arith}
-use Rattle.std.specs.Prelude.{if◌then◌else◌, int_le, int_lt, unsigned_abs}
+use Rattle.std.proofs.Common.{◌≡◌, ℕ, zero, suc, ◌+◌, ◌-◌, ◌^◌, ◌<◌, Bool, true, false, ◌&&◌, nat_lt, ℤ, pos, negsuc, neg_ℤ, ◌+ℤ◌, ◌≤ℤ◌, ◌<ℤ◌, refl, ◌∙◌, ap, arith, if◌then◌else◌, int_le, int_lt, unsigned_abs}
 use Rattle.std.proofs.lemmas.Int.{ints}
 use Rattle.life_base.specs.Tree.{Tree, point, quad, depth, blank, is_blank_tree, state_at, half_side, tree_cell as cell, IsFull}
 use Rattle.life_base.proofs.Basics.{right_of_and, left_of_and}

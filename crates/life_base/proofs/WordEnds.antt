@@ -1,11 +1,9 @@
 -- Where the first word of a text ends.
-use Rattle.std.proofs.Common.{◌≡◌, ℕ, suc, ◌+◌, ◌≤◌, List, [], ◌∷◌, length, take, drop, Bool, true, false, not, cond, ◌&&◌, refl, ap, sym, ◌∙◌, arith, ltb}
-use Rattle.std.specs.Prelude.{position, Some, None}
+use Rattle.std.proofs.Common.{◌≡◌, ℕ, suc, ◌+◌, ◌≤◌, List, [], ◌∷◌, length, take, drop, Bool, true, false, not, cond, ◌&&◌, refl, ap, sym, ◌∙◌, arith, ltb, position, Some, None, take_all, take-append-drop, length-append, ltb-false}
 use Rattle.std.specs.List.{position_or_len}
 use Rattle.std.proofs.lemmas.List.Quantifiers.{position-Some}
 use Rattle.std.proofs.lemmas.List.Sums.{position_or_len_is}
-use Rattle.std.proofs.lemmas.List.{take_all, drop_all, take-append-drop, length-append}
-use Rattle.std.proofs.lemmas.Bool.{ltb-false}
+use Rattle.std.proofs.lemmas.List.{drop_all}
 use Rattle.life_base.specs.Text.{is_empty, is_whitespace, is_blank, trim_start, words_of, onto_first, with_word}
 use Rattle.life_base.proofs.Basics.{false_from_none}
 

@@ -1,6 +1,5 @@
 -- Where the bits of words come from whose squares or rows are put together.
-use Rattle.std.proofs.Common.{◌≡◌, ℕ, ◌+◌, ◌*◌, ◌-◌, ◌<◌, Bool, true, refl}
-use Rattle.std.specs.Prelude.{◌==◌}
+use Rattle.std.proofs.Common.{◌≡◌, ℕ, ◌+◌, ◌*◌, ◌-◌, ◌<◌, Bool, true, refl, ◌==◌}
 use Rattle.life_base.proofs.RoundTrip.{all_below, all_below_at}
 use Rattle.life_lanes.specs.Places.{place_in, exchanged}
 use Rattle.life_lanes.proofs.PlaceLemmas.{equal}

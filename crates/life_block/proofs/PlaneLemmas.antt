@@ -1,6 +1,5 @@
 -- A part of the square of the plane's next states is a square of the plane.
-use Rattle.std.proofs.Common.{◌≡◌, ℕ, zero, suc, ◌+◌, ◌*◌, ◌-◌, ◌^◌, ◌<◌, ◌≤◌, Bool, true, false, inl, inr, ℤ, pos, neg_ℤ, ◌+ℤ◌, refl, sym, ◌∙◌, ap, subst, arith}
-use Rattle.std.specs.Prelude.{◌-ℤ◌, if◌then◌else◌}
+use Rattle.std.proofs.Common.{◌≡◌, ℕ, zero, suc, ◌+◌, ◌*◌, ◌-◌, ◌^◌, ◌<◌, ◌≤◌, Bool, true, false, inl, inr, ℤ, pos, neg_ℤ, ◌+ℤ◌, refl, sym, ◌∙◌, ap, subst, arith, ◌-ℤ◌, if◌then◌else◌}
 use Rattle.std.proofs.lemmas.Int.{ints}
 use Rattle.life_base.specs.Rules.{has_digit}
 use Rattle.life_base.specs.Sets.{OuterTotalistic}

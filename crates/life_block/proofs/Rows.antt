@@ -1,5 +1,5 @@
 -- Worked examples, computed.
-use Rattle.std.specs.Prelude.{◌≡◌, ℕ, ℤ, pos, negsuc, [], ◌∷◌, refl, ◌&&◌, int_le, if◌then◌else◌}
+use Rattle.std.proofs.Common.{◌≡◌, ℕ, ℤ, pos, negsuc, [], ◌∷◌, refl, ◌&&◌, int_le, if◌then◌else◌}
 use Rattle.life_base.specs.Tree.{point, quad}
 use Rattle.life_block.specs.Bits.{neighbours_in, sides_in, count_at}
 use Rattle.life_block.specs.Pieces.{IsPiece, back, ahead}

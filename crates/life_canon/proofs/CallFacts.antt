@@ -1,6 +1,5 @@
 -- Calls on files in a store: what one call said stands after the next, and the texts are of the pattern that was read.
-use Rattle.std.proofs.Common.{◌≡◌, ℕ, ◌<◌, ◌≤◌, ◌^◌, true, List, [], ◌++◌, length, ap, sym, ◌∙◌, subst, arith, lit≤, lit<, ◌⊎◌, inl, inr}
-use Rattle.std.specs.Prelude.{Result, Ok, Err, IfErr}
+use Rattle.std.proofs.Common.{◌≡◌, ℕ, ◌<◌, ◌≤◌, ◌^◌, true, List, [], ◌++◌, length, ap, sym, ◌∙◌, subst, arith, lit≤, lit<, ◌⊎◌, inl, inr, Result, Ok, Err, IfErr}
 use Rattle.life_base.specs.Refusal.{fault_of}
 use Rattle.life_base.specs.Text.{lines_of}
 use Rattle.life_base.specs.Tree.{depth}

@@ -1,10 +1,7 @@
 -- The first line feed of a piece, and the bytes before and behind it.
-use Rattle.std.proofs.Common.{◌≡◌, ℕ, zero, suc, ◌+◌, ◌<◌, ◌≤◌, Bool, true, false, not, ◌&&◌, List, [], ◌∷◌, ◌++◌, length, take, drop, get_or, refl, ap, sym, ◌∙◌, arith, ltb, Option, Some, None, append_assoc, drop-cons}
-use Rattle.std.specs.Prelude.{◌==◌, position}
+use Rattle.std.proofs.Common.{◌≡◌, ℕ, zero, suc, ◌+◌, ◌<◌, ◌≤◌, Bool, true, false, not, ◌&&◌, List, [], ◌∷◌, ◌++◌, length, take, drop, get_or, refl, ap, sym, ◌∙◌, arith, ltb, Option, Some, None, append_assoc, drop-cons, ◌==◌, position, ltb-false, take-append-drop}
 use Rattle.std.specs.List.{position_or_len}
-use Rattle.std.proofs.lemmas.Bool.{ltb-false}
 use Rattle.std.proofs.lemmas.Bool.Decides.{nat_tests}
-use Rattle.std.proofs.lemmas.List.{take-append-drop}
 use Rattle.std.proofs.lemmas.List.Quantifiers.{position-Some}
 use Rattle.life_base.specs.Lines.{has_no_feed}
 use Rattle.life_base.proofs.LineEnds.{further}

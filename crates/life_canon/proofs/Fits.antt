@@ -1,6 +1,5 @@
 -- A pattern that was read may be numbered, and has the cells of the file.
-use Rattle.std.proofs.Common.{◌≡◌, ℕ, suc, ◌+◌, ◌-◌, ◌≤◌, List, ap, sym, ◌∙◌, subst, arith}
-use Rattle.std.specs.Prelude.{ℤ}
+use Rattle.std.proofs.Common.{◌≡◌, ℕ, suc, ◌+◌, ◌-◌, ◌≤◌, List, ap, sym, ◌∙◌, subst, arith, ℤ}
 use Rattle.life_base.specs.declared.cell.TheConstants.{MAX_LEVEL}
 use Rattle.life_base.specs.declared.rule.Rule.{Rule}
 use Rattle.life_base.specs.Tree.{Tree, depth, tree_cell}
@@ -12,9 +11,8 @@ use Rattle.life_canon.specs.Universe.{Universe, IsSame, IsOnPlane, least_level, 
 use Rattle.life_canon.specs.Store.{IsRead, IsTrimmed, content, universe_in}
 use Rattle.life_canon.specs.declared.pattern.Pattern.{Pattern}
 use Rattle.life_canon.proofs.TreeWords.{below_top, trimmed_to}
-use Rattle.life_canon.proofs.Trees.{depth_is}
+use Rattle.life_canon.proofs.Trees.{depth_is, centred-trimmed}
 pub use Rattle.life_canon.proofs.Content.{least-one}
-use Rattle.life_canon.proofs.Trees.{centred-trimmed}
 use Rattle.life_canon.proofs.Planes.{states-upto, trimmed-is, centred-tree_cell, tree_cell-outside}
 use Rattle.life_canon.proofs.Canonical.{whole-is, whole-trimmed, same-cells, least-high}
 use Rattle.life_canon.proofs.Formats.{reads-plane}

@@ -1,9 +1,8 @@
 -- The front of a file: what its lines are as bytes come, and why it is refused.
-use Rattle.std.proofs.Common.{◌≡◌, ℕ, suc, ◌+◌, ◌-◌, ◌^◌, ◌<◌, ◌≤◌, min, max, Bool, true, false, cond, List, [], ◌∷◌, ◌++◌, length, take, refl, ap, sym, ◌∙◌, subst, arith, ◌⊎◌, inl, inr, Some, None, append_assoc}
-use Rattle.std.specs.Prelude.{MatchBool, IsTrue, ◌==◌, position, Result, Ok, Err, IfErr}
+use Rattle.std.proofs.Common.{◌≡◌, ℕ, suc, ◌+◌, ◌-◌, ◌^◌, ◌<◌, ◌≤◌, min, max, Bool, true, false, cond, List, [], ◌∷◌, ◌++◌, length, take, refl, ap, sym, ◌∙◌, subst, arith, ◌⊎◌, inl, inr, Some, None, append_assoc, MatchBool, IsTrue, ◌==◌, position, Result, Ok, Err, IfErr, append-nil, length-append}
 use Rattle.std.specs.List.{slice_index_or}
 use Rattle.std.proofs.lemmas.Bool.Decides.{nat_tests}
-use Rattle.std.proofs.lemmas.List.{append-nil, take-append-le, length-append}
+use Rattle.std.proofs.lemmas.List.{take-append-le}
 use Rattle.std.proofs.Math.Seq.{take-append_seam, get_or-append_seam}
 use Rattle.life_base.specs.Lines.{has_no_feed, whole_lines, rest_line, one_line}
 use Rattle.life_base.proofs.WholeLines.{lines_are_whole, lines_continue, lines_longer, lines_ended}

@@ -1,6 +1,5 @@
 -- A store holds the parts of each square that it knows, but for blank ones.
-use Rattle.std.proofs.Common.{◌≡◌, ℕ, suc, ◌≤◌, true, false, true≢false, length, ap, sym, ◌∙◌, subst, arith, inl, inr}
-use Rattle.std.specs.Prelude.{Contains}
+use Rattle.std.proofs.Common.{◌≡◌, ℕ, suc, ◌≤◌, true, false, true≢false, length, ap, sym, ◌∙◌, subst, arith, inl, inr, Contains}
 use Rattle.life_base.proofs.Squares.{is_blank-blank, quad_nw, quad_ne, quad_sw, quad_se, point≢quad}
 use Rattle.life_base.proofs.Basics.{contains-map}
 use Rattle.life_base.specs.Tree.{Tree, point, quad, depth, is_blank_tree}

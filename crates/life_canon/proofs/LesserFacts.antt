@@ -1,9 +1,8 @@
 -- The lesser of two texts, one of which comes piece by piece.
-use Rattle.std.proofs.Common.{◌≡◌, inl, inr, ℕ, ◌+◌, ◌-◌, ◌≤◌, List, [], ◌++◌, length, take, drop, refl, sym, ap, ap₂, ◌∙◌, subst, subst₂, arith, length-append, length-drop, min, Result, Ok, Err}
-use Rattle.std.specs.Prelude.{OnOk, OnErr, flat_map}
+use Rattle.std.proofs.Common.{◌≡◌, inl, inr, ℕ, ◌+◌, ◌-◌, ◌≤◌, List, [], ◌++◌, length, take, drop, refl, sym, ap, ap₂, ◌∙◌, subst, subst₂, arith, length-append, length-drop, min, Result, Ok, Err, OnOk, OnErr, flat_map, append_assoc, append-nil, take-append-drop, take_at, drop_at, length-take}
 use Rattle.std.proofs.Math.Seq.{paste, take-add, take-append-add, take-length}
 use Rattle.std.proofs.lemmas.List.Edits.{take-paste}
-use Rattle.std.proofs.lemmas.List.{append_assoc, append-nil, take-append-drop, take-append-le, take_at, drop_at, length-take}
+use Rattle.std.proofs.lemmas.List.{take-append-le}
 use Rattle.life_mc.specs.Writing.{node_text}
 use Rattle.life_mc.specs.declared.line.Line.{Line}
 use Rattle.life_canon.specs.Lesser.{IsUpTo, IsLesser, IsLesserText, IsOldHeld, IsOldLesser, IsWithin, Holds, LinesCome}

@@ -1,8 +1,6 @@
 -- The squares that a refused call lacked: of the root that is grown or trimmed, of runs, and of lines with more lines behind them.
-use Rattle.std.proofs.Common.{◌≡◌, ◌⊎◌, inl, inr, ℕ, zero, suc, ◌+◌, ◌-◌, ◌<◌, ◌≤◌, true, List, [], ◌∷◌, ◌++◌, length, take, drop, get_or, max, ap, sym, ◌∙◌, subst, arith, append_assoc, drop-cons, refl, ℤ, ◌+ℤ◌, pos}
-use Rattle.std.specs.Prelude.{nat_abs}
-use Rattle.std.proofs.lemmas.List.{append-nil, take-append-drop}
-use Rattle.life_base.specs.Lines.{has_no_feed, whole_lines}
+use Rattle.std.proofs.Common.{◌≡◌, ◌⊎◌, inl, inr, ℕ, zero, suc, ◌+◌, ◌-◌, ◌<◌, ◌≤◌, true, List, [], ◌∷◌, ◌++◌, length, take, drop, get_or, max, ap, sym, ◌∙◌, subst, arith, append_assoc, drop-cons, refl, ℤ, ◌+ℤ◌, pos, nat_abs, append-nil, take-append-drop}
+use Rattle.life_base.specs.Lines.{has_no_feed, whole_lines, rest_line, one_line}
 use Rattle.life_base.specs.Refusal.{Prefix, fault_at, fault_of}
 use Rattle.life_base.specs.Text.{lines_of}
 use Rattle.life_base.specs.declared.cell.TheConstants.{MAX_LEVEL}
@@ -12,7 +10,6 @@ use Rattle.life_base.specs.declared.kind.Kind.{Kind}
 use Rattle.life_base.specs.declared.kind.Kind.TheVariants.{Full}
 use Rattle.life_base.specs.Tree.{Tree, depth, tree_cell, IsFull}
 use Rattle.life_base.proofs.WholeLines.{lines_are_whole, lines_continue}
-use Rattle.life_base.specs.Lines.{rest_line, one_line}
 use Rattle.life_mc.specs.Reading.{Accepts, squares_of}
 use Rattle.life_mc.specs.declared.line.Line.{Line}
 use Rattle.life_rle.specs.File.{HasRuns}

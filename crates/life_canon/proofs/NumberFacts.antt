@@ -1,14 +1,11 @@
 -- The lines of the squares of a root.
-use Rattle.std.proofs.Common.{◌≡◌, ℕ, suc, ◌+◌, ◌-◌, ◌^◌, ◌<◌, ◌≤◌, List, length, ap, sym, ◌∙◌, subst, arith}
-use Rattle.std.specs.Prelude.{ℤ}
-use Rattle.life_base.specs.Tree.{Tree, depth}
+use Rattle.std.proofs.Common.{◌≡◌, ℕ, suc, ◌+◌, ◌-◌, ◌^◌, ◌<◌, ◌≤◌, List, length, ap, sym, ◌∙◌, subst, arith, ℤ}
+use Rattle.life_base.specs.Tree.{Tree, depth, IsFull, tree_cell}
 use Rattle.life_base.specs.declared.rule.Rule.{Rule}
-use Rattle.life_canon.specs.Universe.{least_level, IsOnPlane}
+use Rattle.life_canon.specs.Universe.{least_level, IsOnPlane, square_universe, centred, whole, IsBlankOutside}
 use Rattle.life_canon.specs.Listing.{listed, lines_for, square_file, canonical_file}
 use Rattle.life_canon.specs.Least.{IsLeast}
-use Rattle.life_canon.specs.Universe.{square_universe, centred, whole, IsBlankOutside}
 use Rattle.life_base.specs.Rules.{IsRule}
-use Rattle.life_base.specs.Tree.{IsFull, tree_cell}
 use Rattle.life_mc.specs.Cells.{node_lines}
 use Rattle.life_mc.specs.Macrocell.{AreSquares, largest_state}
 use Rattle.life_mc.specs.Squares.{HasStatesUpTo}

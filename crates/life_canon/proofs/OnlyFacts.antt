@@ -1,6 +1,5 @@
 -- Calls that are refused for nothing but a square: one behind the other, and refusals that are handed on.
-use Rattle.std.proofs.Common.{◌≡◌, ◌∙◌, Result, Ok, Err, OnErr, ap, sym, subst}
-use Rattle.std.specs.Prelude.{IfErr, IsErrAnd}
+use Rattle.std.proofs.Common.{◌≡◌, ◌∙◌, Result, Ok, Err, OnErr, ap, sym, subst, IfErr, IsErrAnd}
 use Rattle.std.proofs.lemmas.Result.{on_err_weaker, err_from_is_err_and}
 use Rattle.life_base.proofs.Results.{on_err_both}
 use Rattle.life_base.specs.Tree.{Tree}

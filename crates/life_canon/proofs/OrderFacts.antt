@@ -1,10 +1,9 @@
 -- The order of texts.
-use Rattle.std.proofs.Common.{◌≡◌, ◌⊎◌, inl, inr, ℕ, Bool, true, false, List, [], ◌∷◌, ◌++◌, length, take, refl, sym, ap, ap₂, ◌∙◌, subst, true≢false, Ordering, Less, Equal, Greater, nat_cmp, is_gt}
+use Rattle.std.proofs.Common.{◌≡◌, ◌⊎◌, inl, inr, ℕ, Bool, true, false, List, [], ◌∷◌, ◌++◌, length, take, refl, sym, ap, ap₂, ◌∙◌, subst, true≢false, Ordering, Less, Equal, Greater, nat_cmp, is_gt, append-nil}
 use Rattle.std.specs.Ordering.{ordering_reverse, ordering_then, is_lt}
 use Rattle.std.specs.Cmp.Lexicographic.{slice_cmp}
 use Rattle.std.specs.FinMap.{slice_cmp-IsAntisymmetric, nat_cmp-IsAntisymmetric}
 use Rattle.std.proofs.lemmas.Cmp.{nat_cmp_total, nat_list_cmp_total, ranked, upto, tied_itself}
-use Rattle.std.proofs.lemmas.List.{append-nil}
 use Rattle.life_canon.specs.Lesser.{IsUpTo}
 
 pub up-to-itself : (a : List ℕ) → IsUpTo a a

@@ -1,9 +1,8 @@
 -- A front that is refused stays refused, whatever bytes follow, and the fault of a longer input is that of its front.
-use Rattle.std.proofs.Common.{◌≡◌, ℕ, suc, ◌+◌, ◌-◌, ◌^◌, ◌<◌, ◌≤◌, min, Bool, true, false, List, [], ◌∷◌, ◌++◌, length, take, drop, get_or, refl, ap, sym, ◌∙◌, subst, arith, inl, inr, Some, append_assoc, drop-cons, codes}
-use Rattle.std.specs.Prelude.{MatchBool, bytes_eq}
+use Rattle.std.proofs.Common.{◌≡◌, ℕ, suc, ◌+◌, ◌-◌, ◌^◌, ◌<◌, ◌≤◌, min, Bool, true, false, List, [], ◌∷◌, ◌++◌, length, take, drop, get_or, refl, ap, sym, ◌∙◌, subst, arith, inl, inr, Some, append_assoc, drop-cons, codes, MatchBool, bytes_eq, append-nil, take-append-drop, length-append, length-take-le}
 use Rattle.std.specs.List.{slice_index_or}
 use Rattle.std.proofs.lemmas.Bool.Decides.{nat_tests}
-use Rattle.std.proofs.lemmas.List.{append-nil, take-append-drop, take-append-le, length-append, length-take-le}
+use Rattle.std.proofs.lemmas.List.{take-append-le}
 use Rattle.std.proofs.Math.ListN.{get_or-append}
 use Rattle.life_base.specs.Lines.{has_no_feed, whole_lines, rest_line, one_line}
 use Rattle.life_base.proofs.WholeLines.{lines_are_whole, lines_continue, rest_has_no_feed, lines_step}

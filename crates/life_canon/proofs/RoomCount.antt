@@ -1,6 +1,5 @@
 -- A store that lacks a square of a file has room left.
-use Rattle.std.proofs.Common.{◌≡◌, ◌≢◌, ℕ, ◌+◌, ◌≤◌, false, List, ◌∷◌, ◌++◌, length, refl, subst, arith, inl, inr, length-append, AllPairs}
-use Rattle.std.specs.Prelude.{Contains}
+use Rattle.std.proofs.Common.{◌≡◌, ◌≢◌, ℕ, ◌+◌, ◌≤◌, false, List, ◌∷◌, ◌++◌, length, refl, subst, arith, inl, inr, length-append, AllPairs, Contains}
 use Rattle.life_base.specs.Tree.{Tree, point, quad, is_blank_tree}
 use Rattle.life_base.specs.Text.{lines_of}
 use Rattle.life_base.specs.declared.cell.Run.{Run}

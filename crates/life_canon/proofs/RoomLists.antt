@@ -1,6 +1,5 @@
 -- Lists of squares that hold no square twice, and what is among elements.
-use Rattle.std.proofs.Common.{◌≡◌, ◌≢◌, ℕ, zero, suc, ◌<◌, ◌≤◌, List, [], ◌∷◌, length, get_or, refl, ap, sym, ◌∙◌, subst, arith, inl, inr, AllPairs}
-use Rattle.std.specs.Prelude.{Contains}
+use Rattle.std.proofs.Common.{◌≡◌, ◌≢◌, ℕ, zero, suc, ◌<◌, ◌≤◌, List, [], ◌∷◌, length, get_or, refl, ap, sym, ◌∙◌, subst, arith, inl, inr, AllPairs, Contains}
 use Rattle.life_base.specs.Tree.{Tree}
 pub use Rattle.life_rle.proofs.BlockItems.{Among}
 pub use Rattle.life_rle.proofs.BlockCover.{among-left, among-right}

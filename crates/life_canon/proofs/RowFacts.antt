@@ -1,6 +1,5 @@
 -- Rows of a square by the rows of its quarters.
-use Rattle.std.proofs.Common.{List, [], ◌∷◌, get_or, ◌≡◌, ℕ, ◌+◌, ◌-◌, ◌*◌, ◌^◌, ◌<◌, ◌≤◌, refl, ap, arith}
-use Rattle.std.proofs.lemmas.Bool.{lt-ltb, le-ltb}
+use Rattle.std.proofs.Common.{List, [], ◌∷◌, get_or, ◌≡◌, ℕ, ◌+◌, ◌-◌, ◌*◌, ◌^◌, ◌<◌, ◌≤◌, refl, ap, arith, lt-ltb, le-ltb}
 use Rattle.life_base.specs.Tree.{Tree, quad, depth, state_at}
 use Rattle.life_canon.specs.Listing.{row_byte, rows_of}
 use Rattle.life_canon.specs.Rows.{row_of_four}

@@ -1,6 +1,5 @@
 -- Patterns of few cells, for worked examples.
-use Rattle.std.proofs.Common.{ℕ, ◌&&◌, List, [], ◌∷◌, ℤ}
-use Rattle.std.specs.Prelude.{if◌then◌else◌}
+use Rattle.std.proofs.Common.{ℕ, ◌&&◌, List, [], ◌∷◌, ℤ, if◌then◌else◌}
 use Rattle.std.specs.Ordering.{int_eq}
 use Rattle.life_base.specs.declared.rule.Near.TheVariants.{Moore}
 use Rattle.life_base.specs.declared.rule.Rule.{Rule}

@@ -1,6 +1,5 @@
 -- A reader stands while a store keeps the squares of the Ids that it keeps.
-use Rattle.std.proofs.Common.{◌≡◌, List, [], ◌∷◌, ◌++◌, get_or, refl, ap, ◌∙◌, arith}
-use Rattle.std.specs.Prelude.{Contains}
+use Rattle.std.proofs.Common.{◌≡◌, List, [], ◌∷◌, ◌++◌, get_or, refl, ap, ◌∙◌, arith, Contains}
 use Rattle.std.proofs.lemmas.List.Elements.{Contains-append_left, Contains-append_right, Contains-get_or}
 use Rattle.life_base.specs.Tree.{Tree, depth}
 use Rattle.life_mc.specs.declared.line.Line.{Line}

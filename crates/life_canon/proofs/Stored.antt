@@ -1,6 +1,5 @@
 -- What calls leave in a store, one behind the other, and refusals that are handed on.
-use Rattle.std.proofs.Common.{◌≡◌, ◌⊎◌, inl, inr, ℕ, List, sym, ◌∙◌, Result, Ok, Err, ap}
-use Rattle.std.specs.Prelude.{IfErr, IsErrAnd, OnOk}
+use Rattle.std.proofs.Common.{◌≡◌, ◌⊎◌, inl, inr, ℕ, List, sym, ◌∙◌, Result, Ok, Err, ap, IfErr, IsErrAnd, OnOk}
 use Rattle.life_base.specs.DeviceRuns.{SourceRun}
 use Rattle.life_base.specs.Refusal.{fault_at, fault_of}
 use Rattle.life_base.specs.Tree.{Tree}

@@ -1,9 +1,8 @@
 -- What the walk that writes needs.
-use Rattle.std.proofs.Common.{◌≡◌, ℕ, suc, ◌+◌, ◌-◌, ◌<◌, ◌≤◌, true, false, ◌&&◌, List, [], ◌∷◌, ◌++◌, Option, Result, Ok, Err, length, map, refl, ap, sym, ◌∙◌, subst, arith, ◌⊎◌, inl, inr, length-append}
-use Rattle.std.specs.Prelude.{◌==◌, Contains, All, AllPairs, Some, None, ◌≢◌, slice_get, MatchOption, IfSome, IsErrAnd}
+use Rattle.std.proofs.Common.{◌≡◌, ℕ, suc, ◌+◌, ◌-◌, ◌<◌, ◌≤◌, true, false, ◌&&◌, List, [], ◌∷◌, ◌++◌, Option, Result, Ok, Err, length, map, refl, ap, sym, ◌∙◌, subst, arith, ◌⊎◌, inl, inr, length-append, ◌==◌, Contains, All, AllPairs, Some, None, ◌≢◌, slice_get, MatchOption, IfSome, IsErrAnd, append_assoc, append-nil}
 use Rattle.std.proofs.lemmas.Bool.Decides.{nat_tests}
 use Rattle.std.proofs.lemmas.List.Elements.{All-push}
-use Rattle.std.proofs.lemmas.List.{append_assoc, append-nil, map-append, length-map}
+use Rattle.std.proofs.lemmas.List.{map-append, length-map}
 use Rattle.life_base.specs.Tree.{Tree, point, quad, depth, IsFull, is_blank_tree as is_blank}
 use Rattle.life_base.specs.declared.kind.Kind.{Kind}
 use Rattle.life_base.specs.declared.rule.Rule.{Rule}

@@ -40,14 +40,9 @@ use Rattle.pattern_sources.specs.Faults.{refusal_of}
 use Rattle.life_cli.specs.Forms.{AreSameIn, HasTooLarge}
 use Rattle.pattern_sources.specs.Forms.{IsTextIn}
 use Rattle.command_line.specs.Plans.{HasSecond}
-use Rattle.life_cli.specs.Jobs.{WritesPlacedText}
+use Rattle.life_cli.specs.Jobs.{WritesPlacedText, AreUncompared, by_first, by_second, by_form, by_first_shortage, by_second_shortage, RefusesSame, Compares, made_text, made_status, HasAnswer, TaskMakes, Writes, Worked, BreaksOff, FileRefuses, by_comparing, by_reading, by_writing, by_telling, HasTextByTable, HasNoTextByTable, MadeOf, RefusesStep, HasTable, HasNoTable, table_by_input, table_by_lines, table_by_memory, CanonRefuses, OfFile, TaskRan, TaskRefuses}
 use Rattle.life_step.specs.Stepped.{IsStepped, IsSteppedBy}
-use Rattle.pattern_sources.specs.Sources.{InputRefuses, by_length, by_source, HasNoText, by_file, by_want, RefusesInForm}
-use Rattle.life_cli.specs.Jobs.{AreUncompared, by_first, by_second, by_form, by_first_shortage, by_second_shortage, RefusesSame}
-use Rattle.pattern_sources.specs.Sources.{AreOfInput, IsTooSmallFor, IsTooSmallToMake, IsWantFor, WantsFor, RefusesMany, HasText, ComesOf}
-use Rattle.life_cli.specs.Jobs.{Compares, made_text, made_status, HasAnswer, TaskMakes, Writes, Worked, BreaksOff, FileRefuses}
-use Rattle.life_cli.specs.Jobs.{by_comparing, by_reading, by_writing, by_telling, HasTextByTable, HasNoTextByTable, MadeOf}
-use Rattle.life_cli.specs.Jobs.{RefusesStep, HasTable, HasNoTable, table_by_input, table_by_lines, table_by_memory, CanonRefuses, OfFile, TaskRan, TaskRefuses}
+use Rattle.pattern_sources.specs.Sources.{InputRefuses, by_length, by_source, HasNoText, by_file, by_want, RefusesInForm, AreOfInput, IsTooSmallFor, IsTooSmallToMake, IsWantFor, WantsFor, RefusesMany, HasText, ComesOf}
 use Rattle.pattern_sources.proofs.SourceLemmas.{holds_more, holds_one}
 use Rattle.life_step.proofs.NeedFacts.{step-lacks}
 

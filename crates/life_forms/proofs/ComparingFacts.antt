@@ -1,6 +1,5 @@
 -- Patterns of one store, compared in a form.
-use Rattle.std.proofs.Common.{◌≡◌, ◌≤◌, ℕ, List, Bool, sym, ap, ◌∙◌, subst, lit≤}
-use Rattle.std.specs.Prelude.{◌↔◌, ◌^◌, ◌<◌, IsTrue}
+use Rattle.std.proofs.Common.{◌≡◌, ◌≤◌, ℕ, List, Bool, sym, ap, ◌∙◌, subst, lit≤, ◌↔◌, ◌^◌, ◌<◌, IsTrue}
 use Rattle.life_base.specs.Rules.{IsRule}
 use Rattle.life_base.specs.Tree.{Tree, depth, tree_cell}
 use Rattle.life_base.specs.declared.cell.TheConstants.{MAX_LEVEL}

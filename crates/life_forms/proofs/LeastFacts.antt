@@ -4,9 +4,8 @@ use Rattle.life_canon.specs.Lesser.{IsUpTo}
 use Rattle.life_canon.specs.Universe.{Universe, IsSame, IsOnPlane}
 use Rattle.life_canon.proofs.OrderFacts.{up-to-itself, up-to-on, up-to-both, either-way}
 use Rattle.life_canon.proofs.Sameness.{same-sym}
-use Rattle.life_forms.specs.Forms.{Tells}
+use Rattle.life_forms.specs.Forms.{Tells, IsShift, IsTurned, IsTurnedShift}
 use Rattle.life_forms.specs.Turns.{Turn, turn_of, image, after, back}
-use Rattle.life_forms.specs.Forms.{IsShift, IsTurned, IsTurnedShift}
 use Rattle.life_forms.specs.Laws.{TurnedFormsExist, TurnedFormsAreOnPlane, TurnedTextsTellTurns, TurnedFormsAreFixed}
 use Rattle.life_forms.proofs.TurnFacts.{turns-are-closed, turns-have-inverses, images-keep-shifts, images-stay-on-plane}
 use Rattle.life_forms.proofs.ShiftFacts.{same-refl, still, shift-sym, shift-trans, moved-forms-exist, moved-on-plane, forms-of-shifts, shift-of-forms}

@@ -8,8 +8,7 @@ use Rattle.life_base.specs.declared.rule.Rule.{Rule}
 use Rattle.life_base.specs.Rules.{IsRule}
 use Rattle.life_canon.specs.Texts.{IsLeastBox}
 use Rattle.life_mc.specs.Macrocell.{largest_state}
-use Rattle.life_forms.specs.Forms.{Tells}
-use Rattle.life_forms.specs.Forms.{IsShift, edge, IsInPlace, at_zero, at_edge, IsMovedForm, IsMoved}
+use Rattle.life_forms.specs.Forms.{Tells, IsShift, edge, IsInPlace, at_zero, at_edge, IsMovedForm, IsMoved}
 use Rattle.life_forms.specs.Laws.{MovedFormsExist, MovedFormsAreOnPlane, MovedFormsTellShifts, MovedFormsAreFixed, MovedTextsTellShifts}
 use Rattle.life_base.proofs.Basics.{plus_zero, zero_unless}
 

@@ -1,9 +1,7 @@
 -- What the bytes of a file say is valid.
-use Rattle.std.proofs.Common.{◌≡◌, ℕ, suc, ◌-◌, ◌^◌, ◌<◌, List, [], ◌∷◌, length, take, drop, get_or, map, Bool, true, false, cond, not, ◌&&◌, ◌||◌, refl, ap, sym, subst, ◌∙◌, arith, eqb-true}
-use Rattle.std.specs.Prelude.{codes, nat_le, nat_lt, ◌==◌, Option, Some, None, Result, Ok, Err, filter_map}
+use Rattle.std.proofs.Common.{◌≡◌, ℕ, suc, ◌-◌, ◌^◌, ◌<◌, List, [], ◌∷◌, length, take, drop, get_or, map, Bool, true, false, cond, not, ◌&&◌, ◌||◌, refl, ap, sym, subst, ◌∙◌, arith, eqb-true, codes, nat_le, nat_lt, ◌==◌, Option, Some, None, Result, Ok, Err, filter_map, leb-true}
 use Rattle.std.specs.List.{cons_option}
 use Rattle.std.specs.Result.{result_ok, result_err}
-use Rattle.std.proofs.lemmas.Bool.{leb-true}
 use Rattle.life_base.proofs.RuleValues.{rule_values, default_is_rule}
 use Rattle.life_base.proofs.Basics.{right_of_and, left_of_and}
 use Rattle.life_base.specs.Numbers.{u64_of}

@@ -1,6 +1,5 @@
 -- The macrocell format is a grammar of lines.
-use Rattle.std.proofs.Common.{ℕ, zero, suc, ◌<◌, List, [], ◌∷◌, length, true, refl, subst, arith, append-nil, sym}
-use Rattle.std.specs.Prelude.{codes}
+use Rattle.std.proofs.Common.{ℕ, zero, suc, ◌<◌, List, [], ◌∷◌, length, true, refl, subst, arith, append-nil, sym, codes}
 use Rattle.life_base.specs.Refusal.{Prefix}
 use Rattle.life_base.proofs.Refusals.{UnbrokenBelow, IsByLines}
 use Rattle.life_mc.specs.Reading.{Accepts, broken, missing, rule_in_force, generation_in_force, squares_of}

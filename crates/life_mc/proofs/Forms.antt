@@ -1,9 +1,8 @@
 -- What each form of a line gives, and that it breaks no rule.
-use Rattle.std.proofs.Common.{◌≡◌, ℕ, ◌-◌, ◌^◌, ◌<◌, List, [], ◌∷◌, ◌++◌, length, drop, map, Bool, true, false, cond, not, ◌&&◌, ◌||◌, refl, ap, sym, ◌∙◌, arith, ◌⊎◌, inl, inr, true≢false}
-use Rattle.std.specs.Prelude.{codes, nat_le, nat_lt, slice_index, Option, Some, None, Result, Ok, Err}
+use Rattle.std.proofs.Common.{◌≡◌, ℕ, ◌-◌, ◌^◌, ◌<◌, List, [], ◌∷◌, ◌++◌, length, drop, map, Bool, true, false, cond, not, ◌&&◌, ◌||◌, refl, ap, sym, ◌∙◌, arith, ◌⊎◌, inl, inr, true≢false, codes, nat_le, nat_lt, slice_index, Option, Some, None, Result, Ok, Err, leb-true, le-leb}
 use Rattle.std.specs.List.{list_all}
 use Rattle.std.specs.Result.{result_ok, result_err}
-use Rattle.std.proofs.lemmas.Bool.{leb-true, le-leb, false_from_ne_true}
+use Rattle.std.proofs.lemmas.Bool.{false_from_ne_true}
 use Rattle.life_base.proofs.RuleForms.{around_trim, trimmed_around}
 use Rattle.life_base.proofs.Texts.{blank_no_words}
 use Rattle.life_base.specs.Text.{is_blank, begins_with, trim, words_of, is_digit_text, value_of, IsAround}

@@ -1,11 +1,10 @@
 -- The format as a whole, and line by line, accept the same files.
-use Rattle.std.proofs.Common.{◌≡◌, ℕ, zero, suc, ◌^◌, ◌<◌, List, [], ◌∷◌, ◌++◌, length, take, get_or, map, Bool, true, false, cond, ◌&&◌, refl, ap, sym, subst, ◌∙◌, arith, append_assoc, length-append, ◌⊎◌, inl, inr, true≢false}
-use Rattle.std.specs.Prelude.{codes, nat_le, Option, Some, None, filter_map}
+use Rattle.std.proofs.Common.{◌≡◌, ℕ, zero, suc, ◌^◌, ◌<◌, List, [], ◌∷◌, ◌++◌, length, take, get_or, map, Bool, true, false, cond, ◌&&◌, refl, ap, sym, subst, ◌∙◌, arith, append_assoc, length-append, ◌⊎◌, inl, inr, true≢false, codes, nat_le, Option, Some, None, filter_map, le-leb, ltb-false, append-nil}
 use Rattle.std.specs.List.{list_all, AllZip, slice_get}
 use Rattle.std.proofs.Math.Seq.{take-append_seam}
-use Rattle.std.proofs.lemmas.Bool.{le-leb, ltb-false, cases_Bool}
+use Rattle.std.proofs.lemmas.Bool.{cases_Bool}
 use Rattle.std.proofs.lemmas.Bool.Decides.{nat_tests}
-use Rattle.std.proofs.lemmas.List.{append-nil, length-map}
+use Rattle.std.proofs.lemmas.List.{length-map}
 use Rattle.life_base.specs.Text.{begins_with, is_too_long}
 use Rattle.life_base.specs.Rules.{default_rule}
 use Rattle.life_base.specs.declared.kind.Kind.{Kind}

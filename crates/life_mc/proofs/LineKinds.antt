@@ -1,8 +1,6 @@
 -- The kinds with which a macrocell line breaks a rule.
-use Rattle.std.proofs.Common.{◌≡◌, ℕ, List, ◌∷◌, [], ◌-◌, ◌^◌, ◌||◌, length, take, drop, Bool, true, false, cond, refl, sym, ap, ◌∙◌, map, ◌⊎◌, inl, inr, arith}
-use Rattle.std.specs.Prelude.{◌==◌, nat_le, nat_lt, not, ◌&&◌, codes, slice_index, Option, Some, None, Result, Ok, Err}
+use Rattle.std.proofs.Common.{◌≡◌, ℕ, List, ◌∷◌, [], ◌-◌, ◌^◌, ◌||◌, length, take, drop, Bool, true, false, cond, refl, sym, ap, ◌∙◌, map, ◌⊎◌, inl, inr, arith, ◌==◌, nat_le, nat_lt, not, ◌&&◌, codes, slice_index, Option, Some, None, Result, Ok, Err, ltb-true}
 use Rattle.std.specs.List.{list_all, slice_index_or}
-use Rattle.std.proofs.lemmas.Bool.{ltb-true}
 use Rattle.life_base.specs.Text.{is_too_long, is_empty, is_blank, begins_with, trim, is_digit_text, value_of}
 use Rattle.life_base.specs.Numbers.{u64_of}
 use Rattle.life_base.specs.Rules.{rule_of}

@@ -1,6 +1,5 @@
 -- Each node line of a file gives a square.
-use Rattle.std.proofs.Common.{◌≡◌, ℕ, suc, ◌+◌, ◌<◌, List, [], ◌∷◌, length, take, drop, get_or, map, count_by, Bool, true, false, cond, not, ◌&&◌, ◌||◌, refl, ap, sym, ◌∙◌, arith}
-use Rattle.std.specs.Prelude.{codes, nat_lt, slice_index, Option, Some, None, filter_map}
+use Rattle.std.proofs.Common.{◌≡◌, ℕ, suc, ◌+◌, ◌<◌, List, [], ◌∷◌, length, take, drop, get_or, map, count_by, Bool, true, false, cond, not, ◌&&◌, ◌||◌, refl, ap, sym, ◌∙◌, arith, codes, nat_lt, slice_index, Option, Some, None, filter_map}
 use Rattle.std.specs.List.{cons_option}
 use Rattle.std.proofs.lemmas.List.Sums.{sum_by-cons}
 use Rattle.std.proofs.lemmas.Bool.{not-true}

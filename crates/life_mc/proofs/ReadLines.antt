@@ -1,8 +1,6 @@
 -- Reading lines one after another.
-use Rattle.std.proofs.Common.{◌≡◌, ℕ, ◌<◌, List, [], ◌∷◌, ◌++◌, length, refl, ap, ◌∙◌, arith, true, not}
-use Rattle.std.specs.Prelude.{Some, None, filter_map, slice_get}
+use Rattle.std.proofs.Common.{◌≡◌, ℕ, ◌<◌, List, [], ◌∷◌, ◌++◌, length, refl, ap, ◌∙◌, arith, true, not, Some, None, filter_map, slice_get, append-nil}
 use Rattle.std.proofs.lemmas.List.Elements.{filter_map-append}
-use Rattle.std.proofs.lemmas.List.{append-nil}
 use Rattle.life_base.specs.Text.{numbered_from, is_empty}
 use Rattle.life_base.specs.Refusal.{fault_at}
 use Rattle.life_base.specs.declared.kind.Kind.TheVariants.{NoHeader}

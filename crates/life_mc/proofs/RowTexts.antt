@@ -1,7 +1,6 @@
 -- The texts of rows: the table is held against their definition at each of the 256 rows, by computing.
-use Rattle.std.proofs.Common.{◌≡◌, ◌∙◌, ◌+◌, ◌-◌, ◌<◌, ◌≤◌, ◌++◌, ℕ, List, [], ◌∷◌, length, take, map, get_or, codes, w64, refl, ap, sym, arith, slice_index}
+use Rattle.std.proofs.Common.{◌≡◌, ◌∙◌, ◌+◌, ◌-◌, ◌<◌, ◌≤◌, ◌++◌, ℕ, List, [], ◌∷◌, length, take, map, get_or, codes, w64, refl, ap, sym, arith, slice_index, bit_or}
 use lib.Count.{count_trailing_zeros}
-use Rattle.std.specs.Prelude.{bit_or}
 use Rattle.std.specs.Int.{to_le_bytes}
 use Rattle.std.specs.List.{range_with_len}
 use Rattle.std.proofs.lemmas.List.FromFn.{get_or-map-range_with_len}

@@ -1,15 +1,13 @@
 -- The squares of small files, and files read back from their text, by computation.
-use Rattle.std.proofs.Common.{◌≡◌, ℕ, List, [], ◌∷◌, refl}
-use Rattle.std.specs.Prelude.{codes, pos, negsuc}
+use Rattle.std.proofs.Common.{◌≡◌, ℕ, List, [], ◌∷◌, refl, codes, pos, negsuc}
 use Rattle.std.specs.Fmt.{digits}
 use Rattle.life_base.specs.Text.{lines_of}
 use Rattle.life_base.specs.Rules.{rule_of, life_sets, four_sets}
-use Rattle.life_base.specs.Tree.{point, quad, blank, depth, state_at}
+use Rattle.life_base.specs.Tree.{point, quad, blank, depth, state_at, tree_cell}
 use Rattle.life_mc.specs.Macrocell.{Macrocell}
 use Rattle.life_mc.specs.Cells.{node_lines}
 use Rattle.life_mc.specs.Reading.{squares_of, rule_in_force, generation_in_force}
 use Rattle.life_mc.specs.Squares.{tree_of, root_tree}
-use Rattle.life_base.specs.Tree.{tree_cell}
 use Rattle.life_mc.specs.Writing.{mc_text, row_cells}
 use Rattle.life_mc.specs.declared.line.Line.{Line}
 use Rattle.life_mc.specs.declared.line.Line.TheVariants.{Leaf, Quad}

@@ -1,15 +1,12 @@
 -- Each node line of a valid file stands for one square.
-use Rattle.std.proofs.Common.{◌≡◌, ℕ, zero, suc, ◌+◌, ◌-◌, ◌%◌, ◌^◌, ◌<◌, ◌≤◌, List, [], ◌∷◌, length, take, map, Bool, true, false, cond, ◌&&◌, ◌||◌, refl, ap, sym, subst, ◌∙◌, arith, eqb-true, ltb-true, ltb-false, add-zero}
-use Rattle.std.specs.Prelude.{nat_le, nat_lt, ◌==◌, Option, Some, None, ℤ, pos, negsuc, neg_ℤ, ◌+ℤ◌, int_le, int_lt, unsigned_abs}
+use Rattle.std.proofs.Common.{◌≡◌, ℕ, zero, suc, ◌+◌, ◌-◌, ◌%◌, ◌^◌, ◌<◌, ◌≤◌, List, [], ◌∷◌, length, take, map, Bool, true, false, cond, ◌&&◌, ◌||◌, refl, ap, sym, subst, ◌∙◌, arith, eqb-true, ltb-true, ltb-false, add-zero, nat_le, nat_lt, ◌==◌, Option, Some, None, ℤ, pos, negsuc, neg_ℤ, ◌+ℤ◌, int_le, int_lt, unsigned_abs, leb-true}
 use Rattle.std.specs.List.{list_all, slice_get}
-use Rattle.std.proofs.lemmas.Bool.{leb-true}
 use Rattle.std.proofs.Math.Nat.{mod-eq_of_lt, mod-eq-sub-mod}
-use Rattle.life_base.specs.Tree.{Tree, point, quad, depth, blank, state_at, IsFull}
+use Rattle.life_base.specs.Tree.{Tree, point, quad, depth, blank, state_at, IsFull, tree_cell}
 use Rattle.life_base.specs.declared.rule.Rule.{Rule}
 use Rattle.life_mc.specs.Macrocell.{AreSquares, IsSquare, level_of, numbered, is_quarter, is_level, largest_state}
 use Rattle.life_mc.specs.Cells.{cell, cell_in, cell_from, leaf_cell, quarter_at, root_level}
 use Rattle.life_mc.specs.Squares.{tree_at, leaf_tree, line_tree, tree_of, root_tree, HasStatesUpTo, StandsForSquare, LinesStandForSquares}
-use Rattle.life_base.specs.Tree.{tree_cell}
 use Rattle.life_mc.specs.declared.line.Line.{Line}
 use Rattle.life_mc.specs.declared.line.Line.TheVariants.{Leaf, Quad}
 use Rattle.life_mc.proofs.TestFacts.{all_four, few_states}

@@ -1,10 +1,8 @@
 -- The text of a file is a macrocell file that says the same.
-use Rattle.std.proofs.Common.{◌≡◌, ℕ, zero, suc, ◌-◌, ◌^◌, ◌<◌, ◌≤◌, List, [], ◌∷◌, ◌++◌, length, take, drop, Bool, true, false, cond, not, ◌&&◌, ◌||◌, refl, ap, sym, subst, ◌∙◌, arith, append_assoc, decimal}
-use Rattle.std.specs.Prelude.{nat_le, nat_lt, ◌==◌, map, flat_map, codes, bytes_eq, Some, None}
+use Rattle.std.proofs.Common.{◌≡◌, ℕ, zero, suc, ◌-◌, ◌^◌, ◌<◌, ◌≤◌, List, [], ◌∷◌, ◌++◌, length, take, drop, Bool, true, false, cond, not, ◌&&◌, ◌||◌, refl, ap, sym, subst, ◌∙◌, arith, append_assoc, decimal, nat_le, nat_lt, ◌==◌, map, flat_map, codes, bytes_eq, Some, None, leb-true, eqb-true, append-nil}
 use Rattle.std.specs.List.{slice_get}
 use Rattle.std.specs.Result.{result_ok, result_err}
-use Rattle.std.proofs.lemmas.Bool.{leb-true, eqb-true}
-use Rattle.std.proofs.lemmas.List.{map-append, append-nil}
+use Rattle.std.proofs.lemmas.List.{map-append}
 use Rattle.std.proofs.Math.Seq.{take-append_seam}
 use mathlib.Core.Bool.{and-true}
 use Rattle.life_base.specs.Text.{lines_of, is_blank, begins_with, trim, value_of}

@@ -1,10 +1,8 @@
 -- The first eight bytes of a row, looked at together.
-use Rattle.std.proofs.Common.{◌≡◌, ℕ, zero, suc, ◌+◌, ◌-◌, ◌*◌, ◌/◌, ◌%◌, ◌<◌, ◌≤◌, List, [], ◌∷◌, ◌++◌, length, take, get_or, map, Bool, true, false, not, cond, ◌&&◌, refl, ap, ◌∙◌, arith}
-use Rattle.std.specs.Prelude.{◌==◌, ◌^◌, nat_le, nat_lt}
+use Rattle.std.proofs.Common.{◌≡◌, ℕ, zero, suc, ◌+◌, ◌-◌, ◌*◌, ◌/◌, ◌%◌, ◌<◌, ◌≤◌, List, [], ◌∷◌, ◌++◌, length, take, get_or, map, Bool, true, false, not, cond, ◌&&◌, refl, ap, ◌∙◌, arith, ◌==◌, ◌^◌, nat_le, nat_lt, le-leb}
 use Rattle.std.specs.List.{list_all, prefix_len}
 use Rattle.std.specs.Simd.Lanes.{mask_l, top}
 use Rattle.std.proofs.lemmas.Bool.Decides.{nat_tests}
-use Rattle.std.proofs.lemmas.Bool.{le-leb}
 use mathlib.Core.Bool.{and-false}
 use Rattle.life_mc.specs.Reading.{row_byte}
 use Rattle.life_mc.specs.Grammar.{is_cell, is_row}

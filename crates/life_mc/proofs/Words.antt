@@ -1,6 +1,5 @@
 -- Words, and the numbers that they write.
-use Rattle.std.proofs.Common.{◌≡◌, ℕ, suc, ◌+◌, ◌<◌, List, [], ◌∷◌, length, take, drop, map, Bool, true, false, cond, not, ◌&&◌, refl, ap, sym, ◌∙◌, arith}
-use Rattle.std.specs.Prelude.{Option, Some, None, ◌==◌, take_while}
+use Rattle.std.proofs.Common.{◌≡◌, ℕ, suc, ◌+◌, ◌<◌, List, [], ◌∷◌, length, take, drop, map, Bool, true, false, cond, not, ◌&&◌, refl, ap, sym, ◌∙◌, arith, Option, Some, None, ◌==◌, take_while}
 use Rattle.std.specs.List.{list_all, prefix_len}
 use Rattle.std.specs.Char.{is_ascii_digit}
 use Rattle.std.proofs.lemmas.Bool.Decides.{nat_tests}

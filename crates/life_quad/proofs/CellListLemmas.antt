@@ -1,22 +1,19 @@
 -- The list of the cells of a square.
-use Rattle.std.proofs.Common.{◌≡◌, ◌≢◌, ℕ, zero, suc, ◌+◌, ◌-◌, ◌^◌, ◌≤◌, ◌<◌, Bool, true, false, ◌&&◌, ◌⊎◌, inl, inr, ℤ, pos, neg_ℤ, ◌+ℤ◌, ◌≤ℤ◌, ◌<ℤ◌, List, [], ◌∷◌, ◌++◌, length, length-append, Contains, get_or, take, refl, sym, ◌∙◌, ap, subst, arith}
+use Rattle.std.proofs.Common.{◌≡◌, ◌≢◌, ℕ, zero, suc, ◌+◌, ◌-◌, ◌^◌, ◌≤◌, ◌<◌, Bool, true, false, ◌&&◌, ◌⊎◌, inl, inr, ℤ, pos, neg_ℤ, ◌+ℤ◌, ◌≤ℤ◌, ◌<ℤ◌, List, [], ◌∷◌, ◌++◌, length, length-append, Contains, get_or, take, refl, sym, ◌∙◌, ap, subst, arith, if◌then◌else◌, append_assoc, append-nil, Result, IfErr}
 use Rattle.std.proofs.lemmas.Result.{IfErr-weaker}
-use Rattle.std.specs.Prelude.{if◌then◌else◌}
 use Rattle.std.specs.List.{AllPairs, flat_map}
 use Rattle.std.proofs.lemmas.Int.{ints}
-use Rattle.std.proofs.lemmas.List.{append_assoc, append-nil, flat_map_more, map_push, take_more}
+use Rattle.std.proofs.lemmas.List.{flat_map_more, map_push, take_more}
 use Rattle.std.proofs.lemmas.List.Kept.{AllPairs-cons}
 use Rattle.std.proofs.lemmas.List.Elements.{Contains-get_or}
 use Rattle.life_base.specs.declared.cell.Cell.{Cell}
-use Rattle.life_base.specs.Tree.{Tree, point, quad, depth, state_at, is_blank_tree, IsFull}
+use Rattle.life_base.specs.Tree.{Tree, point, quad, depth, state_at, is_blank_tree, IsFull, tree_cell as cell, half_side}
 use Rattle.life_quad.specs.Cells.{IsBefore, IsCellList, population}
-use Rattle.life_base.specs.Tree.{tree_cell as cell, half_side}
 use Rattle.life_quad.specs.Bands.{Piece, kept, northern, southern, upper, lower, row_cells, band_cells, IsBand, InBand, pieces}
 use Rattle.life_quad.specs.declared.id.Id.{Id}
 use Rattle.life_quad.specs.declared.listing.Placed.{Placed}
 use Rattle.life_base.specs.declared.kind.Kind.{Kind}
 use Rattle.life_base.specs.declared.kind.Kind.TheVariants.{TooManyCells}
-use Rattle.std.specs.Prelude.{Result, IfErr}
 use Rattle.life_quad.proofs.CountLemmas.{population-blank}
 use Rattle.life_quad.proofs.PlaneLemmas.{IsPlace, place_of, cell_at}
 use Rattle.life_quad.proofs.BandLemmas.{IsBand-upper, IsBand-lower, IsCellOf, OnBand, Has, SomeOf-cases, band_from, band_has, kept_has, kept_from, no_cells, band_step}

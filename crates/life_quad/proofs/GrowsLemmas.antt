@@ -1,6 +1,5 @@
 -- What calls leave in a store, one behind the other, and refusals that are handed on.
-use Rattle.std.proofs.Common.{◌≡◌, Result, Ok, Err, inl}
-use Rattle.std.specs.Prelude.{IfErr, IsErrAnd}
+use Rattle.std.proofs.Common.{◌≡◌, Result, Ok, Err, inl, IfErr, IsErrAnd}
 use Rattle.life_base.specs.Tree.{Tree}
 use Rattle.life_base.specs.declared.kind.Kind.{Kind}
 use Rattle.life_base.specs.declared.kind.Kind.TheVariants.{Memory}

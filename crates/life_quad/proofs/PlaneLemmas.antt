@@ -1,10 +1,9 @@
 -- The nonzero cells of a square on the plane.
 use Rattle.std.proofs.Common.{◌≡◌, ◌≢◌, ℕ, ◌+◌, ◌^◌, ◌≤◌, ◌<◌, Bool, true, false, ℤ, pos, ◌+ℤ◌, ◌-ℤ◌, ◌≤ℤ◌, refl, sym, ◌∙◌, arith}
 use Rattle.std.proofs.lemmas.Int.{ints}
-use Rattle.life_base.specs.Tree.{Tree, depth, state_at}
+use Rattle.life_base.specs.Tree.{Tree, depth, state_at, half_side, tree_cell as cell}
 use Rattle.life_base.specs.declared.bounds.Bounds.{Bounds}
 use Rattle.life_quad.specs.Cells.{IsLeastBox}
-use Rattle.life_base.specs.Tree.{half_side, tree_cell as cell}
 use Rattle.life_quad.specs.Distances.{IsNonzeroAt}
 use Rattle.life_quad.proofs.DistanceLemmas.{IsLeastWithin}
 use Rattle.life_base.proofs.Squares.{is_inside, inside_facts, inside_test, inside_offset, cell_inside, cell_outside}

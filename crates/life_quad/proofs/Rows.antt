@@ -1,10 +1,9 @@
 -- Worked examples of the definitions.
 use Rattle.std.proofs.Common.{◌≡◌, ◌+◌, ◌*◌, None, Some, pos, negsuc, refl}
-use Rattle.life_base.specs.Tree.{Tree, point, quad, depth, blank}
+use Rattle.life_base.specs.Tree.{Tree, point, quad, depth, blank, tree_cell as cell}
 use Rattle.life_quad.specs.Moves.{trimmed, grown}
 use Rattle.life_quad.specs.Store.{small_square, small_of}
 use Rattle.life_quad.specs.Cells.{population}
-use Rattle.life_base.specs.Tree.{tree_cell as cell}
 
 -- a square of level 2 with the one cell (0, 0) of state 7
 abbrev one : Tree

@@ -1,14 +1,12 @@
 -- Facts about runs of cells on the plane.
-use Rattle.std.proofs.Common.{◌≡◌, ℕ, ◌+◌, ◌-◌, ◌^◌, ◌≤◌, ◌<◌, Bool, true, false, ℤ, pos, neg_ℤ, ◌+ℤ◌, ◌≤ℤ◌, ◌<ℤ◌, refl, sym, ◌∙◌, ap, subst, arith}
-use Rattle.std.specs.Prelude.{if◌then◌else◌}
+use Rattle.std.proofs.Common.{◌≡◌, ℕ, ◌+◌, ◌-◌, ◌^◌, ◌≤◌, ◌<◌, Bool, true, false, ℤ, pos, neg_ℤ, ◌+ℤ◌, ◌≤ℤ◌, ◌<ℤ◌, refl, sym, ◌∙◌, ap, subst, arith, if◌then◌else◌}
 use Rattle.std.proofs.lemmas.Int.{ints}
 use Rattle.life_base.specs.declared.cell.Run.{Run}
-use Rattle.life_base.specs.Tree.{Tree, depth, state_at}
+use Rattle.life_base.specs.Tree.{Tree, depth, state_at, half_side, tree_cell as cell}
 use Rattle.life_base.proofs.Squares.{is_inside, inside_offset, inside_facts, inside_test, cell_inside, cell_outside}
 use Rattle.life_base.proofs.Spans.{span_from_run, run_from_span}
 use Rattle.life_base.proofs.Basics.{halves}
 use Rattle.life_quad.specs.Cells.{IsInRun, IsRunInside, SetsRun}
-use Rattle.life_base.specs.Tree.{half_side, tree_cell as cell}
 use Rattle.life_quad.specs.declared.runs.Span.{Span}
 use Rattle.life_quad.specs.Span.{SetsSpan}
 use Rattle.life_quad.proofs.SpanLemmas.{is_within}

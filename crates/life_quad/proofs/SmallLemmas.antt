@@ -1,6 +1,5 @@
 -- Small squares by their quarters and by their numbers.
-use Rattle.std.specs.Prelude.{if◌then◌else◌}
-use Rattle.std.proofs.Common.{◌≡◌, ℕ, ◌+◌, ◌*◌, ◌-◌, ◌/◌, ◌%◌, ◌≤◌, ◌<◌, Bool, true, false, ◌&&◌, ◌==◌, None, Some, refl, sym, ◌∙◌, ap, arith}
+use Rattle.std.proofs.Common.{◌≡◌, ℕ, ◌+◌, ◌*◌, ◌-◌, ◌/◌, ◌%◌, ◌≤◌, ◌<◌, Bool, true, false, ◌&&◌, ◌==◌, None, Some, refl, sym, ◌∙◌, ap, arith, if◌then◌else◌}
 use Rattle.std.proofs.lemmas.Bool.Decides.{nat_tests}
 use Rattle.life_quad.specs.Store.{id_of, is_bit_id, is_digit_id, digit_id, small_of}
 use Rattle.life_quad.specs.SmallLaws.{IsDigit, digit_0, digit_of, Smalls, of_bits, of_digits, smalls, bits_of, digits_of, below_16}

@@ -1,6 +1,5 @@
 -- Facts about spans of cells.
-use Rattle.std.proofs.Common.{◌≡◌, ℕ, suc, ◌+◌, ◌-◌, ◌^◌, ◌≤◌, ◌<◌, Bool, true, false, ◌&&◌, ◌==◌, nat_lt, nat_le, refl, sym, ◌∙◌, ap, subst, arith}
-use Rattle.std.specs.Prelude.{if◌then◌else◌}
+use Rattle.std.proofs.Common.{◌≡◌, ℕ, suc, ◌+◌, ◌-◌, ◌^◌, ◌≤◌, ◌<◌, Bool, true, false, ◌&&◌, ◌==◌, nat_lt, nat_le, refl, sym, ◌∙◌, ap, subst, arith, if◌then◌else◌}
 use Rattle.life_base.specs.Tree.{Tree, quad, depth, state_at, IsFull}
 use Rattle.life_base.proofs.Squares.{at_nw, at_ne, at_sw, at_se}
 use Rattle.life_base.proofs.Basics.{double}

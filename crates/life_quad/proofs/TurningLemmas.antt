@@ -1,7 +1,7 @@
 -- Squares that a turn leaves, images of quarters, and images that are remembered.
-use Rattle.std.proofs.Common.{◌≡◌, ℕ, zero, suc, ◌+◌, ◌*◌, ◌/◌, ◌%◌, ◌<◌, ◌^◌, Bool, true, false, true≢false, ◌&&◌, if◌then◌else◌, ◌⊎◌, Option, Some, None, inl, inr, refl, sym, ◌∙◌, ap, subst, arith, List}
+use Rattle.std.proofs.Common.{◌≡◌, ℕ, zero, suc, ◌+◌, ◌*◌, ◌/◌, ◌%◌, ◌<◌, ◌^◌, Bool, true, false, true≢false, ◌&&◌, if◌then◌else◌, ◌⊎◌, Option, Some, None, inl, inr, refl, sym, ◌∙◌, ap, subst, arith, List, is_some}
 use Rattle.std.proofs.lemmas.Bool.{and_parts, cases_lt}
-use Rattle.std.specs.Prelude.{is_some, ⊤}
+use Rattle.std.specs.Prelude.{⊤}
 use Rattle.life_base.specs.Tree.{Tree, point, quad, depth, blank, is_blank_tree, IsFull}
 use Rattle.life_base.proofs.Squares.{blank_is}
 use Rattle.life_quad.specs.Cells.{population}

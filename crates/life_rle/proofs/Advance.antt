@@ -1,6 +1,5 @@
 -- One more line of a reader.
-use Rattle.std.proofs.Common.{◌≡◌, ℕ, ◌^◌, Bool, true, false, cond, ◌&&◌, List, [], ◌∷◌, ◌++◌, drop, refl, sym, ap, ◌∙◌, subst, inl, inr, Some, None, Ok, Err, Option, Result, ℤ, pos, neg_ℤ, ◌+ℤ◌, ◌≤ℤ◌, ◌<ℤ◌, arith, codes, eqb, leb, not, ◌-◌}
-use Rattle.std.proofs.lemmas.List.{append-nil}
+use Rattle.std.proofs.Common.{◌≡◌, ℕ, ◌^◌, Bool, true, false, cond, ◌&&◌, List, [], ◌∷◌, ◌++◌, drop, refl, sym, ap, ◌∙◌, subst, inl, inr, Some, None, Ok, Err, Option, Result, ℤ, pos, neg_ℤ, ◌+ℤ◌, ◌≤ℤ◌, ◌<ℤ◌, arith, codes, eqb, leb, not, ◌-◌, append-nil}
 use Rattle.std.proofs.lemmas.Int.{ints}
 use Rattle.std.proofs.lemmas.Bool.{and_parts}
 use Rattle.std.specs.List.{before_first, after_first}
@@ -8,10 +7,9 @@ use Rattle.life_rle.specs.declared.lines.Phase.TheVariants as phases
 use Rattle.life_base.specs.declared.kind.Kind.{Kind}
 use Rattle.life_base.specs.declared.kind.Kind.TheVariants.{OutOfPlane, TooLarge, BadNumber}
 use Rattle.life_base.specs.declared.rule.Rule.{Rule}
-use Rattle.life_base.specs.Text.{begins_with, words_of}
+use Rattle.life_base.specs.Text.{begins_with, words_of, is_digit_text, value_of}
 use Rattle.life_rle.specs.Position.{signed_number, Field, Corner, Generation, Other, default_position, corner_of, corner_in, field_of, with_field, and_then, position_with, position_of}
 use Rattle.life_base.specs.Numbers.{u64_of}
-use Rattle.life_base.specs.Text.{is_digit_text, value_of}
 use Rattle.life_base.specs.declared.cell.Run.{Run}
 use Rattle.life_rle.specs.declared.cursor.Cursor.{Cursor}
 use Rattle.life_rle.specs.declared.item.Item.{Item}

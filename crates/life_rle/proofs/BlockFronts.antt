@@ -1,6 +1,6 @@
 -- The longest front of lines that breaks no rule has all runs that any front of them has.
-use Rattle.std.proofs.Common.{◌≡◌, ℕ, ◌+◌, ◌*◌, ◌≤◌, List, [], ◌∷◌, ◌++◌, length, refl, sym, ap, ◌∙◌, subst, inl, inr, ◌⊎◌, append_assoc, length-append, arith, ℤ}
-use Rattle.std.proofs.lemmas.List.{append-nil, nil_from_length}
+use Rattle.std.proofs.Common.{◌≡◌, ℕ, ◌+◌, ◌*◌, ◌≤◌, List, [], ◌∷◌, ◌++◌, length, refl, sym, ap, ◌∙◌, subst, inl, inr, ◌⊎◌, append_assoc, length-append, arith, ℤ, append-nil, Option, Some, None, Result, Ok, Err}
+use Rattle.std.proofs.lemmas.List.{nil_from_length}
 use Rattle.life_base.specs.Lines.{joined}
 use Rattle.life_base.specs.Rules.{default_rule}
 use Rattle.life_base.specs.declared.cell.Run.{Run}
@@ -15,7 +15,6 @@ use Rattle.life_rle.specs.declared.item.Item.{Item}
 use Rattle.life_rle.specs.declared.line.Later.{Later}
 use Rattle.life_rle.specs.declared.line.Later.TheVariants.{Passed, Data}
 use Rattle.life_rle.specs.Grammar.{IsRle, later_of}
-use Rattle.std.specs.Prelude.{Option, Some, None, Result, Ok, Err}
 use Rattle.life_rle.specs.Blocks.{AreAllBlocks, HasFewBlocks}
 use Rattle.life_rle.proofs.Progress.{Progress, Before, Begun, Ended, Refused, with_items, after_items, later_step, step, progress, start, Stands, lines-Stands, progress-append, progress-Refused, placed_behind-append, line_items, line_last, items_fault}
 use Rattle.life_rle.proofs.ReadItems.{runs_of-append}

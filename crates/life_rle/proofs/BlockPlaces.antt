@@ -1,14 +1,12 @@
 -- How many places there are.
-use Rattle.std.proofs.Common.{◌≡◌, ℕ, ◌+◌, ◌*◌, ◌-◌, ◌/◌, ◌%◌, ◌<◌, ◌≤◌, Bool, true, false, List, [], ◌∷◌, length, refl, ap, arith, ◌⊎◌, inl, inr, length-append}
-use Rattle.std.specs.Prelude.{nat_le, nat_lt, ◌&&◌, if◌then◌else◌}
+use Rattle.std.proofs.Common.{◌≡◌, ℕ, ◌+◌, ◌*◌, ◌-◌, ◌/◌, ◌%◌, ◌<◌, ◌≤◌, Bool, true, false, List, [], ◌∷◌, length, refl, ap, arith, ◌⊎◌, inl, inr, length-append, nat_le, nat_lt, ◌&&◌, if◌then◌else◌, div-add-mod'}
 use Rattle.std.proofs.lemmas.Bool.Decides.{nat_tests}
 use Rattle.std.proofs.lemmas.Bool.{cases_lt}
-use Rattle.std.proofs.lemmas.Nat.{div-add-mod', mod_below}
+use Rattle.std.proofs.lemmas.Nat.{mod_below}
 use Rattle.std.proofs.Math.Nat.{mul-le-mul_right}
 use Rattle.life_rle.specs.declared.item.Item.{Item}
 use Rattle.life_rle.specs.declared.item.Item.TheVariants.{Cells, RowEnds}
-use Rattle.life_rle.proofs.BlockItems.{weight}
-use Rattle.life_rle.proofs.BlockItems.{after_cells, after_rows, places_from, places, weigh, saved}
+use Rattle.life_rle.proofs.BlockItems.{weight, after_cells, after_rows, places_from, places, weigh, saved}
 use Rattle.life_rle.proofs.BlockWeights.{weight-small}
 
 -- how a step leads from square to square

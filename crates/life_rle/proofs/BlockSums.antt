@@ -1,7 +1,6 @@
 -- How many blocks there are at all levels.
-use Rattle.std.proofs.Common.{◌≡◌, ℕ, zero, suc, ◌+◌, ◌*◌, ◌^◌, ◌≤◌, List, [], ◌∷◌, length, map, arith, length-append}
+use Rattle.std.proofs.Common.{◌≡◌, ℕ, zero, suc, ◌+◌, ◌*◌, ◌^◌, ◌≤◌, List, [], ◌∷◌, length, map, arith, length-append, pow_pos}
 use Rattle.std.proofs.lemmas.List.{length-map}
-use Rattle.std.proofs.lemmas.Nat.{pow_pos}
 use Rattle.life_rle.specs.declared.item.Item.{Item}
 use Rattle.life_rle.proofs.BlockItems.{weigh, all_weigh, places, block_at, all_blocks}
 use Rattle.life_rle.proofs.BlockPlaces.{places-few}

@@ -1,10 +1,8 @@
 -- What stands in an item's place, by the first byte.
-use Rattle.std.proofs.Common.{◌≡◌, ◌∷◌, ◌-◌, ◌≤◌, ◌<◌, ◌+◌, ℕ, List, [], true, false, refl, arith, nat_lt, add-one, length, drop, get_or, ap, sym, ◌∙◌}
-use Rattle.std.specs.Prelude.{◌==◌}
+use Rattle.std.proofs.Common.{◌≡◌, ◌∷◌, ◌-◌, ◌≤◌, ◌<◌, ◌+◌, ℕ, List, [], true, false, refl, arith, nat_lt, add-one, length, drop, get_or, ap, sym, ◌∙◌, ◌==◌, drop-drop}
 use Rattle.std.specs.Char.{is_ascii_digit}
 use Rattle.std.specs.List.{prefix_len}
 use Rattle.std.proofs.Math.Seq.{drop-cons}
-use Rattle.std.proofs.lemmas.List.{drop-drop}
 use Rattle.std.proofs.lemmas.Bool.Decides.{nat_tests}
 use Rattle.std.proofs.lemmas.Str.{digit_value_digit}
 use Rattle.life_base.proofs.FrontDigits.{digit_text_in_front}

@@ -1,7 +1,6 @@
 -- What is written on lines is read on lines.
-use Rattle.std.proofs.Common.{◌≡◌, ℕ, ◌+◌, ◌-◌, ◌/◌, ◌%◌, ◌^◌, decimal, ◌≤◌, ◌||◌, ◌⊎◌, codes, take, drop, Err, Result, inl, inr, Bool, true, false, cond, List, [], ◌∷◌, ◌++◌, length, map, refl, sym, ap, ◌∙◌, subst, Ok, None, arith, append_assoc, eqb, ltb, leb}
+use Rattle.std.proofs.Common.{◌≡◌, ℕ, ◌+◌, ◌-◌, ◌/◌, ◌%◌, ◌^◌, decimal, ◌≤◌, ◌||◌, ◌⊎◌, codes, take, drop, Err, Result, inl, inr, Bool, true, false, cond, List, [], ◌∷◌, ◌++◌, length, map, refl, sym, ap, ◌∙◌, subst, Ok, None, arith, append_assoc, eqb, ltb, leb, append-nil, length-append, bytes_eq}
 use Rattle.std.proofs.lemmas.Bool.Decides.{nat_tests}
-use Rattle.std.proofs.lemmas.List.{append-nil, length-append}
 use Rattle.std.specs.List.{list_all}
 use Rattle.std.proofs.lemmas.Fmt.{length-decimal-le}
 use Rattle.std.proofs.lemmas.Bool.{and_parts, and_left, and_right, or_from}
@@ -14,7 +13,6 @@ use Rattle.std.specs.Char.{is_ascii_digit}
 use Rattle.life_rle.specs.declared.item.Item.{Item}
 use Rattle.life_rle.specs.declared.item.Item.TheVariants.{Cells, RowEnds}
 use Rattle.life_rle.specs.Items.{Next, End, Spelled, next_of, Spells}
-use Rattle.std.specs.Prelude.{bytes_eq}
 use Rattle.life_rle.specs.Position.{is_position_line}
 use Rattle.life_rle.specs.Pattern.{Rle, placed_behind, first_fault}
 use Rattle.life_rle.specs.States.{is_state_of, state_text, lettered}

@@ -1,6 +1,5 @@
 -- The laws of refused files and of their fronts.
-use Rattle.std.proofs.Common.{◌≡◌, ℕ, suc, ◌+◌, List, [], ◌∷◌, ◌++◌, length, take, get_or, sym, ap, ◌∙◌, subst, inl, inr, ◌⊎◌, arith}
-use Rattle.std.proofs.lemmas.List.{length-append}
+use Rattle.std.proofs.Common.{◌≡◌, ℕ, suc, ◌+◌, List, [], ◌∷◌, ◌++◌, length, take, get_or, sym, ap, ◌∙◌, subst, inl, inr, ◌⊎◌, arith, length-append}
 use Rattle.std.proofs.Math.Seq.{take-suc, take-append_seam, get_or-append_seam}
 use Rattle.life_base.specs.Refusal.{Prefix}
 use Rattle.life_base.proofs.Refusals.{one_refusal}

@@ -1,7 +1,6 @@
 -- Texts at the end of an item's room.
-use Rattle.std.proofs.Common.{◌≡◌, ℕ, List, [], ◌∷◌, drop, length, refl, ap, ◌∙◌, arith}
-use Rattle.std.specs.Prelude.{slice_set}
-use Rattle.std.proofs.lemmas.List.{drop-set, drop-set-add, length-drop, nil_from_length}
+use Rattle.std.proofs.Common.{◌≡◌, ℕ, List, [], ◌∷◌, drop, length, refl, ap, ◌∙◌, arith, slice_set, length-drop}
+use Rattle.std.proofs.lemmas.List.{drop-set, drop-set-add, nil_from_length}
 
 last-one : (ys : List ℕ) (a b : ℕ) → length ys ≡ 1 → slice_set (a ∷ ys) 1 b ≡ a ∷ b ∷ []
 last-one [] a b h = absurd (omega (arith, h))

@@ -1,6 +1,5 @@
 -- Each rule that a line breaks is of a kind of the format, and what a line is before the header stands in the plane.
-use Rattle.std.proofs.Common.{◌≡◌, ℕ, Bool, true, false, not, cond, ◌&&◌, ◌||◌, List, [], ◌∷◌, ◌++◌, refl, sym, ◌∙◌, subst, inl, inr, Some, None, Ok, Err, Option, Result, ℤ, pos, ◌+ℤ◌, codes}
-use Rattle.std.specs.Prelude.{int_lt, int_le}
+use Rattle.std.proofs.Common.{◌≡◌, ℕ, Bool, true, false, not, cond, ◌&&◌, ◌||◌, List, [], ◌∷◌, ◌++◌, refl, sym, ◌∙◌, subst, inl, inr, Some, None, Ok, Err, Option, Result, ℤ, pos, ◌+ℤ◌, codes, int_lt, int_le}
 use Rattle.life_base.specs.declared.kind.Kind.{Kind}
 use Rattle.life_base.specs.declared.kind.Kind.TheVariants.{LineTooLong, NoHeader, LateHeader, SecondHeader, StateRange, OutOfPlane}
 use Rattle.life_base.specs.declared.rule.Rule.{Rule}

@@ -1,11 +1,8 @@
 -- The bytes in front of the first that passes a test.
-use Rattle.std.proofs.Common.{◌≡◌, ℕ, ◌≤◌, Bool, not, List, length, take, ap, sym, arith, ltb}
-use Rattle.std.specs.Prelude.{position, take_while, Some, None}
+use Rattle.std.proofs.Common.{◌≡◌, ℕ, ◌≤◌, Bool, not, List, length, take, ap, sym, arith, ltb, position, take_while, Some, None, take_all, ltb-false}
 use Rattle.std.specs.List.{position_or_len}
 use Rattle.std.proofs.lemmas.List.Quantifiers.{position-Some}
 use Rattle.std.proofs.lemmas.List.Sums.{position_or_len_is}
-use Rattle.std.proofs.lemmas.List.{take_all}
-use Rattle.std.proofs.lemmas.Bool.{ltb-false}
 use Rattle.life_base.proofs.Basics.{false_from_none}
 
 pub front-Some : (test : ℕ → Bool) (xs : List ℕ) (i : ℕ) → position test xs ≡ Some i → take i xs ≡ take_while (λ b. not (test b)) xs

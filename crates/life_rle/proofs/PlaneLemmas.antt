@@ -1,8 +1,6 @@
 -- The plane of any level.
-use Rattle.std.proofs.Common.{◌≡◌, ℕ, ◌-◌, ◌^◌, ◌≤◌, true, arith, pos, neg_ℤ, ◌&&◌}
-use Rattle.std.specs.Prelude.{int_lt, int_le}
+use Rattle.std.proofs.Common.{◌≡◌, ℕ, ◌-◌, ◌^◌, ◌≤◌, true, arith, pos, neg_ℤ, ◌&&◌, int_lt, int_le, pow_pos}
 use Rattle.std.proofs.lemmas.Int.{ints}
-use Rattle.std.proofs.lemmas.Nat.{pow_pos}
 use Rattle.life_rle.specs.Plane.{is_coordinate}
 
 pub power-positive : (n : ℕ) → 1 ≤ 2 ^ n

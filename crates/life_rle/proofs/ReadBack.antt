@@ -1,6 +1,5 @@
 -- The written lines are the lines of the text, and the written header is read.
-use Rattle.std.proofs.Common.{◌≡◌, ℕ, ◌^◌, ◌<◌, Bool, true, false, not, cond, List, [], ◌∷◌, ◌++◌, refl, ap, ◌∙◌, Some, None, Ok, Option, arith, append_assoc, eqb, decimal, codes}
-use Rattle.std.specs.Prelude.{flat_map}
+use Rattle.std.proofs.Common.{◌≡◌, ℕ, ◌^◌, ◌<◌, Bool, true, false, not, cond, List, [], ◌∷◌, ◌++◌, refl, ap, ◌∙◌, Some, None, Ok, Option, arith, append_assoc, eqb, decimal, codes, flat_map}
 use Rattle.std.specs.List.{list_all}
 use Rattle.std.proofs.lemmas.Bool.Decides.{nat_tests}
 use Rattle.std.proofs.lemmas.Bool.{and_parts}
@@ -9,8 +8,7 @@ use Rattle.life_base.specs.Rules.{rule_of, rule_text}
 use Rattle.life_base.specs.Text.{is_digit_text, trim_start, lines_of, onto_first}
 use Rattle.std.specs.Char.{is_ascii_digit}
 use Rattle.life_rle.specs.Items.{behind_digits}
-use Rattle.life_rle.specs.Header.{◌>>=◌}
-use Rattle.life_rle.specs.Header.{after_word, after_number, rule_part, header_form, rule_in, header_of}
+use Rattle.life_rle.specs.Header.{◌>>=◌, after_word, after_number, rule_part, header_form, rule_in, header_of}
 use Rattle.life_rle.specs.Written.{header_text}
 use Rattle.life_rle.proofs.Texts.{decimal-is_digit_text, digit-plain, Stops, front-stop, behind-stop}
 

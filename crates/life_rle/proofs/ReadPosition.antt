@@ -1,16 +1,14 @@
 -- The written position line is read.
-use Rattle.std.proofs.Common.{◌≡◌, ℕ, zero, suc, ◌+◌, ◌^◌, ◌<◌, Bool, true, false, not, cond, ◌&&◌, List, [], ◌∷◌, ◌++◌, length, take, drop, refl, sym, ap, ◌∙◌, Some, None, Ok, Err, arith, eqb, leb, ◌-◌, decimal, codes, ℤ, pos, negsuc, neg_ℤ}
+use Rattle.std.proofs.Common.{◌≡◌, ℕ, zero, suc, ◌+◌, ◌^◌, ◌<◌, Bool, true, false, not, cond, ◌&&◌, List, [], ◌∷◌, ◌++◌, length, take, drop, refl, sym, ap, ◌∙◌, Some, None, Ok, Err, arith, eqb, leb, ◌-◌, decimal, codes, ℤ, pos, negsuc, neg_ℤ, append-nil}
 use Rattle.std.specs.List.{list_all, before_first, after_first, position_or_len}
 use Rattle.std.specs.Fmt.{signed_decimal}
 use Rattle.std.proofs.lemmas.Bool.Decides.{nat_tests}
-use Rattle.std.proofs.lemmas.List.{append-nil}
 use Rattle.std.proofs.lemmas.List.Folds.{list_all-append}
 use Rattle.std.proofs.lemmas.Bool.{and_parts, not-true}
 use Rattle.std.proofs.Math.Seq.{take-append_seam, drop-append-add}
 use Rattle.life_base.specs.declared.kind.Kind.TheVariants.{TooLarge, OutOfPlane, BadNumber}
-use Rattle.life_base.specs.Text.{is_whitespace, is_digit_text, value_of}
+use Rattle.life_base.specs.Text.{is_whitespace, is_digit_text, value_of, words_of, is_blank, onto_first}
 use Rattle.std.specs.Char.{is_ascii_digit}
-use Rattle.life_base.specs.Text.{words_of, is_blank, onto_first}
 use Rattle.life_base.specs.Numbers.{u64_of}
 use Rattle.life_rle.specs.Position.{signed_number, Corner, Generation, default_position, corner_of, field_of, with_field, and_then, position_with, position_of}
 use Rattle.life_rle.specs.Plane.{is_coordinate}

@@ -1,6 +1,6 @@
 -- The place of a fault: lines that break no rule can be continued, and the first line that breaks one is the place.
-use Rattle.std.proofs.Common.{◌≡◌, ℕ, ◌+◌, ◌≤◌, List, [], ◌∷◌, ◌++◌, length, take, drop, true, false, min, ◌-◌, ◌^◌, refl, sym, ap, ◌∙◌, subst, inl, inr, Some, append_assoc, codes, arith}
-use Rattle.std.proofs.lemmas.List.{append-nil, take-append-drop, take-append-le, length-append}
+use Rattle.std.proofs.Common.{◌≡◌, ℕ, ◌+◌, ◌≤◌, List, [], ◌∷◌, ◌++◌, length, take, drop, true, false, min, ◌-◌, ◌^◌, refl, sym, ap, ◌∙◌, subst, inl, inr, Some, append_assoc, codes, arith, append-nil, take-append-drop, length-append}
+use Rattle.std.proofs.lemmas.List.{take-append-le}
 use Rattle.std.proofs.Math.Seq.{take-append_seam, get_or-append_seam}
 use Rattle.std.specs.List.{slice_index_or}
 use Rattle.life_base.specs.declared.kind.Kind.{Kind}

@@ -1,6 +1,5 @@
 -- How many runs a line brings at most.
-use Rattle.std.proofs.Common.{◌≡◌, ◌≤◌, ◌+◌, ℕ, List, Bool, not, length, refl, arith}
-use Rattle.std.specs.Prelude.{◌==◌, filter, take_while}
+use Rattle.std.proofs.Common.{◌≡◌, ◌≤◌, ◌+◌, ℕ, List, Bool, not, length, refl, arith, ◌==◌, filter, take_while}
 use Rattle.std.specs.List.{prefix_len}
 use Rattle.std.proofs.lemmas.List.Filters.{length-filter_both}
 use Rattle.life_base.proofs.WordEnds.{split_length}

@@ -1,6 +1,5 @@
 -- Short items: the tables that decide them, held against each of the 256 bytes by computing; what they spell; and one more of them is read.
-use Rattle.std.proofs.Common.{◌≡◌, ◌∙◌, ◌+◌, ◌-◌, ◌*◌, ◌≤◌, ◌<◌, ◌∷◌, ◌++◌, ◌^◌, ℕ, List, [], length, drop, get_or, true, false, cond, refl, ap, sym, arith, pos, neg_ℤ, ℤ, ◌+ℤ◌, ◌≤ℤ◌, None, ◌&&◌, map, append-nil}
-use Rattle.std.specs.Prelude.{nat_le, int_lt}
+use Rattle.std.proofs.Common.{◌≡◌, ◌∙◌, ◌+◌, ◌-◌, ◌*◌, ◌≤◌, ◌<◌, ◌∷◌, ◌++◌, ◌^◌, ℕ, List, [], length, drop, get_or, true, false, cond, refl, ap, sym, arith, pos, neg_ℤ, ℤ, ◌+ℤ◌, ◌≤ℤ◌, None, ◌&&◌, map, append-nil, nat_le, int_lt}
 use Rattle.std.proofs.lemmas.Bool.Decides.{nat_tests}
 use Rattle.std.proofs.lemmas.Int.{ints}
 use Rattle.std.proofs.lemmas.List.FromFn.{get_or-map-range_with_len}

@@ -1,6 +1,5 @@
 -- The rule, the generation and the corner of an RLE file.
-use Rattle.std.proofs.Common.{◌≡◌, ℕ, ◌-◌, ◌^◌, ◌<◌, Bool, true, false, cond, not, ◌&&◌, List, [], ◌∷◌, refl, sym, subst, arith, lit<, inl, inr, Option, Some, None, codes, drop}
-use Rattle.std.specs.Prelude.{Result, Ok, Err, nat_le, ℤ}
+use Rattle.std.proofs.Common.{◌≡◌, ℕ, ◌-◌, ◌^◌, ◌<◌, Bool, true, false, cond, not, ◌&&◌, List, [], ◌∷◌, refl, sym, subst, arith, lit<, inl, inr, Option, Some, None, codes, drop, Result, Ok, Err, nat_le, ℤ}
 use Rattle.std.proofs.lemmas.Bool.Decides.{nat_tests}
 use Rattle.life_base.specs.Numbers.{u64_of}
 use Rattle.life_base.specs.Rules.{IsRule, default_rule}

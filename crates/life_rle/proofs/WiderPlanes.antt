@@ -1,6 +1,5 @@
 -- The law of wider planes: what is found of a line, and where items may stand, stays as the plane grows.
-use Rattle.std.proofs.Common.{◌≡◌, ◌-◌, ◌^◌, ◌≤◌, Bool, true, false, cond, not, ◌&&◌, refl, ap, ◌∙◌, arith, inl, inr, drop, codes}
-use Rattle.std.specs.Prelude.{ℕ, ℤ, pos, neg_ℤ, ◌+ℤ◌, int_lt, int_le, nat_lt, ◌==◌, List, [], ◌∷◌, Option, Some, None, Result, Ok, Err}
+use Rattle.std.proofs.Common.{◌≡◌, ◌-◌, ◌^◌, ◌≤◌, Bool, true, false, cond, not, ◌&&◌, refl, ap, ◌∙◌, arith, inl, inr, drop, codes, ℕ, ℤ, pos, neg_ℤ, ◌+ℤ◌, int_lt, int_le, nat_lt, ◌==◌, List, [], ◌∷◌, Option, Some, None, Result, Ok, Err}
 use Rattle.std.proofs.lemmas.Bool.Decides.{nat_tests}
 use Rattle.std.proofs.lemmas.Int.{ints}
 use Rattle.std.proofs.Math.Pow.{pow_mono}
@@ -20,8 +19,7 @@ use Rattle.life_rle.specs.Laws.{WiderPlanesKeepFiles}
 use Rattle.std.specs.Option.{option_or}
 use Rattle.life_rle.specs.Pattern.{Rle, Placed, placed, item_fault, placed_fault, first_fault}
 use Rattle.life_rle.specs.Plane.{edge, is_coordinate, most_count}
-use Rattle.life_rle.specs.Position.{default_position, Field, Corner, and_then, corner_of, corner_in, field_of, with_field}
-use Rattle.life_rle.specs.Position.{position_with, position_of, is_position_line}
+use Rattle.life_rle.specs.Position.{default_position, Field, Corner, and_then, corner_of, corner_in, field_of, with_field, position_with, position_of, is_position_line}
 use Rattle.life_rle.specs.States.{is_state_of}
 use Rattle.life_rle.proofs.Openings.{opened}
 use Rattle.life_rle.proofs.Progress.{option_or-both, IsOpenBy-map, IsEndedBy-map}

@@ -1,6 +1,5 @@
 -- Worked examples of a step and of its refusals.
-use Rattle.std.proofs.Common.{ℕ, ◌-◌, ◌^◌, inl, Some, [], ◌∷◌, refl, arith}
-use Rattle.std.specs.Prelude.{pos, ◌&&◌, int_le, if◌then◌else◌}
+use Rattle.std.proofs.Common.{ℕ, ◌-◌, ◌^◌, inl, Some, [], ◌∷◌, refl, arith, pos, ◌&&◌, int_le, if◌then◌else◌}
 use Rattle.std.proofs.lemmas.Int.{ints}
 use Rattle.life_base.specs.Refusal.{fault_of}
 use Rattle.life_base.specs.Sets.{OuterTotalistic}

@@ -1,6 +1,5 @@
 -- The states of a square, asked for by its cells.
-use Rattle.std.proofs.Common.{◌≡◌, ℕ, suc, ◌-◌, ◌^◌, ◌≤◌, Bool, true, false, refl, sym, ◌∙◌, ap, subst, arith}
-use Rattle.std.specs.Prelude.{ℤ, pos, neg_ℤ, ◌+ℤ◌, min, nat_lt, int_le, int_lt, ◌&&◌, unsigned_abs, if◌then◌else◌}
+use Rattle.std.proofs.Common.{◌≡◌, ℕ, suc, ◌-◌, ◌^◌, ◌≤◌, Bool, true, false, refl, sym, ◌∙◌, ap, subst, arith, ℤ, pos, neg_ℤ, ◌+ℤ◌, min, nat_lt, int_le, int_lt, ◌&&◌, unsigned_abs, if◌then◌else◌}
 use Rattle.life_base.specs.Tree.{Tree, point, quad, depth, half_side, state_at, tree_cell, IsFull}
 use Rattle.life_mc.specs.Squares.{HasStatesUpTo}
 use Rattle.life_quad.proofs.LawLemmas.{equal_by_plane}

@@ -1,6 +1,5 @@
 -- Steps: what the law of a rule answers for the square of a pattern is the next generation of what its file says.
-use Rattle.std.proofs.Common.{◌≡◌, ◌≢◌, ℕ, ◌+◌, ◌-◌, ◌^◌, ◌<◌, ◌≤◌, Bool, true, false, ◌⊎◌, inl, inr, ℤ, List, Option, None, Some, refl, sym, ◌∙◌, ap, subst, arith}
-use Rattle.std.specs.Prelude.{drop, slice_index, if◌then◌else◌, Result, Ok, Err, IfErr}
+use Rattle.std.proofs.Common.{◌≡◌, ◌≢◌, ℕ, ◌+◌, ◌-◌, ◌^◌, ◌<◌, ◌≤◌, Bool, true, false, ◌⊎◌, inl, inr, ℤ, List, Option, None, Some, refl, sym, ◌∙◌, ap, subst, arith, drop, slice_index, if◌then◌else◌, Result, Ok, Err, IfErr}
 use Rattle.life_base.specs.Refusal.{fault_of}
 use Rattle.life_base.specs.Rules.{IsRule}
 use Rattle.life_base.specs.Sets.{OuterTotalistic}

@@ -1,7 +1,6 @@
 -- Facts about four rows of cells.
 use Rattle.life_base.specs.declared.cell.TheConstants.{MAX_LEVEL}
-use Rattle.std.proofs.Common.{◌≡◌, ℕ, suc, ◌+◌, ◌-◌, ◌*◌, ◌/◌, ◌%◌, ◌^◌, ◌≤◌, ◌<◌, ◌⊎◌, inl, inr, true, nat_lt, nat_le, List, [], ◌∷◌, length, get_or, zero, Bool, false, Option, Some, None, refl, sym, ◌∙◌, ap, subst, arith}
-use Rattle.std.specs.Prelude.{MatchOption, IfSome, if◌then◌else◌}
+use Rattle.std.proofs.Common.{◌≡◌, ℕ, suc, ◌+◌, ◌-◌, ◌*◌, ◌/◌, ◌%◌, ◌^◌, ◌≤◌, ◌<◌, ◌⊎◌, inl, inr, true, nat_lt, nat_le, List, [], ◌∷◌, length, get_or, zero, Bool, false, Option, Some, None, refl, sym, ◌∙◌, ap, subst, arith, MatchOption, IfSome, if◌then◌else◌, get_or-set_same, get_or-set_other}
 use Rattle.life_quad.specs.declared.id.Id.{Id}
 use Rattle.life_quad.specs.Keeping.{KeepsSquares}
 use Rattle.life_quad.specs.Store.{two, four}
@@ -12,7 +11,7 @@ use Rattle.life_strip.specs.Strip.{id_at, square_or_blank, square_at, quad_at, I
 use Rattle.life_strip.specs.declared.words.TwoWords.{TwoWords}
 use Rattle.life_strip.specs.Band.{four_at, cell_in, IsWord, west_at, east_at, cells_at}
 use Rattle.std.proofs.Math.ListN.{set, length-set}
-use Rattle.std.proofs.lemmas.List.{get_or_default, get_or-set_same, get_or-set_other}
+use Rattle.std.proofs.lemmas.List.{get_or_default}
 use Rattle.std.proofs.lemmas.List.Elements.{All-tail, All-set}
 use Rattle.life_strip.proofs.WordLemmas.{west-square, east-square, west-small, east-small}
 use Rattle.life_strip.proofs.SpanLemmas.{Keeps, id_at-in, id_at-after, before_more, strip-kept, quad-keeps, quad-same, nearer-one, found-within, before_earlier, none-left, nearer-both, first-column, quad-blank, blank-before, ends-after}

@@ -1,8 +1,8 @@
 -- Facts about squares of level 2 that are alike, one beside the other, in four words of cells.
-use Rattle.std.proofs.Common.{◌≡◌, ℕ, zero, suc, ◌+◌, ◌-◌, ◌*◌, ◌/◌, ◌%◌, ◌^◌, ◌≤◌, ◌<◌, refl, sym, ◌∙◌, ap, subst, arith, bit_and, bit_or}
+use Rattle.std.proofs.Common.{◌≡◌, ℕ, zero, suc, ◌+◌, ◌-◌, ◌*◌, ◌/◌, ◌%◌, ◌^◌, ◌≤◌, ◌<◌, refl, sym, ◌∙◌, ap, subst, arith, bit_and, bit_or, pow_pos}
 use Rattle.std.specs.Int.Bits.{mask_lt}
 use Rattle.std.specs.Int.Count.{count_leading_zeros, count_trailing_zeros, under}
-use Rattle.std.proofs.lemmas.Nat.{mod-pow-add, and_mask, or_mod, le_or_l, le_or_r, leading_length, pow_pos, trailing_le}
+use Rattle.std.proofs.lemmas.Nat.{mod-pow-add, and_mask, or_mod, le_or_l, le_or_r, leading_length, trailing_le}
 use Rattle.std.proofs.Math.Pow.{pow_mono, mod-mod-pow}
 use Rattle.life_quad.specs.Store.{four}
 use Rattle.life_base.specs.Tree.{Tree, blank}

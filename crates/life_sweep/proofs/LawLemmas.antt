@@ -1,6 +1,5 @@
 -- Laws: the number of live neighbours, and the neighbours that a table looks at.
-use Rattle.std.proofs.Common.{◌≡◌, ℕ, ◌+◌, ◌<◌, Bool, cond, inl, inr, List, [], ◌∷◌, length, drop, get_or, refl, sym, ◌∙◌, ap, subst, arith}
-use Rattle.std.specs.Prelude.{All, nat_eq, slice_index, Result, Ok, Err, IfOk, MatchResult}
+use Rattle.std.proofs.Common.{◌≡◌, ℕ, ◌+◌, ◌<◌, Bool, cond, inl, inr, List, [], ◌∷◌, length, drop, get_or, refl, sym, ◌∙◌, ap, subst, arith, All, nat_eq, slice_index, Result, Ok, Err, IfOk, MatchResult}
 use Rattle.std.proofs.lemmas.Bool.Decides.{eqb_tells}
 use Rattle.life_base.specs.declared.fault.Fault.{Fault}
 use Rattle.life_base.specs.declared.kind.Kind.TheVariants as kinds

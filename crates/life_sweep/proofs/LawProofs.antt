@@ -1,9 +1,8 @@
 -- What laws answer, in the words of the plane.
-use Rattle.std.proofs.Common.{◌≡◌, ℕ, ℤ}
+use Rattle.std.proofs.Common.{◌≡◌, ℕ, ℤ, List, subst, sym, refl}
 use Rattle.life_table.specs.Meaning.{Decides, Becomes, count_of}
 use Rattle.life_table.specs.declared.table.Neighborhood.{Neighborhood}
 use Rattle.life_table.specs.declared.table.Neighborhood.TheVariants.{VonNeumann, Moore}
-use Rattle.std.proofs.Common.{List, subst, sym, refl}
 use Rattle.life_sweep.specs.Generation.{neighbours_at, neighborhood_of, next_by_count, LifeAnswersAt, TableAnswersAt, states_at, named}
 
 -- the neighbours that a neighbourhood names stand where it says

@@ -1,5 +1,5 @@
 -- Worked examples of a generation, computed.
-use Rattle.std.specs.Prelude.{◌≡◌, ℕ, ◌^◌, ◌-◌, ℤ, pos, negsuc, List, [], ◌∷◌, refl, Bool, ◌&&◌, int_le, if◌then◌else◌}
+use Rattle.std.proofs.Common.{◌≡◌, ℕ, ◌^◌, ◌-◌, ℤ, pos, negsuc, List, [], ◌∷◌, refl, Bool, ◌&&◌, int_le, if◌then◌else◌}
 use Rattle.life_base.specs.Sets.{OuterTotalistic}
 use Rattle.life_base.specs.declared.rule.Near.TheVariants as near
 use Rattle.life_base.specs.declared.cell.Cell.{Cell}

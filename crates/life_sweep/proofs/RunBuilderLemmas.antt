@@ -1,6 +1,5 @@
 -- Runs that grow by one cell.
-use Rattle.std.proofs.Common.{◌≡◌, ℕ, ◌+◌, inl, inr, ℤ, pos, ◌+ℤ◌, ◌<ℤ◌, List, [], ◌∷◌, ◌++◌, refl, sym, subst, arith, to_z, of_z, w64}
-use Rattle.std.specs.Prelude.{IfSome, Option, Some}
+use Rattle.std.proofs.Common.{◌≡◌, ℕ, ◌+◌, inl, inr, ℤ, pos, ◌+ℤ◌, ◌<ℤ◌, List, [], ◌∷◌, ◌++◌, refl, sym, subst, arith, to_z, of_z, w64, IfSome, Option, Some}
 use Rattle.std.proofs.lemmas.Int.{ints}
 use Rattle.life_quad.specs.Cells.{IsInRun}
 use Rattle.life_strip.specs.Given.{IsNext, IsBehind, AreInOrder, state_by}

@@ -1,6 +1,5 @@
 -- Lines are accepted exactly if they write a table, and no transition is dropped.
-use Rattle.std.proofs.Common.{◌≡◌, ℕ, ◌+◌, List, [], ◌∷◌, map, Bool, true, false, refl, ap, sym, ◌∙◌, subst, ◌&&◌, inl, inr, length, take}
-use Rattle.std.specs.Prelude.{Option, Some, None, if◌then◌else◌, is_some, is_none, All, filter, slice_get, option_map, ◌==◌}
+use Rattle.std.proofs.Common.{◌≡◌, ℕ, ◌+◌, List, [], ◌∷◌, map, Bool, true, false, refl, ap, sym, ◌∙◌, subst, ◌&&◌, inl, inr, length, take, Option, Some, None, if◌then◌else◌, is_some, is_none, All, filter, slice_get, option_map, ◌==◌}
 use Rattle.std.specs.List.{cons_option}
 use Rattle.std.proofs.lemmas.List.Elements.{All-head, All-tail, All-weaker}
 use Rattle.life_base.specs.Text.{numbered_from}

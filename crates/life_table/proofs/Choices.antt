@@ -1,9 +1,7 @@
 -- Choices of states for variables, and the states that they give to entries.
-use Rattle.std.proofs.Common.{◌≡◌, ◌≢◌, ℕ, suc, ◌+◌, ◌<◌, List, [], ◌∷◌, ◌++◌, map, take, length, get_or, cond, true, false, refl, ap, sym, ◌∙◌, subst, inl, inr, arith, eq-eqb, ◌↔◌}
-use Rattle.std.specs.Prelude.{slice_get, IfSome, IsTrue, nat_eq}
+use Rattle.std.proofs.Common.{◌≡◌, ◌≢◌, ℕ, suc, ◌+◌, ◌<◌, List, [], ◌∷◌, ◌++◌, map, take, length, get_or, cond, true, false, refl, ap, sym, ◌∙◌, subst, inl, inr, arith, eq-eqb, ◌↔◌, length-take, slice_get, IfSome, IsTrue, nat_eq, get_or-take}
 use Rattle.std.proofs.lemmas.Bool.Decides.{eqb_tells}
-use Rattle.std.proofs.lemmas.List.{take_more, get_or-take, length-map, map-append}
-use Rattle.std.proofs.Common.{length-take}
+use Rattle.std.proofs.lemmas.List.{take_more, length-map, map-append}
 use Rattle.life_table.specs.Meaning.{IsChoice, state_of, HasState}
 use Rattle.life_table.specs.Found.{Consistent}
 use Rattle.life_table.specs.Valid.{is_variable}

@@ -1,10 +1,8 @@
 -- What a line gives by counts, from the groups of its open inputs and the places that its settled inputs leave free.
-use Rattle.std.proofs.Common.{◌≡◌, ℕ, ◌+◌, ◌-◌, ◌<◌, List, [], ◌∷◌, map, take, drop, length, get_or, cond, nat_eq, Bool, true, false, refl, ap, sym, ◌∙◌, subst, inl, inr, arith, length-drop, eqb-true}
-use Rattle.std.specs.Prelude.{Option, Some, None, slice_get, IfSome, All}
+use Rattle.std.proofs.Common.{◌≡◌, ℕ, ◌+◌, ◌-◌, ◌<◌, List, [], ◌∷◌, map, take, drop, length, get_or, cond, nat_eq, Bool, true, false, refl, ap, sym, ◌∙◌, subst, inl, inr, arith, length-drop, eqb-true, Option, Some, None, slice_get, IfSome, All, take_all}
 use Rattle.std.specs.List.{sum_by}
 use Rattle.std.specs.Option.{option_map_or}
 use Rattle.std.proofs.lemmas.Bool.Decides.{eqb_tells}
-use Rattle.std.proofs.lemmas.List.{take_all}
 use Rattle.std.proofs.lemmas.List.Elements.{All-head, All-tail}
 use Rattle.std.proofs.lemmas.List.Sums.{sum_by-cons}
 use Rattle.std.proofs.lemmas.Bool.{cases_Bool}

@@ -1,6 +1,5 @@
 -- What a line gives by counts at a site, over the slices that are read there: the inputs, and what stands behind the first of them and of the cells.
-use Rattle.std.proofs.Common.{◌≡◌, ◌≢◌, ℕ, ◌+◌, ◌-◌, ◌<◌, ◌≤◌, ◌∷◌, List, true, map, take, drop, length, get_or, ap, sym, ◌∙◌, subst, arith, length-drop}
-use Rattle.std.specs.Prelude.{Some, None, All, IsTrue}
+use Rattle.std.proofs.Common.{◌≡◌, ◌≢◌, ℕ, ◌+◌, ◌-◌, ◌<◌, ◌≤◌, ◌∷◌, List, true, map, take, drop, length, get_or, ap, sym, ◌∙◌, subst, arith, length-drop, Some, None, All, IsTrue}
 use Rattle.std.specs.Int.{bit_at}
 use Rattle.std.specs.List.{list_any}
 use Rattle.life_table.specs.Meaning.{GivesByCounts, state_of, count_of}

@@ -1,6 +1,5 @@
 -- Numbers below a limit.
-use Rattle.std.proofs.Common.{◌≡◌, ℕ, ◌-◌, ◌^◌, ◌<◌, List, Bool, true, false, not, refl, sym, arith, rules}
-use Rattle.std.specs.Prelude.{◌&&◌, nat_le, nat_lt, if◌then◌else◌, Option, Some, None, Result, Ok, Err}
+use Rattle.std.proofs.Common.{◌≡◌, ℕ, ◌-◌, ◌^◌, ◌<◌, List, Bool, true, false, not, refl, sym, arith, rules, ◌&&◌, nat_le, nat_lt, if◌then◌else◌, Option, Some, None, Result, Ok, Err}
 use Rattle.life_base.specs.Text.{is_digit_text, value_of}
 use Rattle.life_base.specs.Numbers.{u64_of}
 use Rattle.life_base.specs.declared.kind.Kind.{Kind}

@@ -1,8 +1,6 @@
 -- What the lines say together with one more that breaks no rule.
-use Rattle.std.proofs.Common.{◌≡◌, ℕ, List, [], ◌∷◌, ◌++◌, Bool, true, false, not, refl, ap, sym, ◌∙◌, subst}
-use Rattle.std.specs.Prelude.{Option, Some, None, if◌then◌else◌}
+use Rattle.std.proofs.Common.{◌≡◌, ℕ, List, [], ◌∷◌, ◌++◌, Bool, true, false, not, refl, ap, sym, ◌∙◌, subst, Option, Some, None, if◌then◌else◌, append-nil}
 use Rattle.std.specs.List.{list_any}
-use Rattle.std.proofs.lemmas.List.{append-nil}
 use Rattle.std.proofs.lemmas.List.Elements.{All-nil}
 use Rattle.life_base.specs.Text.{is_empty}
 use Rattle.life_table.specs.Reading.{Numbered, parsed_in, parsed_by, name_of, name_on, section_of, table_texts, from_rule, from_first, contents, content, is_passed_over, is_section_line}

@@ -1,11 +1,9 @@
 -- What a line gives at its images, one after another.
-use Rattle.std.proofs.Common.{◌≡◌, ℕ, ◌<◌, ◌++◌, ◌∷◌, List, [], map, length, get_or, ap, sym, ◌∙◌, subst, inl, inr}
-use Rattle.std.specs.Prelude.{◌⊎◌}
+use Rattle.std.proofs.Common.{◌≡◌, ℕ, ◌<◌, ◌++◌, ◌∷◌, List, [], map, length, get_or, ap, sym, ◌∙◌, subst, inl, inr, ◌⊎◌}
 use Rattle.std.proofs.lemmas.List.{get_or-map}
 use Rattle.std.proofs.lemmas.List.Elements.{Contains-append_left, Contains-append_right, Contains-append_cases}
-use Rattle.life_table.specs.Meaning.{state_of}
+use Rattle.life_table.specs.Meaning.{state_of, GivesAs}
 use Rattle.life_table.specs.Found.{Tells, Adds, SomeGives}
-use Rattle.life_table.specs.Meaning.{GivesAs}
 use Rattle.life_base.proofs.Members.{in_head, in_none, in_one}
 use Rattle.life_table.proofs.Adding.{directives_same, tells_more, adds_same, adds_more, adds_none}
 use Rattle.life_table.specs.declared.found.Found.{Found}

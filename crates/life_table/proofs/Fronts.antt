@@ -1,6 +1,5 @@
 -- One more line: the rule line, the table line, and the lines of the table.
-use Rattle.std.proofs.Common.{◌≡◌, ℕ, List, [], ◌∷◌, ◌++◌, drop, Bool, true, false, not, refl, ap, sym, ◌∙◌, ◌||◌, ◌⊎◌, inl, inr, append-nil}
-use Rattle.std.specs.Prelude.{Option, None, if◌then◌else◌, option_and_then, slice_get}
+use Rattle.std.proofs.Common.{◌≡◌, ℕ, List, [], ◌∷◌, ◌++◌, drop, Bool, true, false, not, refl, ap, sym, ◌∙◌, ◌||◌, ◌⊎◌, inl, inr, append-nil, Option, None, if◌then◌else◌, option_and_then, slice_get}
 use Rattle.std.specs.List.{list_any}
 use Rattle.std.proofs.lemmas.List.Folds.{list_any-append}
 use Rattle.std.proofs.Math.Bool.{or-false}

@@ -1,9 +1,7 @@
 -- What is said so far are parts of a rule table.
-use Rattle.std.proofs.Common.{◌≡◌, ◌≢◌, ℕ, ◌+◌, ◌<◌, ◌≤◌, List, [], ◌∷◌, ◌++◌, length, Bool, true, false, refl, ap, sym, ◌∙◌, subst, ◌&&◌, ◌||◌, inl, inr, arith, get_or, length-append}
-use Rattle.std.specs.Prelude.{Option, Some, None, if◌then◌else◌, All, IsTrue, IfSome, nat_lt, nat_le, slice_get, bytes_eq}
+use Rattle.std.proofs.Common.{◌≡◌, ◌≢◌, ℕ, ◌+◌, ◌<◌, ◌≤◌, List, [], ◌∷◌, ◌++◌, length, Bool, true, false, refl, ap, sym, ◌∙◌, subst, ◌&&◌, ◌||◌, inl, inr, arith, get_or, length-append, Option, Some, None, if◌then◌else◌, All, IsTrue, IfSome, nat_lt, nat_le, slice_get, bytes_eq, ltb-false}
 use Rattle.std.specs.List.{list_any, list_all, position_or_len}
 use Rattle.std.specs.Option.{option_map_or}
-use Rattle.std.proofs.lemmas.Bool.{ltb-false}
 use Rattle.std.proofs.lemmas.List.{get_or_append_left, get_or_push}
 use Rattle.std.proofs.lemmas.List.Sums.{fails_before_first}
 use Rattle.std.proofs.lemmas.List.Elements.{All-push, All-nil, All-head, All-tail}

@@ -1,6 +1,5 @@
 -- The images of a symmetry are turns by multiples of a step, and their reflections.
-use Rattle.std.proofs.Common.{◌≡◌, ℕ, ◌*◌, ◌<◌, ◌≤◌, ◌∷◌, ◌++◌, List, map, length, Bool, true, false, ap, sym, ◌∙◌, subst, arith}
-use Rattle.std.specs.Prelude.{[], Contains}
+use Rattle.std.proofs.Common.{◌≡◌, ℕ, ◌*◌, ◌<◌, ◌≤◌, ◌∷◌, ◌++◌, List, map, length, Bool, true, false, ap, sym, ◌∙◌, subst, arith, [], Contains}
 use Rattle.std.proofs.Math.Nat.{div_self, zero-mul}
 use Rattle.std.specs.List.{range_with_len}
 use Rattle.life_table.specs.Orders.{turn, turns, reflected_turn, reflected_turns, family, images}

@@ -1,13 +1,11 @@
 -- The index of a table's lines: what is put into its sets, and that a line in none of the sets of an image gives nothing there.
-use Rattle.std.proofs.Common.{◌≡◌, ◌≢◌, ℕ, ◌+◌, ◌-◌, ◌*◌, ◌/◌, ◌%◌, ◌^◌, ◌<◌, ◌≤◌, ◌∷◌, ◌++◌, min, List, [], map, take, drop, length, get_or, set, slice_index, cond, Bool, true, false, ap, sym, ◌∙◌, subst, ◌⊎◌, inl, inr, arith, bit_or, bit_and, length-take, length-drop}
-use Rattle.std.specs.Prelude.{All, Contains}
+use Rattle.std.proofs.Common.{◌≡◌, ◌≢◌, ℕ, ◌+◌, ◌-◌, ◌*◌, ◌/◌, ◌%◌, ◌^◌, ◌<◌, ◌≤◌, ◌∷◌, ◌++◌, min, List, [], map, take, drop, length, get_or, set, slice_index, cond, Bool, true, false, ap, sym, ◌∙◌, subst, ◌⊎◌, inl, inr, arith, bit_or, bit_and, length-take, length-drop, All, Contains, get_or-set_same, get_or-set_other, get_or-take, take_all, pow-add}
 use Rattle.std.specs.Int.{bit_at, w64}
 use Rattle.std.specs.List.{range_with_len}
 use Rattle.std.proofs.lemmas.Bool.Decides.{eqb_tells}
-use Rattle.std.proofs.lemmas.List.{get_or-set_same, get_or-set_other, length-map, get_or-take, get_or_push, get_or_append_left, take_all, length_push}
+use Rattle.std.proofs.lemmas.List.{length-map, get_or_push, get_or_append_left, length_push}
 use Rattle.std.proofs.lemmas.List.Elements.{Contains-append_cases}
 use Rattle.std.proofs.lemmas.List.FromFn.{length-map-range_with_len, get_or-map-range_with_len}
-use Rattle.std.proofs.lemmas.Nat.{pow-add}
 use Rattle.std.proofs.lemmas.Nat.Bits.{shr_and_one, bit_at_and, bit_at_or, bit_at_set_same, bit_at_set_other, bit_at-lt, bit_at-zero}
 use Rattle.std.proofs.lemmas.Bool.{cases_lt}
 use Rattle.std.proofs.Math.Nat.{div-div-eq-div-mul}

@@ -1,6 +1,5 @@
 -- Proofs of the laws of rule tables.
-use Rattle.std.proofs.Common.{◌≡◌, ℕ, List, [], ◌∷◌, ◌++◌, map, take, drop, ap, sym, ◌∙◌, subst, inl, inr}
-use Rattle.std.specs.Prelude.{All}
+use Rattle.std.proofs.Common.{◌≡◌, ℕ, List, [], ◌∷◌, ◌++◌, map, take, drop, ap, sym, ◌∙◌, subst, inl, inr, All}
 use Rattle.std.proofs.lemmas.List.Elements.{All-head, All-tail}
 use Rattle.life_table.proofs.Counts.{count-order, order_by_counts}
 use Rattle.life_table.specs.Laws.{OrdersByCounts, PermuteByCounts, OneAnswer}

@@ -1,9 +1,7 @@
 -- What a text of the table is, and the tests by which it is read.
-use Rattle.std.proofs.Common.{◌≡◌, inl, inr, ℕ, zero, suc, ◌+◌, ◌≤◌, List, [], ◌∷◌, ◌++◌, length, take, map, Bool, true, false, refl, sym, ap, subst, ◌∙◌, arith, lt-ltb, eq-eqb, eqb-true}
-use Rattle.std.specs.Prelude.{Option, Some, None, if◌then◌else◌, is_some, nat_le, nat_lt, ◌==◌, ◌&&◌, bytes_eq, codes, slice_get, option_map, option_and_then}
+use Rattle.std.proofs.Common.{◌≡◌, inl, inr, ℕ, zero, suc, ◌+◌, ◌≤◌, List, [], ◌∷◌, ◌++◌, length, take, map, Bool, true, false, refl, sym, ap, subst, ◌∙◌, arith, lt-ltb, eq-eqb, eqb-true, Option, Some, None, if◌then◌else◌, is_some, nat_le, nat_lt, ◌==◌, ◌&&◌, bytes_eq, codes, slice_get, option_map, option_and_then, le-leb, leb-true, length-append, length-take-le}
 use Rattle.std.specs.List.{AllZip}
-use Rattle.std.proofs.lemmas.Bool.{le-leb, leb-true, and_from, and_parts, cases_Bool}
-use Rattle.std.proofs.lemmas.List.{length-append, length-take-le}
+use Rattle.std.proofs.lemmas.Bool.{and_from, and_parts, cases_Bool}
 use Rattle.std.proofs.lemmas.Slice.Eq.{bytes_eq-Decides}
 use Rattle.std.proofs.Math.Seq.{take-append_seam}
 use Rattle.life_base.specs.Text.{is_digit_text, value_of}

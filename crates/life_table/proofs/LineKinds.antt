@@ -1,6 +1,5 @@
 -- The kinds with which the file of a rule table is refused.
-use Rattle.std.proofs.Common.{◌≡◌, inl, inr, ℕ, ◌-◌, List, length, take, Bool, true, false, cond, refl, sym, ap, ◌∙◌}
-use Rattle.std.specs.Prelude.{Option, Some, None, Result, Ok, Err, is_some, is_none, not, ◌++◌, ◌∷◌, []}
+use Rattle.std.proofs.Common.{◌≡◌, inl, inr, ℕ, ◌-◌, List, length, take, Bool, true, false, cond, refl, sym, ap, ◌∙◌, Option, Some, None, Result, Ok, Err, is_some, is_none, not, ◌++◌, ◌∷◌, []}
 use Rattle.std.specs.List.{slice_index_or}
 use Rattle.life_base.specs.Text.{is_empty, is_too_long, numbered_from}
 use Rattle.life_base.specs.Refusal.{is_placeless}

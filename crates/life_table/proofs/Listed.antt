@@ -1,8 +1,6 @@
 -- Reading a list of words one by one: what is read and what is left are the whole.
-use Rattle.std.proofs.Common.{◌≡◌, ℕ, ◌+◌, ◌<◌, List, [], ◌∷◌, ◌++◌, length, map, drop, true, false, not, refl, ap, sym, ◌∙◌, append_assoc, get_or, add-one}
-use Rattle.std.specs.Prelude.{Option, Some, None, option_map, filter}
+use Rattle.std.proofs.Common.{◌≡◌, ℕ, ◌+◌, ◌<◌, List, [], ◌∷◌, ◌++◌, length, map, drop, true, false, not, refl, ap, sym, ◌∙◌, append_assoc, get_or, add-one, Option, Some, None, option_map, filter, append-nil}
 use Rattle.std.specs.List.{fold}
-use Rattle.std.proofs.lemmas.List.{append-nil}
 use Rattle.std.proofs.Math.Seq.{drop-cons}
 use Rattle.life_base.specs.Text.{is_whitespace}
 use Rattle.life_table.specs.Reading.{all_some, union}

@@ -1,6 +1,5 @@
 -- A variable's number by its name, in a map from names to states.
-use Rattle.std.proofs.Common.{◌≡◌, ℕ, ◌+◌, List, [], ◌∷◌, ◌++◌, length, Bool, false, not, refl, ap, sym, ◌∙◌, cond, nat_lt, map}
-use Rattle.std.specs.Prelude.{Option, Some, None, is_some, position, bytes_eq, option_map, slice_index, ◌==◌, ◌%◌}
+use Rattle.std.proofs.Common.{◌≡◌, ℕ, ◌+◌, List, [], ◌∷◌, ◌++◌, length, Bool, false, not, refl, ap, sym, ◌∙◌, cond, nat_lt, map, Option, Some, None, is_some, position, bytes_eq, option_map, slice_index, ◌==◌, ◌%◌}
 use Rattle.std.specs.Option.{option_map_or}
 use Rattle.std.specs.Bool.{one_answer}
 use Rattle.std.specs.List.{position_or_len}

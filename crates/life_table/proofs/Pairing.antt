@@ -1,6 +1,5 @@
 -- Under a choice each entry is some neighbour, and each neighbour some entry.
-use Rattle.std.proofs.Common.{◌≡◌, Bool, ◌+◌, drop, ◌-◌, ◌≢◌, ℕ, suc, ◌%◌, ◌<◌, ◌≤◌, List, [], ◌∷◌, map, length, get_or, slice_index, cond, true, false, refl, ap, sym, ◌∙◌, subst, inl, inr, arith, eq-eqb}
-use Rattle.std.specs.Prelude.{All, IfSome, Option, Some, None, slice_get}
+use Rattle.std.proofs.Common.{◌≡◌, Bool, ◌+◌, drop, ◌-◌, ◌≢◌, ℕ, suc, ◌%◌, ◌<◌, ◌≤◌, List, [], ◌∷◌, map, length, get_or, slice_index, cond, true, false, refl, ap, sym, ◌∙◌, subst, inl, inr, arith, eq-eqb, All, IfSome, Option, Some, None, slice_get}
 use Rattle.std.specs.Option.{option_map_or}
 use Rattle.std.specs.Int.{bit_at}
 use Rattle.std.proofs.Math.Nat.{mod-eq_of_lt, mod-lt}

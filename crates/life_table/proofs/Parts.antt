@@ -1,10 +1,8 @@
 -- The first part of a text that a byte separates.
-use Rattle.std.proofs.Common.{◌≡◌, ℕ, suc, ◌+◌, ◌<◌, List, [], ◌∷◌, length, take, drop, ltb, ◌≤◌, Bool, true, false, cond, not, refl, ap, ◌∙◌, arith}
-use Rattle.std.specs.Prelude.{position, Some, None}
+use Rattle.std.proofs.Common.{◌≡◌, ℕ, suc, ◌+◌, ◌<◌, List, [], ◌∷◌, length, take, drop, ltb, ◌≤◌, Bool, true, false, cond, not, refl, ap, ◌∙◌, arith, position, Some, None, ltb-false}
 use Rattle.std.proofs.lemmas.List.Quantifiers.{position-Some}
 use Rattle.std.proofs.lemmas.List.Sums.{position_or_len_is}
 use Rattle.std.proofs.lemmas.List.Splits.{slice_split_first}
-use Rattle.std.proofs.lemmas.Bool.{ltb-false}
 use Rattle.std.specs.List.{position_or_len, slice_split, onto_first}
 use Rattle.life_base.proofs.Basics.{false_from_none}
 

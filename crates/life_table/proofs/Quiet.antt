@@ -1,6 +1,5 @@
 -- A cell of state 0 among neighbours of state 0 keeps it.
-use Rattle.std.proofs.Common.{◌≡◌, ℕ, zero, suc, ◌+◌, ◌∷◌, ◌++◌, List, [], map, length, Bool, true, false, refl, ap, sym, ◌∙◌, subst, ◌⊎◌, inl, inr, arith, ◌||◌, get_or, eqb-true, length-append}
-use Rattle.std.specs.Prelude.{Contains, All, IsTrue, IfSome, slice_get, replicate, Option, Some, ◌==◌, if◌then◌else◌}
+use Rattle.std.proofs.Common.{◌≡◌, ℕ, zero, suc, ◌+◌, ◌∷◌, ◌++◌, List, [], map, length, Bool, true, false, refl, ap, sym, ◌∙◌, subst, ◌⊎◌, inl, inr, arith, ◌||◌, get_or, eqb-true, length-append, Contains, All, IsTrue, IfSome, slice_get, replicate, Option, Some, ◌==◌, if◌then◌else◌}
 use Rattle.std.specs.List.{list_any}
 use Rattle.std.specs.Option.{option_map_or}
 use Rattle.std.proofs.Math.Seq.{take-append_seam, get_or-append_seam}

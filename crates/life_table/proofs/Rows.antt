@@ -1,5 +1,5 @@
 -- Worked examples of the `.rule` format, computed.
-use Rattle.std.specs.Prelude.{◌≡◌, ℕ, ◌^◌, List, [], ◌∷◌, ◌++◌, map, take, length, replicate, codes, Option, Some, None, refl}
+use Rattle.std.proofs.Common.{◌≡◌, ℕ, ◌^◌, List, [], ◌∷◌, ◌++◌, map, take, length, replicate, codes, Option, Some, None, refl}
 use Rattle.std.specs.List.{range_with_len, slice_index_or}
 use Rattle.life_base.specs.Text.{numbered_from}
 use Rattle.life_base.specs.Rules.{rule_of, life_sets, four_sets}

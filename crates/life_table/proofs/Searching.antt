@@ -1,11 +1,9 @@
 -- Groups take free places.
-use Rattle.std.proofs.Common.{◌≡◌, ℕ, zero, suc, ◌+◌, ◌^◌, ◌<◌, ◌≤◌, List, [], ◌∷◌, length, drop, set, get_or, cond, nat_eq, false, refl, ◌⊎◌, ap, sym, ◌∙◌, subst, inl, inr, arith, slice_index, replicate, eqb-true, eq-eqb, ◌↔◌}
-use Rattle.std.specs.Prelude.{Option, Some, None, slice_get, IfSome, IsTrue}
+use Rattle.std.proofs.Common.{◌≡◌, ℕ, zero, suc, ◌+◌, ◌^◌, ◌<◌, ◌≤◌, List, [], ◌∷◌, length, drop, set, get_or, cond, nat_eq, false, refl, ◌⊎◌, ap, sym, ◌∙◌, subst, inl, inr, arith, slice_index, replicate, eqb-true, eq-eqb, ◌↔◌, add-one, Option, Some, None, slice_get, IfSome, IsTrue, get_or-set_same, get_or-set_other}
 use Rattle.std.specs.Int.{bit_at}
 use Rattle.std.proofs.Math.Seq.{drop-cons}
-use Rattle.std.proofs.Common.{add-one}
 use Rattle.std.proofs.lemmas.Bool.Decides.{eqb_tells}
-use Rattle.std.proofs.lemmas.List.{get_or-set_same, get_or-set_other, drop_all}
+use Rattle.std.proofs.lemmas.List.{drop_all}
 use Rattle.std.proofs.lemmas.List.Sums.{sum_by-cons}
 use Rattle.std.proofs.lemmas.Bool.{or_parts}
 use Rattle.life_table.specs.Meaning.{HasState}

@@ -1,14 +1,11 @@
 -- Which neighbours an entry may be, place by place.
-use Rattle.std.proofs.Common.{◌≡◌, ◌≢◌, ℕ, ◌+◌, ◌-◌, ◌*◌, ◌%◌, ◌/◌, ◌^◌, ◌<◌, List, length, get_or, set, slice_index, replicate, cond, nat_lt, Bool, true, false, refl, ap, sym, ◌∙◌, subst, inl, inr, arith, bit_or, bit_and, eqb-true}
-use Rattle.std.specs.Prelude.{IsTrue, Option, Some, None, slice_get}
+use Rattle.std.proofs.Common.{◌≡◌, ◌≢◌, ℕ, ◌+◌, ◌-◌, ◌*◌, ◌%◌, ◌/◌, ◌^◌, ◌<◌, List, length, get_or, set, slice_index, replicate, cond, nat_lt, Bool, true, false, refl, ap, sym, ◌∙◌, subst, inl, inr, arith, bit_or, bit_and, eqb-true, IsTrue, Option, Some, None, slice_get, get_or-set_same, get_or-set_other, pow-add}
 use Rattle.std.specs.Int.{bit_at, w16}
-use Rattle.std.proofs.lemmas.Bool.Decides.{eqb_tells}
-use Rattle.std.proofs.lemmas.List.{get_or-set_same, get_or-set_other, get_or_default, get_or-replicate}
+use Rattle.std.proofs.lemmas.Bool.Decides.{eqb_tells, nat_tests}
+use Rattle.std.proofs.lemmas.List.{get_or_default, get_or-replicate}
 use Rattle.std.proofs.lemmas.Nat.Bits.{bit_at_and, bit_at_or, bit_at_set_same, bit_at_set_other, bit_at_ones, same_from_bits_below, bit_at-lt, bit_at-zero}
 use Rattle.std.specs.Option.{option_map_or}
 use Rattle.std.proofs.Math.Nat.{div-div-eq-div-mul}
-use Rattle.std.proofs.lemmas.Nat.{pow-add}
-use Rattle.std.proofs.lemmas.Bool.Decides.{nat_tests}
 use Rattle.std.proofs.lemmas.Option.{slice_get_within, get_or_from_slice_get}
 use Rattle.std.proofs.lemmas.Bool.{cases_Bool}
 use Rattle.life_table.specs.Meaning.{has_state}

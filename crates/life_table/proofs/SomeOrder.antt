@@ -1,10 +1,9 @@
 -- Lines that may fit some order of the neighbours: as many inputs may be one of some states as there are neighbours of one.
-use Rattle.std.proofs.Common.{◌≡◌, ℕ, suc, ◌+◌, ◌-◌, ◌*◌, ◌<◌, ◌≤◌, ◌∷◌, List, [], take, length, get_or, set, slice_index, cond, Bool, true, false, nat_eq, ap, sym, ◌∙◌, subst, ◌⊎◌, inl, inr, refl, arith, eq-eqb, ◌||◌, length-take, bit_or, drop, eqb-true}
-use Rattle.std.specs.Prelude.{Contains, count_by}
+use Rattle.std.proofs.Common.{◌≡◌, ℕ, suc, ◌+◌, ◌-◌, ◌*◌, ◌<◌, ◌≤◌, ◌∷◌, List, [], take, length, get_or, set, slice_index, cond, Bool, true, false, nat_eq, ap, sym, ◌∙◌, subst, ◌⊎◌, inl, inr, refl, arith, eq-eqb, ◌||◌, length-take, bit_or, drop, eqb-true, Contains, count_by, get_or-set_same, get_or-set_other, get_or-take}
 use Rattle.std.specs.Int.{bit_at}
 use Rattle.std.specs.List.{sum_by}
 use Rattle.std.proofs.lemmas.Bool.Decides.{eqb_tells, leb_tells}
-use Rattle.std.proofs.lemmas.List.{get_or_default, get_or-set_same, get_or-set_other, get_or-take, take_more_set}
+use Rattle.std.proofs.lemmas.List.{get_or_default, take_more_set}
 use Rattle.std.proofs.lemmas.List.Folds.{list_any-append, list_any_more}
 use Rattle.std.proofs.lemmas.List.Sums.{count_by_more_yes, count_by_more_no, sum_by-cons, sum_by-take-drop}
 use Rattle.std.proofs.lemmas.Map.Views.{Contains-from_any}

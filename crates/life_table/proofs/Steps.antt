@@ -1,6 +1,5 @@
 -- Inputs that are these states.
-use Rattle.std.proofs.Common.{◌≡◌, ℕ, ◌+◌, ◌<◌, List, [], ◌∷◌, ◌++◌, take, length, refl, ap, sym, ◌∙◌}
-use Rattle.std.specs.Prelude.{slice_index}
+use Rattle.std.proofs.Common.{◌≡◌, ℕ, ◌+◌, ◌<◌, List, [], ◌∷◌, ◌++◌, take, length, refl, ap, sym, ◌∙◌, slice_index}
 use Rattle.std.proofs.lemmas.List.{take_more, take-map}
 use Rattle.life_table.specs.Found.{Adds, Consistent}
 use Rattle.life_table.specs.Meaning.{state_of, GivesAs}

@@ -1,7 +1,6 @@
 -- One more text of the table: what it changes of what is said.
-use Rattle.std.proofs.Common.{◌≡◌, ℕ, ◌+◌, ◌<◌, List, [], ◌∷◌, ◌++◌, map, length, Bool, true, false, not, refl, ap, sym, ◌∙◌, ◌&&◌, arith, cond, eqb, length-append}
-use Rattle.std.proofs.lemmas.Bool.{ltb-true, lt-ltb, and_right}
-use Rattle.std.specs.Prelude.{Option, Some, None, if◌then◌else◌, option_map, option_and_then, option_to_list, All, nat_lt, bytes_eq}
+use Rattle.std.proofs.Common.{◌≡◌, ℕ, ◌+◌, ◌<◌, List, [], ◌∷◌, ◌++◌, map, length, Bool, true, false, not, refl, ap, sym, ◌∙◌, ◌&&◌, arith, cond, eqb, length-append, ltb-true, lt-ltb, Option, Some, None, if◌then◌else◌, option_map, option_and_then, option_to_list, All, nat_lt, bytes_eq}
+use Rattle.std.proofs.lemmas.Bool.{and_right}
 use Rattle.std.specs.List.{fold, position_or_len, position, cons_option}
 use Rattle.std.proofs.lemmas.List.Folds.{position_or_len_push}
 use Rattle.std.proofs.lemmas.List.Sums.{fold-append}

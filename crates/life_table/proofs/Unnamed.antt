@@ -1,6 +1,5 @@
 -- A variable that a line writes has a name that no variable before it has.
-use Rattle.std.proofs.Common.{◌≡◌, ℕ, List, sym, subst, ◌∙◌, inl, inr}
-use Rattle.std.specs.Prelude.{None, Result, Ok}
+use Rattle.std.proofs.Common.{◌≡◌, ℕ, List, sym, subst, ◌∙◌, inl, inr, None, Result, Ok}
 use Rattle.life_base.specs.Refusal.{Answers}
 use Rattle.life_base.specs.declared.kind.Kind.{Kind}
 use Rattle.life_table.specs.Reading.{parse_line, variable_named, content}

@@ -1,9 +1,8 @@
 -- The values that lines write are parts of a rule table.
-use Rattle.std.proofs.Common.{◌≡◌, ℕ, zero, suc, ◌+◌, ◌/◌, ◌%◌, ◌^◌, ◌<◌, ◌≤◌, List, [], ◌∷◌, map, take, length, Bool, true, false, refl, ap, sym, ◌∙◌, subst, ◌&&◌, ◌⊎◌, inl, inr, arith, cond, get_or, max, length-take, eqb-true, eq-eqb}
-use Rattle.std.specs.Prelude.{Option, Some, None, if◌then◌else◌, is_some, option_map, option_and_then, All, IsTrue, nat_lt, ◌==◌, slice_get, slice_index, bit_or, bytes_eq}
+use Rattle.std.proofs.Common.{◌≡◌, ℕ, zero, suc, ◌+◌, ◌/◌, ◌%◌, ◌^◌, ◌<◌, ◌≤◌, List, [], ◌∷◌, map, take, length, Bool, true, false, refl, ap, sym, ◌∙◌, subst, ◌&&◌, ◌⊎◌, inl, inr, arith, cond, get_or, max, length-take, eqb-true, eq-eqb, Option, Some, None, if◌then◌else◌, is_some, option_map, option_and_then, All, IsTrue, nat_lt, ◌==◌, slice_get, slice_index, bit_or, bytes_eq, ltb-true}
 use Rattle.std.specs.Int.{bit_at}
 use Rattle.std.specs.List.{fold, list_any, position, slice_split, position_or_len, onto_first}
-use Rattle.std.proofs.lemmas.Bool.{ltb-true, and_parts, cases_Bool}
+use Rattle.std.proofs.lemmas.Bool.{and_parts, cases_Bool}
 use Rattle.std.proofs.lemmas.Bool.Decides.{eqb_tells}
 use Rattle.std.proofs.lemmas.List.Elements.{All-nil, All-cons, All-head, All-tail, All-take}
 use Rattle.std.proofs.lemmas.Option.{get_or_from_slice_get, cond_some}

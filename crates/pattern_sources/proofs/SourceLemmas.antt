@@ -19,8 +19,7 @@ use Rattle.life_canon.specs.Store.{IsRead}
 use Rattle.life_canon.specs.declared.pattern.Pattern.{Pattern}
 use Rattle.command_line.specs.declared.plans.Form.{Form}
 use Rattle.pattern_sources.specs.Faults.{status_of}
-use Rattle.pattern_sources.specs.Sources.{by_length, by_source, HasNoText, by_input, by_file, by_want, RefusesInForm}
-use Rattle.pattern_sources.specs.Sources.{AreOfInput, HoldsNoneBut, HoldsOneFile, IsTooSmallFor, HasText, ComesOf}
+use Rattle.pattern_sources.specs.Sources.{by_length, by_source, HasNoText, by_input, by_file, by_want, RefusesInForm, AreOfInput, HoldsNoneBut, HoldsOneFile, IsTooSmallFor, HasText, ComesOf}
 
 -- which squares a call leaves in the store that reads an input into it
 pub squares_of_input : (old new : Nodes) (input : Option (List ℕ)) → AddsForRead input old new → AllPairs ◌≢◌ (held new)

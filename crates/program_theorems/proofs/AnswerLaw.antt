@@ -1,6 +1,5 @@
 -- What a task writes is what the bytes of its files ask for in the words of the claims.
-use Rattle.std.proofs.Common.{◌≡◌, ℕ, ◌^◌, List, [], ◌++◌, refl, sym, subst, ◌⊎◌, inl, inr, ◌↔◌}
-use Rattle.std.specs.Prelude.{codes, Option, Some, None, Ok, IsSome, IfSome, IsSomeAnd, option_and_then}
+use Rattle.std.proofs.Common.{◌≡◌, ℕ, ◌^◌, List, [], ◌++◌, refl, sym, subst, ◌⊎◌, inl, inr, ◌↔◌, codes, Option, Some, None, Ok, IsSome, IfSome, IsSomeAnd, option_and_then}
 use Rattle.std.specs.Io.KnownBytes.{Appends}
 use Rattle.life_base.specs.DeviceRuns.{SourceRun}
 use Rattle.life_base.specs.Inputs.{ReadAll}
@@ -9,8 +8,7 @@ use Rattle.life_mc.specs.Reading.{IsMacrocell}
 use Rattle.life_canon.specs.Files.{Accepted}
 use Rattle.life_canon.specs.Least.{IsLeastText}
 use Rattle.life_canon.specs.Listing.{canon_text, canonical_file}
-use Rattle.life_canon.specs.Texts.{IsCanonical}
-use Rattle.life_canon.specs.Texts.{IsShown as LayerShown}
+use Rattle.life_canon.specs.Texts.{IsCanonical, IsShown as LayerShown}
 use Rattle.pattern_sources.specs.Forms.{IsTextIn as LayerTextIn}
 use Rattle.life_cli.specs.Jobs.{Compares, Writes, HasAnswer}
 use Rattle.command_line.specs.Plans.{HasSecond as LayerSecond}

@@ -1,6 +1,5 @@
 -- What files say in a form is what they say in the layer below.
-use Rattle.std.proofs.Common.{◌≡◌, ◌↔◌, ℕ, List, Bool, true, false, refl, ap, ap₂, ◌∙◌, sym, subst, arith}
-use Rattle.std.specs.Prelude.{ℤ, pos, negsuc, ◌+ℤ◌, if◌then◌else◌}
+use Rattle.std.proofs.Common.{◌≡◌, ◌↔◌, ℕ, List, Bool, true, false, refl, ap, ap₂, ◌∙◌, sym, subst, arith, ℤ, pos, negsuc, ◌+ℤ◌, if◌then◌else◌}
 use Rattle.life_base.specs.Rules.{IsRule}
 use Rattle.life_canon.specs.Files.{Reads, as_macrocell}
 use Rattle.life_canon.specs.Laws.{FilesAreOnPlane}

@@ -1,12 +1,10 @@
 -- The texts of a pattern in a form are those of the layers.
-use Rattle.std.proofs.Common.{◌≡◌, ℕ, ◌^◌, List, Bool, refl, ap, ◌∙◌, sym, subst, arith, ◌⊎◌, inl, inr}
-use Rattle.std.specs.Prelude.{ℤ, pos, ◌<ℤ◌, ◌+ℤ◌}
+use Rattle.std.proofs.Common.{◌≡◌, ℕ, ◌^◌, List, Bool, refl, ap, ◌∙◌, sym, subst, arith, ◌⊎◌, inl, inr, ℤ, pos, ◌<ℤ◌, ◌+ℤ◌}
 use Rattle.life_base.specs.declared.bounds.Bounds.{Bounds}
 use Rattle.life_canon.specs.Listing.{canon_text}
 use Rattle.life_canon.specs.Texts.{IsLeastBox as LayerLeastBox}
 use Rattle.life_canon.specs.Universe.{Universe, IsOnPlane, corner}
-use Rattle.life_forms.specs.Forms.{IsMoved}
-use Rattle.life_forms.specs.Forms.{IsInPlace as LayerInPlace, at_zero, at_edge}
+use Rattle.life_forms.specs.Forms.{IsMoved, IsInPlace as LayerInPlace, at_zero, at_edge}
 use Rattle.life_forms.specs.Images.{IsTurnedText as LayerTurnedText}
 use Rattle.life_forms.specs.Turns.{turn_of}
 use Rattle.life_forms.specs.Turns as layer

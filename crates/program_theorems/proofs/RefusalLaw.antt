@@ -1,6 +1,5 @@
 -- Why a task is refused, in the words of the claims.
-use Rattle.std.proofs.Common.{◌≡◌, ℕ, ◌^◌, List, [], ◌++◌, take, Bool, true, false, refl, ap, ◌∙◌, sym, subst, ◌⊎◌, inl, inr}
-use Rattle.std.specs.Prelude.{codes, Option, Some, None, Ok, Err, IsOk, IfSome, IsSomeAnd}
+use Rattle.std.proofs.Common.{◌≡◌, ℕ, ◌^◌, List, [], ◌++◌, take, Bool, true, false, refl, ap, ◌∙◌, sym, subst, ◌⊎◌, inl, inr, codes, Option, Some, None, Ok, Err, IsOk, IfSome, IsSomeAnd}
 use Rattle.std.specs.Option.{option_map_or}
 use Rattle.life_base.specs.DeviceRuns.{SourceRun, SinkRun}
 use Rattle.life_base.specs.Inputs.{ReadAll, CameBeyond}
@@ -17,8 +16,7 @@ use Rattle.life_table.specs.declared.table.Table.{Table as LayerTable}
 use Rattle.life_canon.specs.Files.{Accepted, Refuses as LayerRefuses, is_file_kind}
 use Rattle.life_canon.specs.Running.{RunRefuses, ReadRefuses}
 use Rattle.life_canon.specs.Running as running
-use Rattle.life_canon.specs.Texts.{IsCanonical, IsRleOf}
-use Rattle.life_canon.specs.Texts.{IsShown as LayerShown}
+use Rattle.life_canon.specs.Texts.{IsCanonical, IsRleOf, IsShown as LayerShown}
 use Rattle.life_step.specs.Stepped.{IsStepped as LayerStepped}
 use Rattle.pattern_sources.specs.Faults.{is_of_table, place_text, Tells, fault_line as layer_line, status_of as layer_status}
 use Rattle.life_cli.specs.Jobs as layer

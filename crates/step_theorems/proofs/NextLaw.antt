@@ -1,7 +1,6 @@
 -- The next state of a cell under a B/S rule is that of the layer below.
-use Rattle.std.proofs.Common.{◌≡◌, ℕ, ◌<◌, ◌≤◌, List, [], length, Bool, true, false, cond, ◌&&◌, ◌||◌, refl, ap, ◌∙◌, arith}
+use Rattle.std.proofs.Common.{◌≡◌, ℕ, ◌<◌, ◌≤◌, List, [], length, Bool, true, false, cond, ◌&&◌, ◌||◌, refl, ap, ◌∙◌, arith, filter, ◌==◌, nat_eq, count_by, ℤ}
 use Rattle.std.proofs.lemmas.List.Sums.{count_by-le-length}
-use Rattle.std.specs.Prelude.{filter, ◌==◌, nat_eq, count_by, ℤ}
 use Rattle.std.specs.List.{list_any}
 use Rattle.std.proofs.lemmas.Bool.{agree_below, agree_below_at}
 use Rattle.std.proofs.lemmas.Bool.Decides.{nat_tests}
@@ -12,8 +11,7 @@ use Rattle.life_base.specs.Sets.{OuterTotalistic}
 use Rattle.life_base.specs.declared.rule.Near.{Near}
 use Rattle.life_base.specs.declared.rule.Near.TheVariants.{Moore, VonNeumann}
 use Rattle.life_table.specs.Meaning.{count_of}
-use Rattle.life_sweep.specs.Generation.{next_by_count, neighbours_at, neighborhood_of}
-use Rattle.life_sweep.specs.Generation.{next_life as layer_next, eight_around as layer_eight, four_around as layer_four}
+use Rattle.life_sweep.specs.Generation.{next_by_count, neighbours_at, neighborhood_of, next_life as layer_next, eight_around as layer_eight, four_around as layer_four}
 use Rattle.claims.specs.Generation.{next_life}
 
 -- a count is in a set exactly if it is in the list of the set

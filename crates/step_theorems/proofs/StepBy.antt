@@ -1,6 +1,5 @@
 -- A step by a table in the words of the claims is one in the layer below.
-use Rattle.std.proofs.Common.{◌≡◌, ◌≢◌, ℕ, ◌+◌, ◌-◌, ◌^◌, ◌<◌, ◌≤◌, List, length, Bool, true, false, cond, refl, ap, ◌∙◌, sym, subst, arith, ◌⊎◌, inl, inr, ◌↔◌}
-use Rattle.std.specs.Prelude.{Option, Some, None, Ok, Err, ℤ, bytes_eq, ◌==◌}
+use Rattle.std.proofs.Common.{◌≡◌, ◌≢◌, ℕ, ◌+◌, ◌-◌, ◌^◌, ◌<◌, ◌≤◌, List, length, Bool, true, false, cond, refl, ap, ◌∙◌, sym, subst, arith, ◌⊎◌, inl, inr, ◌↔◌, Option, Some, None, Ok, Err, ℤ, bytes_eq, ◌==◌}
 use Rattle.std.specs.Option.{unwrap_or}
 use Rattle.std.proofs.lemmas.Slice.Eq.{bytes_eq-Decides}
 use Rattle.std.proofs.lemmas.Bool.Decides.{leb_tells}
@@ -27,14 +26,12 @@ use Rattle.life_canon.specs.Listing.{canon_text}
 use Rattle.life_canon.specs.Texts.{IsCanonical}
 use Rattle.life_canon.specs.Universe.{Universe}
 use Rattle.life_step.specs.Stepped.{IsSteppedBy as LayerSteppedBy}
-use Rattle.life_step.specs.Refusals.{TableRefusal}
-use Rattle.life_step.specs.Refusals.{HasMoreCells as LayerMoreCells, LeavesPlane as LayerLeaves, SomeAmbiguous, IsFirstAmbiguous as LayerFirst}
+use Rattle.life_step.specs.Refusals.{TableRefusal, HasMoreCells as LayerMoreCells, LeavesPlane as LayerLeaves, SomeAmbiguous, IsFirstAmbiguous as LayerFirst}
 use Rattle.claims.specs.ByTable.{IsSteppedBy, HasStateBeyond, IsFirstAmbiguous, LeavesPlaneBy, IsFirstReasonBy, rule_differs, last_generation, many_cells, state_beyond, two_states, leaves_plane, IsUnsteppedBy}
 use Rattle.claims.specs.Generation.{four_around, eight_around, HasMoreCells, decided_at}
 use Rattle.claims.specs.Rules.{named}
 use Rattle.claims.specs.Table.{Table, becomes, decided, table_of}
-use Rattle.claims.specs.Files.{pattern_of}
-use Rattle.claims.specs.Files.{IsWant as IsUnmet}
+use Rattle.claims.specs.Files.{pattern_of, IsWant as IsUnmet}
 use Rattle.claims.proofs.RuleLaw.{rule_in}
 use Rattle.theorems.proofs.FileLaw.{Agrees, files_agree}
 use Rattle.theorems.proofs.RefusalLaw.{refuses_agree, want_as}

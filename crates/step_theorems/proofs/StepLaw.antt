@@ -1,6 +1,5 @@
 -- A step in the words of the claims is one in the layer below.
-use Rattle.std.proofs.Common.{◌≡◌, ℕ, ◌+◌, List, refl, ap, ◌∙◌, sym, subst, ◌⊎◌, inl, inr}
-use Rattle.std.specs.Prelude.{filter, Some, None, Err, ℤ}
+use Rattle.std.proofs.Common.{◌≡◌, ℕ, ◌+◌, List, refl, ap, ◌∙◌, sym, subst, ◌⊎◌, inl, inr, filter, Some, None, Err, ℤ}
 use Rattle.life_base.specs.declared.cell.Cell.{Cell}
 use Rattle.life_base.specs.Text.{lines_of}
 use Rattle.life_base.specs.declared.fault.Fault.{Fault}
@@ -19,8 +18,7 @@ use Rattle.life_canon.specs.Laws.{FilesAreOnPlane, FilesAreUnique}
 use Rattle.life_canon.specs.Texts.{AreCellsOf, IsCanonical}
 use Rattle.life_step.specs.Stepped.{IsStepped as LayerStepped}
 use Rattle.life_step.specs.Refusals.{RuleRefusal, LifeRefusal}
-use Rattle.claims.specs.Files.{pattern_of, fault_of}
-use Rattle.claims.specs.Files.{IsWant as IsUnmet}
+use Rattle.claims.specs.Files.{pattern_of, fault_of, IsWant as IsUnmet}
 use Rattle.claims.specs.Generation.{next_life, AreCells, IsStepped, IsUnstepped, IsFirstReason, no_table, last_generation, many_cells, leaves_plane}
 use Rattle.claims.proofs.RuleLaw.{rule_in}
 use Rattle.theorems.proofs.FileLaw.{Agrees, files_agree}

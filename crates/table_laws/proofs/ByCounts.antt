@@ -1,6 +1,5 @@
 -- Under `permute` a line gives what it gives by counts.
-use Rattle.std.proofs.Common.{◌≡◌, ℕ, zero, suc, ◌<◌, List, [], ◌∷◌, length, map, take, drop, true, ◌||◌, refl, ap, ◌∙◌, sym, subst, inl, inr, ◌↔◌, eq-eqb}
-use Rattle.std.specs.Prelude.{Option, Contains, count_by, codes, ◌==◌}
+use Rattle.std.proofs.Common.{◌≡◌, ℕ, zero, suc, ◌<◌, List, [], ◌∷◌, length, map, take, drop, true, ◌||◌, refl, ap, ◌∙◌, sym, subst, inl, inr, ◌↔◌, eq-eqb, Option, Contains, count_by, codes, ◌==◌}
 use Rattle.std.specs.List.{list_any}
 use Rattle.std.specs.Option.{unwrap_or}
 use Rattle.std.proofs.lemmas.Bool.Decides.{eqb_tells}
@@ -10,8 +9,7 @@ use Rattle.std.proofs.lemmas.Option.{same_Some}
 use Rattle.life_table.proofs.LawProofs.{permute_law}
 use Rattle.life_base.proofs.Members.{in_head, in_tail, in_cases, in_none, from_map}
 use Rattle.life_table.specs.Grammar.{symmetry_word}
-use Rattle.life_table.specs.Meaning.{Gives, count_of}
-use Rattle.life_table.specs.Meaning.{GivesByCounts as LayerByCounts, state_of as layer_state_of}
+use Rattle.life_table.specs.Meaning.{Gives, count_of, GivesByCounts as LayerByCounts, state_of as layer_state_of}
 use Rattle.life_table.specs.Reading.{symmetry_named}
 use Rattle.life_table.specs.Valid.{neighbour_count, IsTransition}
 use Rattle.life_table.specs.declared.table.Symmetry.{Symmetry}

@@ -1,6 +1,5 @@
 -- What a table decides is what the layer says that it decides.
-use Rattle.std.proofs.Common.{◌≡◌, ◌≢◌, ℕ, zero, suc, ◌+◌, List, [], ◌∷◌, length, map, true, false, cond, refl, ap, ◌∙◌, sym, subst, arith, inl, inr, ◌↔◌, ◌&&◌, eq-eqb, eqb-true}
-use Rattle.std.specs.Prelude.{Option, Some, None, IfSome, All, Contains, filter_map, slice_get, ◌==◌}
+use Rattle.std.proofs.Common.{◌≡◌, ◌≢◌, ℕ, zero, suc, ◌+◌, List, [], ◌∷◌, length, map, true, false, cond, refl, ap, ◌∙◌, sym, subst, arith, inl, inr, ◌↔◌, ◌&&◌, eq-eqb, eqb-true, Option, Some, None, IfSome, All, Contains, filter_map, slice_get, ◌==◌}
 use Rattle.std.specs.List.{list_all, list_any, cons_option}
 use Rattle.std.specs.Option.{option_map_or, unwrap_or}
 use Rattle.std.proofs.lemmas.Bool.Decides.{eqb_tells}
@@ -9,8 +8,7 @@ use Rattle.std.proofs.lemmas.Bool.{or_left, cases_Bool}
 use Rattle.life_base.proofs.Basics.{right_of_and, left_of_and}
 use Rattle.life_table.proofs.LawProofs.{one_law}
 use Rattle.life_base.proofs.Members.{in_head, in_tail, in_cases, in_none}
-use Rattle.life_table.specs.Meaning.{has_state, HasState, IsChoice, Gives, GivesNothing, LineAnswers, Decides}
-use Rattle.life_table.specs.Meaning.{Answer as LayerAnswer, Becomes, Ambiguous}
+use Rattle.life_table.specs.Meaning.{has_state, HasState, IsChoice, Gives, GivesNothing, LineAnswers, Decides, Answer as LayerAnswer, Becomes, Ambiguous}
 use Rattle.life_table.specs.Orders.{images as layer_images}
 use Rattle.life_table.specs.Valid.{IsVariable, IsTransition, neighbour_count}
 use Rattle.life_table.specs.declared.table.Var.{Var}

@@ -1,6 +1,5 @@
 -- A line gives a state in the words of the format exactly if some choice of states for the variables gives it.
-use Rattle.std.proofs.Common.{◌≡◌, ℕ, zero, suc, ◌<◌, List, [], ◌∷◌, length, map, Bool, true, false, cond, ◌&&◌, ◌||◌, refl, ap, ◌∙◌, sym, subst, arith, inl, inr, eq-eqb, eqb, eqb-true}
-use Rattle.std.specs.Prelude.{Option, Some, None, IfSome, IsTrue, All, slice_get, ◌==◌, zip}
+use Rattle.std.proofs.Common.{◌≡◌, ℕ, zero, suc, ◌<◌, List, [], ◌∷◌, length, map, Bool, true, false, cond, ◌&&◌, ◌||◌, refl, ap, ◌∙◌, sym, subst, arith, inl, inr, eq-eqb, eqb, eqb-true, Option, Some, None, IfSome, IsTrue, All, slice_get, ◌==◌, zip}
 use Rattle.std.specs.List.{list_all, list_any}
 use Rattle.std.specs.Option.{option_map_or}
 use Rattle.std.proofs.lemmas.Bool.Decides.{eqb_tells}

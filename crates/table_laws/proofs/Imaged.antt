@@ -1,6 +1,5 @@
 -- The orders that a symmetry lists are those of the layer, where its word is listed for so many neighbours, and each is as long.
-use Rattle.std.proofs.Common.{◌≡◌, ℕ, zero, suc, List, [], ◌∷◌, ◌++◌, length, map, Bool, true, refl, ap, ◌∙◌, sym, subst, arith, eqb-true, eq-eqb}
-use Rattle.std.specs.Prelude.{IsTrue, Contains, flat_map, slice_index, slice_index_or, ◌<◌, ◌==◌}
+use Rattle.std.proofs.Common.{◌≡◌, ℕ, zero, suc, List, [], ◌∷◌, ◌++◌, length, map, Bool, true, refl, ap, ◌∙◌, sym, subst, arith, eqb-true, eq-eqb, IsTrue, Contains, flat_map, slice_index, slice_index_or, ◌<◌, ◌==◌}
 use Rattle.std.specs.List.{list_all}
 use Rattle.std.proofs.lemmas.Bool.Decides.{nat_tests}
 use Rattle.std.proofs.lemmas.Bool.{and_from}

@@ -1,6 +1,5 @@
 -- What lines say in the layer, as types and values: the layer gives them no name outside.
-use Rattle.std.proofs.Common.{[]}
-use Rattle.std.specs.Prelude.{Some, None, Result, Ok, Err, codes}
+use Rattle.std.proofs.Common.{[], Some, None, Result, Ok, Err, codes}
 use Rattle.life_table.specs.Reader.{after, nothing_parsed}
 use Rattle.life_table.specs.Reading.{parse_ahead, parse_in_table, if_states, if_neighborhood, if_symmetry}
 use Rattle.life_table.specs.declared.table.Neighborhood.TheVariants.{Moore}

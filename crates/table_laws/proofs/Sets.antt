@@ -1,6 +1,5 @@
 -- Sets of states as four words: the union of those of some entries has the states that the entries have.
-use Rattle.std.proofs.Common.{◌≡◌, ◌≢◌, ℕ, zero, suc, ◌/◌, ◌%◌, ◌^◌, ◌<◌, ◌≤◌, max, List, [], ◌∷◌, map, Bool, false, cond, ◌||◌, refl, ap, ◌∙◌, sym, subst, arith, inl, inr, eq-eqb, get_or}
-use Rattle.std.specs.Prelude.{Option, Some, None, All, slice_get, slice_index, bit_or, flat_map, option_map, ◌==◌}
+use Rattle.std.proofs.Common.{◌≡◌, ◌≢◌, ℕ, zero, suc, ◌/◌, ◌%◌, ◌^◌, ◌<◌, ◌≤◌, max, List, [], ◌∷◌, map, Bool, false, cond, ◌||◌, refl, ap, ◌∙◌, sym, subst, arith, inl, inr, eq-eqb, get_or, Option, Some, None, All, slice_get, slice_index, bit_or, flat_map, option_map, ◌==◌}
 use Rattle.std.specs.Int.{bit_at}
 use Rattle.std.specs.List.{fold, list_any}
 use Rattle.std.specs.Option.{option_map_or, unwrap_or}

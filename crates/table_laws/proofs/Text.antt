@@ -1,6 +1,5 @@
 -- What a text of the table says is what it says in the layer.
-use Rattle.std.proofs.Common.{◌≡◌, ℕ, List, map, Bool, true, false, cond, not, ◌&&◌, ◌||◌, refl, ap, ◌∙◌, sym, subst, arith, ◌⊎◌, inl, inr}
-use Rattle.std.specs.Prelude.{Option, Some, None, Result, Ok, Err, is_some, bytes_eq, codes, nat_lt, nat_le, option_map}
+use Rattle.std.proofs.Common.{◌≡◌, ℕ, List, map, Bool, true, false, cond, not, ◌&&◌, ◌||◌, refl, ap, ◌∙◌, sym, subst, arith, ◌⊎◌, inl, inr, Option, Some, None, Result, Ok, Err, is_some, bytes_eq, codes, nat_lt, nat_le, option_map}
 use Rattle.std.specs.List.{list_any}
 use Rattle.std.proofs.lemmas.Bool.Decides.{nat_tests}
 use Rattle.std.proofs.lemmas.Bool.{cases_Bool}
@@ -10,8 +9,7 @@ use Rattle.life_base.specs.declared.kind.Kind.{Kind}
 use Rattle.life_base.specs.declared.kind.Kind.TheVariants as kinds
 use Rattle.life_table.specs.Grammar.{symmetry_word}
 use Rattle.life_table.specs.Reader.{after}
-use Rattle.life_table.specs.Reading.{if_states, if_neighborhood, if_symmetry, states_named, neighborhood_named, symmetry_named, parse_descriptor, key_of, setting_of, is_states_key, is_neighborhood_key, is_symmetry_key}
-use Rattle.life_table.specs.Reading.{agree as layer_agree}
+use Rattle.life_table.specs.Reading.{if_states, if_neighborhood, if_symmetry, states_named, neighborhood_named, symmetry_named, parse_descriptor, key_of, setting_of, is_states_key, is_neighborhood_key, is_symmetry_key, agree as layer_agree}
 use Rattle.life_table.specs.Valid.{is_listed, neighbour_count}
 use Rattle.life_table.specs.declared.table.Neighborhood.{Neighborhood}
 use Rattle.life_table.specs.declared.table.Neighborhood.TheVariants.{VonNeumann, Moore}

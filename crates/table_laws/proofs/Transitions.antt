@@ -1,6 +1,5 @@
 -- A transition is that of the layer.
-use Rattle.std.proofs.Common.{◌≡◌, ℕ, zero, suc, ◌+◌, ◌-◌, ◌^◌, min, List, [], ◌∷◌, ◌++◌, map, length, take, Bool, true, false, cond, not, ◌&&◌, ◌||◌, refl, ap, ◌∙◌, sym, arith, inl, inr, length-append, length-take, eqb-true, eq-eqb}
-use Rattle.std.specs.Prelude.{Option, Some, None, Result, Err, slice_get, slice_index_or, option_map, option_and_then, ◌==◌}
+use Rattle.std.proofs.Common.{◌≡◌, ℕ, zero, suc, ◌+◌, ◌-◌, ◌^◌, min, List, [], ◌∷◌, ◌++◌, map, length, take, Bool, true, false, cond, not, ◌&&◌, ◌||◌, refl, ap, ◌∙◌, sym, arith, inl, inr, length-append, length-take, eqb-true, eq-eqb, Option, Some, None, Result, Err, slice_get, slice_index_or, option_map, option_and_then, ◌==◌}
 use Rattle.std.specs.List.{list_any, list_all}
 use Rattle.std.specs.Option.{option_map_or, unwrap_or}
 use Rattle.std.proofs.lemmas.List.{map-append}
@@ -11,10 +10,8 @@ use Rattle.life_base.specs.declared.kind.Kind.{Kind}
 use Rattle.life_base.specs.declared.kind.Kind.TheVariants as kinds
 use Rattle.life_table.specs.Meaning.{has_state}
 use Rattle.life_table.specs.Reader.{IsGood}
-use Rattle.life_table.specs.Reading.{all_some, if_transition, transition_words, transition_from, transition_of}
-use Rattle.life_table.specs.Reading.{entry_of as layer_entry_of, entries_of as layer_entries_of, is_bound as layer_is_bound}
-use Rattle.life_table.specs.Valid.{neighbour_count, is_quiet, is_quiet_output, allows_zero}
-use Rattle.life_table.specs.Valid.{fits_zero as layer_fits_zero}
+use Rattle.life_table.specs.Reading.{all_some, if_transition, transition_words, transition_from, transition_of, entry_of as layer_entry_of, entries_of as layer_entries_of, is_bound as layer_is_bound}
+use Rattle.life_table.specs.Valid.{neighbour_count, is_quiet, is_quiet_output, allows_zero, fits_zero as layer_fits_zero}
 use Rattle.life_table.specs.declared.table.Neighborhood.{Neighborhood}
 use Rattle.life_table.specs.declared.table.Var.{Var}
 use Rattle.life_table.specs.declared.table.Entry.{Entry as LayerEntry}

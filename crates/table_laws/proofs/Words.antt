@@ -1,13 +1,11 @@
 -- The words of a line are the entries that they are in the layer.
-use Rattle.std.proofs.Common.{◌≡◌, ℕ, suc, ◌+◌, List, [], ◌∷◌, map, length, Bool, true, false, cond, not, ◌&&◌, ◌||◌, refl, ap, ◌∙◌, sym, arith}
-use Rattle.std.specs.Prelude.{Option, Some, None, is_some, bytes_eq, nat_lt, option_map}
+use Rattle.std.proofs.Common.{◌≡◌, ℕ, suc, ◌+◌, List, [], ◌∷◌, map, length, Bool, true, false, cond, not, ◌&&◌, ◌||◌, refl, ap, ◌∙◌, sym, arith, Option, Some, None, is_some, bytes_eq, nat_lt, option_map}
 use Rattle.std.specs.List.{list_any, position, position_or_len}
 use Rattle.std.specs.Option.{unwrap_or}
 use Rattle.std.proofs.lemmas.Bool.Decides.{nat_tests}
 use Rattle.std.proofs.lemmas.List.{length-map}
 use Rattle.life_base.specs.Text.{is_digit_text, value_of}
-use Rattle.life_table.specs.Reading.{all_some, variable_named}
-use Rattle.life_table.specs.Reading.{entry_of as layer_entry_of}
+use Rattle.life_table.specs.Reading.{all_some, variable_named, entry_of as layer_entry_of}
 use Rattle.life_table.specs.declared.table.Var.{Var}
 use Rattle.life_table.specs.declared.table.Entry.{Entry as LayerEntry}
 use Rattle.life_table.specs.declared.table.Entry.TheVariants as entries

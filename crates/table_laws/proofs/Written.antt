@@ -1,6 +1,5 @@
 -- A variable and a transition are those of the layer.
-use Rattle.std.proofs.Common.{◌≡◌, ℕ, zero, suc, ◌≤◌, List, [], ◌∷◌, ◌++◌, map, length, drop, Bool, true, false, cond, not, ◌&&◌, ◌||◌, refl, ap, ◌∙◌, sym, subst, arith}
-use Rattle.std.specs.Prelude.{Option, Some, None, Ok, Err, All, is_some, slice_get, bytes_eq, codes, option_map, option_and_then, flat_map, ◌==◌}
+use Rattle.std.proofs.Common.{◌≡◌, ℕ, zero, suc, ◌≤◌, List, [], ◌∷◌, ◌++◌, map, length, drop, Bool, true, false, cond, not, ◌&&◌, ◌||◌, refl, ap, ◌∙◌, sym, subst, arith, Option, Some, None, Ok, Err, All, is_some, slice_get, bytes_eq, codes, option_map, option_and_then, flat_map, ◌==◌}
 use Rattle.std.specs.List.{list_any, list_all}
 use Rattle.std.specs.Char.{is_ascii_digit, is_ascii_graphic}
 use Rattle.std.specs.Option.{option_map_or}
@@ -11,8 +10,7 @@ use Rattle.std.proofs.Math.Bool.{or-false}
 use Rattle.life_base.specs.declared.kind.Kind.TheVariants as kinds
 use Rattle.life_table.specs.Meaning.{has_state}
 use Rattle.life_table.specs.Reader.{IsGood}
-use Rattle.life_table.specs.Reading.{all_some, if_variable, is_variable_name, is_name_byte, is_list, within_braces, name_text, list_text, states_listed, variable_named, variable_states, variable_of, states_of_entry, union_of, between_commas}
-use Rattle.life_table.specs.Reading.{entry_of as layer_entry_of}
+use Rattle.life_table.specs.Reading.{all_some, if_variable, is_variable_name, is_name_byte, is_list, within_braces, name_text, list_text, states_listed, variable_named, variable_states, variable_of, states_of_entry, union_of, between_commas, entry_of as layer_entry_of}
 use Rattle.life_table.specs.Valid.{IsEntry, IsVariable}
 use Rattle.life_table.specs.declared.table.Var.{Var}
 use Rattle.life_table.specs.declared.table.Entry.{Entry as LayerEntry}

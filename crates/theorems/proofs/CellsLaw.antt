@@ -1,12 +1,10 @@
 -- How many cells of a file aren't 0 is what it is in the layer below.
-use Rattle.std.proofs.Common.{◌≡◌, ℕ, ◌^◌, List, sym, subst, arith, ◌⊎◌, inl, inr}
-use Rattle.std.specs.Prelude.{ℤ, Err}
+use Rattle.std.proofs.Common.{◌≡◌, ℕ, ◌^◌, List, sym, subst, arith, ◌⊎◌, inl, inr, ℤ, Err}
 use Rattle.life_base.specs.declared.cell.Cell.{Cell}
 use Rattle.life_base.specs.declared.fault.Fault.{Fault}
 use Rattle.life_base.specs.declared.kind.Kind.TheVariants.{TooManyCells}
 use Rattle.life_canon.specs.Store.{RefusesIn}
-use Rattle.life_canon.specs.Texts.{AreCellsOf, IsRleOf}
-use Rattle.life_canon.specs.Texts.{HasMoreCells as LayerMoreCells}
+use Rattle.life_canon.specs.Texts.{AreCellsOf, IsRleOf, HasMoreCells as LayerMoreCells}
 use Rattle.life_quad.specs.Store.{Nodes}
 use Rattle.claims.specs.Pattern.{Pattern}
 use Rattle.claims.specs.Files.{pattern_of, fault_of, IsWant}

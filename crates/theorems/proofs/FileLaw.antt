@@ -1,6 +1,5 @@
 -- What the bytes of a file say is what they say in the layer below; so the theorems of that layer speak of it.
-use Rattle.std.proofs.Common.{◌≡◌, ◌↔◌, ℕ, ◌^◌, ◌<◌, ◌≤◌, List, [], ◌∷◌, length, Bool, true, false, cond, refl, ap, ◌∙◌, sym, subst, arith, ◌⊎◌, inl, inr}
-use Rattle.std.specs.Prelude.{ℤ, codes, Some, None, Result, Ok, Err, IfOk, IsTrue}
+use Rattle.std.proofs.Common.{◌≡◌, ◌↔◌, ℕ, ◌^◌, ◌<◌, ◌≤◌, List, [], ◌∷◌, length, Bool, true, false, cond, refl, ap, ◌∙◌, sym, subst, arith, ◌⊎◌, inl, inr, ℤ, codes, Some, None, Result, Ok, Err, IfOk, IsTrue}
 use Rattle.life_base.specs.Text.{lines_of, begins_with, is_too_long}
 use Rattle.life_base.specs.declared.kind.Kind.TheVariants as kinds
 use Rattle.life_mc.specs.Macrocell.{Macrocell}

@@ -1,7 +1,5 @@
 -- A canonical text has no leaf lines under a name.
-use Rattle.std.proofs.Common.{◌≡◌, ◌⊎◌, inl, inr, ℕ, zero, suc, ◌+◌, ◌≤◌, List, [], ◌∷◌, length, drop, map, count_by, Bool, true, false, cond}
-use Rattle.std.proofs.Common.{◌&&◌, ◌||◌, refl, ap, ◌∙◌, sym, arith}
-use Rattle.std.specs.Prelude.{Option, Some, None, slice_index, slice_get, filter_map}
+use Rattle.std.proofs.Common.{◌≡◌, ◌⊎◌, inl, inr, ℕ, zero, suc, ◌+◌, ◌≤◌, List, [], ◌∷◌, length, drop, map, count_by, Bool, true, false, cond, ◌&&◌, ◌||◌, refl, ap, ◌∙◌, sym, arith, Option, Some, None, slice_index, slice_get, filter_map}
 use Rattle.std.specs.List.{list_any, list_all, cons_option}
 use Rattle.std.proofs.lemmas.List.Sums.{sum_by-cons}
 use Rattle.life_base.specs.Text.{lines_of, trim, is_digit_text, value_of, words_of}

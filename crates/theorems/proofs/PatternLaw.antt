@@ -1,6 +1,5 @@
 -- Which patterns files say: those that fit, as in the layer below.
-use Rattle.std.proofs.Common.{◌≡◌, ℕ, ◌<◌, ◌≤◌, ◌^◌, List, refl, ap, ◌∙◌, sym, subst, inl, inr}
-use Rattle.std.specs.Prelude.{Result, Ok, Err}
+use Rattle.std.proofs.Common.{◌≡◌, ℕ, ◌<◌, ◌≤◌, ◌^◌, List, refl, ap, ◌∙◌, sym, subst, inl, inr, Result, Ok, Err}
 use Rattle.std.proofs.lemmas.Bool.{cases_Bool}
 use Rattle.life_base.proofs.ReadBack.{rules_read_back}
 use Rattle.life_base.proofs.RuleValues.{rule_values}

@@ -1,8 +1,6 @@
 -- The text of a pattern that was read is the canonical text of its file.
-use Rattle.std.proofs.Common.{◌≡◌, ℕ, zero, suc, ◌+◌, ◌<◌, ◌≤◌, List, [], ◌∷◌, ◌++◌, length, take, drop, get_or, refl, ap, ◌∙◌, sym, subst, arith, append_assoc, ◌^◌, ◌⊎◌, inl, inr}
+use Rattle.std.proofs.Common.{◌≡◌, ℕ, zero, suc, ◌+◌, ◌<◌, ◌≤◌, List, [], ◌∷◌, ◌++◌, length, take, drop, get_or, refl, ap, ◌∙◌, sym, subst, arith, append_assoc, ◌^◌, ◌⊎◌, inl, inr, Err, append-nil}
 use Rattle.std.specs.Global.{Vec}
-use Rattle.std.specs.Prelude.{Err}
-use Rattle.std.proofs.lemmas.List.{append-nil}
 use Rattle.life_base.specs.declared.fault.Fault.{Fault}
 use Rattle.life_base.specs.Rules.{IsRule}
 use Rattle.life_base.specs.declared.rule.Rule.{Rule as LayerRule}
@@ -15,8 +13,7 @@ use Rattle.life_canon.specs.Feeding.{RefusesFront}
 use Rattle.life_canon.specs.Store.{IsRead, IsWant, RefusesIn, universe_in}
 use Rattle.life_canon.specs.Texts.{IsCanonical}
 use Rattle.life_canon.specs.declared.pattern.Pattern.{Pattern}
-use Rattle.claims.specs.Files.{pattern_of}
-use Rattle.claims.specs.Files.{IsWant as IsUnmet}
+use Rattle.claims.specs.Files.{pattern_of, IsWant as IsUnmet}
 use Rattle.theorems.specs.Joined.{joined}
 use Rattle.theorems.proofs.RefusalLaw.{refuses_agree, refused_as, want_as}
 

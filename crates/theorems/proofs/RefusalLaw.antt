@@ -1,6 +1,5 @@
 -- A refused file has the fault that it has in the layer below.
-use Rattle.std.proofs.Common.{◌≡◌, ℕ, zero, suc, ◌+◌, ◌-◌, ◌^◌, ◌<◌, ◌≤◌, min, List, [], ◌∷◌, ◌++◌, length, take, drop, Bool, true, false, cond, refl, ap, ◌∙◌, sym, subst, arith, ◌⊎◌, inl, inr, append_assoc, length-take-le}
-use Rattle.std.specs.Prelude.{Some, None, Result, Ok, Err, slice_index_or, MatchBool, IfErr, IsOk, OnOk}
+use Rattle.std.proofs.Common.{◌≡◌, ℕ, zero, suc, ◌+◌, ◌-◌, ◌^◌, ◌<◌, ◌≤◌, min, List, [], ◌∷◌, ◌++◌, length, take, drop, Bool, true, false, cond, refl, ap, ◌∙◌, sym, subst, arith, ◌⊎◌, inl, inr, append_assoc, length-take-le, Some, None, Result, Ok, Err, slice_index_or, MatchBool, IfErr, IsOk, OnOk}
 use Rattle.std.proofs.lemmas.Bool.{cases_Bool}
 use Rattle.life_base.specs.Refusal.{Prefix, kept, continuations}
 use Rattle.life_base.specs.Text.{lines_of}
@@ -17,8 +16,7 @@ use Rattle.life_canon.specs.Files.{Says, as_macrocell, as_rle, Accepts, Accepted
 use Rattle.life_canon.specs.Store.{RefusesIn, IsWant}
 use Rattle.life_quad.specs.Store.{Nodes}
 use Rattle.claims.specs.Pattern.{Pattern}
-use Rattle.claims.specs.Files.{IsWant as IsUnmet}
-use Rattle.claims.specs.Files.{pattern_of, fault_at, read_lines, end_of_rle}
+use Rattle.claims.specs.Files.{IsWant as IsUnmet, pattern_of, fault_at, read_lines, end_of_rle}
 use Rattle.claims.specs.Rle.{with_line as with_rle_line}
 use Rattle.claims.proofs.McFile.{macrocell_refuses}
 use Rattle.claims.proofs.RleFile.{rle_refuses, rle_lacks, begun}

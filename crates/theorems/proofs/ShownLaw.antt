@@ -1,7 +1,5 @@
 -- The five lines of a file are those of the layer below.
-use Rattle.std.proofs.Common.{◌≡◌, ℕ, List, [], ◌++◌, length, cond, refl, ap, ◌∙◌, sym, subst}
-use Rattle.std.specs.Prelude.{◌==◌, codes, decimal, Option, Some, None, Ok, ℤ}
-use Rattle.std.proofs.lemmas.List.{append-nil}
+use Rattle.std.proofs.Common.{◌≡◌, ℕ, List, [], ◌++◌, length, cond, refl, ap, ◌∙◌, sym, subst, ◌==◌, codes, decimal, Option, Some, None, Ok, ℤ, append-nil}
 use Rattle.life_base.specs.Text.{lines_of}
 use Rattle.life_base.specs.Rules.{rule_text as layer_text, digits_of, with_letter, most_neighbours}
 use Rattle.life_base.specs.declared.bounds.Bounds.{Bounds}
@@ -14,8 +12,7 @@ use Rattle.life_mc.proofs.NodeLines.{node_lines_counted}
 use Rattle.life_canon.specs.Universe.{Universe}
 use Rattle.life_canon.specs.Listing.{canon_text, canonical_file}
 use Rattle.life_canon.specs.Laws.{FilesAreOnPlane, FilesAreUnique, TextsAreFiles}
-use Rattle.life_canon.specs.Texts.{IsCanonical, box_text}
-use Rattle.life_canon.specs.Texts.{IsShown as LayerShown, IsBoxOf}
+use Rattle.life_canon.specs.Texts.{IsCanonical, box_text, IsShown as LayerShown, IsBoxOf}
 use Rattle.claims.specs.Pattern.{Pattern}
 use Rattle.claims.specs.Files.{pattern_of}
 use Rattle.claims.specs.Counting.{node_lines}

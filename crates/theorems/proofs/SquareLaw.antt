@@ -1,20 +1,17 @@
 -- The squares of a canonical text are the trees of the layers, and its node lines are theirs.
-use Rattle.std.proofs.Common.{◌≡◌, ℕ, zero, suc, ◌+◌, ◌*◌, ◌≤◌, List, [], ◌∷◌, ◌++◌, map, Bool, true, false, cond, not, ◌&&◌, ◌||◌, refl, ap, ◌∙◌, sym, subst, arith, eqb-true, append_assoc, ℤ}
-use Rattle.std.specs.Prelude.{◌==◌, nat_lt, bytes_eq, codes, decimal, flat_map}
+use Rattle.std.proofs.Common.{◌≡◌, ℕ, zero, suc, ◌+◌, ◌*◌, ◌≤◌, List, [], ◌∷◌, ◌++◌, map, Bool, true, false, cond, not, ◌&&◌, ◌||◌, refl, ap, ◌∙◌, sym, subst, arith, eqb-true, append_assoc, ℤ, ◌==◌, nat_lt, bytes_eq, codes, decimal, flat_map, append-nil}
 use Rattle.std.specs.List.{list_any, position_or_len}
-use Rattle.std.proofs.lemmas.List.{append-nil, map-append}
+use Rattle.std.proofs.lemmas.List.{map-append}
 use Rattle.std.proofs.lemmas.Bool.Decides.{nat_tests}
 use Rattle.std.proofs.lemmas.Slice.Eq.{bytes_eq-Decides}
-use Rattle.life_base.specs.Tree.{Tree, quad, depth, is_blank_tree}
-use Rattle.life_base.specs.Tree.{point as tree_point}
+use Rattle.life_base.specs.Tree.{Tree, quad, depth, is_blank_tree, point as tree_point}
 use Rattle.life_base.specs.declared.rule.Rule.{Rule as LayerRule}
 use Rattle.life_base.specs.declared.rule.Rule.TheVariants.{Life, Named}
 use Rattle.life_mc.specs.Macrocell.{largest_state}
 use Rattle.life_mc.specs.Writing.{line_text, node_text, row_text, row_cells}
 use Rattle.life_mc.specs.declared.line.Line.TheVariants.{Leaf}
 use Rattle.life_canon.specs.Universe.{square}
-use Rattle.life_canon.specs.Listing.{same_tree, is_in, is_small, with_new, with_all, place, number_of, rows_of, quad_line, line_of}
-use Rattle.life_canon.specs.Listing.{walk as tree_walk}
+use Rattle.life_canon.specs.Listing.{same_tree, is_in, is_small, with_new, with_all, place, number_of, rows_of, quad_line, line_of, walk as tree_walk}
 use Rattle.claims.specs.Canonical.{Square, point, quarters, square_at, square_level, is_blank_square, same_square, walk, first_visits, child_number, state_rows, leaf_row, square_line}
 use Rattle.claims.proofs.Bits.{all_over, all_over_at, bit}
 use Rattle.claims.proofs.RuleLaw.{rule_in}

@@ -1,20 +1,17 @@
 -- The canonical text of a pattern is that of the layers.
-use Rattle.std.proofs.Common.{◌≡◌, ℕ, zero, suc, ◌+◌, ◌^◌, ◌<◌, ◌≤◌, List, [], ◌++◌, map, true, ◌&&◌, refl, ap, ◌∙◌, sym, subst, arith, ◌⊎◌, inl, inr}
-use Rattle.std.specs.Prelude.{ℤ, pos, neg_ℤ, ◌+ℤ◌, ◌≤ℤ◌, ◌<ℤ◌, int_le, int_lt, codes, flat_map}
+use Rattle.std.proofs.Common.{◌≡◌, ℕ, zero, suc, ◌+◌, ◌^◌, ◌<◌, ◌≤◌, List, [], ◌++◌, map, true, ◌&&◌, refl, ap, ◌∙◌, sym, subst, arith, ◌⊎◌, inl, inr, ℤ, pos, neg_ℤ, ◌+ℤ◌, ◌≤ℤ◌, ◌<ℤ◌, int_le, int_lt, codes, flat_map, true≢false}
 use Rattle.std.proofs.lemmas.Int.{ints}
-use Rattle.std.proofs.lemmas.Bool.{and_from, cases_Bool, true≢false}
+use Rattle.std.proofs.lemmas.Bool.{and_from, cases_Bool}
 use Rattle.life_base.specs.Tree.{Tree, depth}
 use Rattle.life_base.specs.declared.rule.Rule.{Rule as LayerRule}
 use Rattle.life_base.specs.declared.rule.Rule.TheVariants.{Life, Named}
 use Rattle.life_mc.specs.Macrocell.{largest_state}
 use Rattle.life_rle.specs.Written.{rle_text}
 use Rattle.life_mc.specs.Writing.{mc_text, node_text, generation_text}
-use Rattle.life_canon.specs.Universe.{Universe, IsOnPlane, IsWithin, IsBlankOutside, corner, centred, whole}
-use Rattle.life_canon.specs.Universe.{least_level as layer_least}
+use Rattle.life_canon.specs.Universe.{Universe, IsOnPlane, IsWithin, IsBlankOutside, corner, centred, whole, least_level as layer_least}
 use Rattle.life_canon.specs.Laws.{FilesAreOnPlane}
 use Rattle.life_canon.specs.Texts.{IsCanonical, IsRleOf}
-use Rattle.life_canon.specs.Listing.{walk as tree_walk}
-use Rattle.life_canon.specs.Listing.{canonical_file, canon_text, line_of, listed, square_file, with_all}
+use Rattle.life_canon.specs.Listing.{walk as tree_walk, canonical_file, canon_text, line_of, listed, square_file, with_all}
 use Rattle.life_canon.proofs.WholeSquares.{IsLeastSquare, least_square}
 use Rattle.claims.specs.Pattern.{Pattern}
 use Rattle.claims.specs.Canonical.{Square, square_at, middle_square, is_in_middle, HoldsAllCells, least_level, walk, first_visits, square_line, square_text, IsTextOfPattern}

@@ -1,5 +1,4 @@
-use Rattle.std.proofs.Common.{◌≡◌, ◌∙◌, ap, sym, List, ℕ, length, arith}
-use Rattle.std.specs.Prelude.{position, Some, None}
+use Rattle.std.proofs.Common.{◌≡◌, ◌∙◌, ap, sym, List, ℕ, length, arith, position, Some, None}
 use Rattle.life_base.specs.Text.{is_whitespace, trim_start}
 use Rattle.life_base.proofs.LineEnds.{all_behind}
 use Rattle.life_base.proofs.WordEnds.{words_at, words_without, split_length, length-trim_start}

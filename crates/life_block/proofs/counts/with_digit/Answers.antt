@@ -1,5 +1,4 @@
-use Rattle.std.proofs.Common.{◌-◌, Bool, ap, sym, ◌∙◌, w64}
-use Rattle.std.specs.Prelude.{if◌then◌else◌}
+use Rattle.std.proofs.Common.{◌-◌, Bool, ap, sym, ◌∙◌, w64, if◌then◌else◌}
 use Rattle.std.specs.Int.{bit_at}
 use Rattle.std.proofs.lemmas.Nat.Bits.{bit_at_not}
 use Rattle.life_block.proofs.counts.with_digit.Goals as goal

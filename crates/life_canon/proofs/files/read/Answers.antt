@@ -1,10 +1,9 @@
-use Rattle.std.specs.Prelude.{IfErr, OnOk}
 use Rattle.std.proofs.lemmas.Result.{IfOk-weaker, err_from_is_err_and}
 use Rattle.life_base.specs.Lines.{whole_lines}
 use Rattle.life_quad.specs.Store.{held}
 use Rattle.life_quad.proofs.KeepingLemmas.{keeps-then, adds-as, adds-then}
 use Rattle.life_canon.proofs.CallFacts.{feed-fault}
-use Rattle.std.proofs.Common.{ℕ, ◌+◌, ◌<◌, List, [], ◌++◌, length, ap, sym, ◌∙◌, subst, arith, inl}
+use Rattle.std.proofs.Common.{ℕ, ◌+◌, ◌<◌, List, [], ◌++◌, length, ap, sym, ◌∙◌, subst, arith, inl, IfErr, OnOk}
 use Rattle.life_base.specs.declared.cell.TheConstants.{MAX_LEVEL}
 use Rattle.life_canon.specs.Needs.{IsNew, LacksFor, LacksForFront}
 use Rattle.life_canon.specs.Room.{AddsLines, AddsFile, HoldsFile, HoldsFront, HoldsOnly, room_for}

@@ -1,5 +1,4 @@
-use Rattle.std.proofs.Common.{◌≡◌, ◌+◌, ◌-◌, refl, ap, ◌∙◌, take, length, arith}
-use Rattle.std.proofs.lemmas.List.{length-take-le}
+use Rattle.std.proofs.Common.{◌≡◌, ◌+◌, ◌-◌, refl, ap, ◌∙◌, take, length, arith, length-take-le}
 use Rattle.life_canon.specs.declared.lesser.Lesser.TheVariants.{Undecided, New, Old}
 use Rattle.life_canon.proofs.LesserFacts.{cut, copied, decided-of, still-undecided, new-now, old-now}
 use Rattle.life_canon.proofs.lesser.decide.Goals as goal

@@ -1,7 +1,6 @@
 use Rattle.std.proofs.Common.{map, sym, ◌∙◌}
 use Rattle.life_canon.specs.Walking.{seen_in}
-use Rattle.life_canon.proofs.WalkingFacts.{takes-none, known-skip, absent-keys, refused-first, walked-leaf}
-use Rattle.life_canon.proofs.WalkingFacts.{refused-nw, refused-ne, refused-sw, refused-se, refused-own, absent-own, walked-own}
+use Rattle.life_canon.proofs.WalkingFacts.{takes-none, known-skip, absent-keys, refused-first, walked-leaf, refused-nw, refused-ne, refused-sw, refused-se, refused-own, absent-own, walked-own}
 use Rattle.life_canon.proofs.node_walk.+walk.Goals as goal
 
 pub walk_square-returns-in-Some-clause-walked : goal.walk_square-returns-in-Some-clause-walked

@@ -1,7 +1,6 @@
-use Rattle.std.proofs.Common.{◌≡◌, inl, inr, ℕ, ◌-◌, ◌<◌, ◌≤◌, false, List, [], ◌∷◌, ◌++◌, length, take, drop, Some, map, refl, sym, ap, ◌∙◌, subst, arith, rules}
-use Rattle.std.specs.Prelude.{Contains, Option}
+use Rattle.std.proofs.Common.{◌≡◌, inl, inr, ℕ, ◌-◌, ◌<◌, ◌≤◌, false, List, [], ◌∷◌, ◌++◌, length, take, drop, Some, map, refl, sym, ap, ◌∙◌, subst, arith, rules, Contains, Option, length-take-le, take-append-drop}
 use Rattle.std.specs.List.{cons_option}
-use Rattle.std.proofs.lemmas.List.{length-take-le, map_push, take-append-drop}
+use Rattle.std.proofs.lemmas.List.{map_push}
 use Rattle.std.proofs.lemmas.List.Elements.{Contains-push_cases}
 use Rattle.std.proofs.lemmas.Result.{err_from_is_err_and}
 use Rattle.life_base.specs.Lines.{LinesRead}

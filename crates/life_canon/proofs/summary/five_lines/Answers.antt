@@ -1,5 +1,4 @@
-use Rattle.std.proofs.Common.{ap, ◌∙◌}
-use Rattle.std.specs.Prelude.{decimal}
+use Rattle.std.proofs.Common.{ap, ◌∙◌, decimal}
 use Rattle.life_base.specs.Rules.{rule_text}
 use Rattle.life_quad.specs.Cells.{population}
 use Rattle.life_quad.proofs.LawLemmas.{known_squares_are_full}

@@ -1,5 +1,4 @@
-use Rattle.std.proofs.Common.{false, subst, lit≤, Result, Ok, Err, OnOk}
-use Rattle.std.specs.Prelude.{◌^◌, min}
+use Rattle.std.proofs.Common.{false, subst, lit≤, Result, Ok, Err, OnOk, ◌^◌, min}
 use Rattle.std.proofs.lemmas.Result.{IfOk-weaker}
 use Rattle.life_base.specs.declared.cell.TheConstants.{MAX_LEVEL}
 use Rattle.life_quad.proofs.LawLemmas.{known_squares_are_full}

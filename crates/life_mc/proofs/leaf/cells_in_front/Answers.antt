@@ -1,6 +1,5 @@
-use Rattle.std.proofs.Common.{◌≡◌, ◌∙◌, ◌+◌, ◌-◌, ◌≤◌, ◌++◌, ◌∷◌, [], ℕ, List, ap, not, length, length-append, map, take, arith}
+use Rattle.std.proofs.Common.{◌≡◌, ◌∙◌, ◌+◌, ◌-◌, ◌≤◌, ◌++◌, ◌∷◌, [], ℕ, List, ap, not, length, length-append, map, take, arith, ◌==◌}
 use lib.Count.{count_trailing_zeros}
-use Rattle.std.specs.Prelude.{◌==◌}
 use Rattle.std.specs.Simd.Lanes.{mask_l}
 use Rattle.std.proofs.lemmas.Simd.{length-chunk, trailing_mask_l}
 use Rattle.life_mc.specs.Grammar.{is_cell}

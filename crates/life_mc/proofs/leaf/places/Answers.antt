@@ -1,5 +1,4 @@
-use Rattle.std.proofs.Common.{take, w8, arith}
-use Rattle.std.specs.Prelude.{◌==◌}
+use Rattle.std.proofs.Common.{take, w8, arith, ◌==◌}
 use Rattle.std.proofs.lemmas.Simd.{bitmask_splat, length-chunk}
 use Rattle.life_mc.proofs.leaf.places.Goals as goal
 

@@ -1,5 +1,4 @@
-use Rattle.std.proofs.Common.{◌++◌, ◌∙◌, ap, drop, subst, List, ℕ, length}
-use Rattle.std.specs.Prelude.{replicate}
+use Rattle.std.proofs.Common.{◌++◌, ◌∙◌, ap, drop, subst, List, ℕ, length, replicate}
 use Rattle.life_mc.specs.Standing.{first_row, TellsRow}
 use Rattle.life_mc.proofs.Leaves.{row-ended}
 use Rattle.life_mc.proofs.leaf.short_row.Goals as goal

@@ -1,5 +1,4 @@
-use Rattle.std.proofs.Common.{◌≡◌, ◌∙◌, ◌-◌, ◌%◌, ℕ, List, ap, sym, arith, get_or, length, take, length-take-le}
-use Rattle.std.specs.Prelude.{◌^◌}
+use Rattle.std.proofs.Common.{◌≡◌, ◌∙◌, ◌-◌, ◌%◌, ℕ, List, ap, sym, arith, get_or, length, take, length-take-le, ◌^◌}
 use Rattle.life_mc.specs.Reading.{row_byte}
 use Rattle.life_mc.specs.Grammar.{is_row}
 use Rattle.life_mc.specs.Standing.{first_row, front_cells}

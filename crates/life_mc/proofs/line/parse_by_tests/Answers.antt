@@ -1,5 +1,4 @@
-use Rattle.std.proofs.Common.{◌≡◌, ◌∙◌, ◌-◌, ap, sym, inl, inr, drop, take, length, Ok, Err, List, ℕ, ◌⊎◌}
-use Rattle.std.specs.Prelude.{Option, Some}
+use Rattle.std.proofs.Common.{◌≡◌, ◌∙◌, ◌-◌, ap, sym, inl, inr, drop, take, length, Ok, Err, List, ℕ, ◌⊎◌, Option, Some}
 use Rattle.std.proofs.lemmas.Result.{err_from_is_err_and}
 use Rattle.life_base.specs.Text.{trim, value_of}
 use Rattle.life_base.specs.Numbers.{u64_of}

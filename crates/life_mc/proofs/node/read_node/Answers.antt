@@ -1,5 +1,4 @@
-use Rattle.std.proofs.Common.{◌≡◌, ◌∙◌, ◌≤◌, List, ℕ, sym, ap, false, arith}
-use Rattle.std.specs.Prelude.{slice_index, Some}
+use Rattle.std.proofs.Common.{◌≡◌, ◌∙◌, ◌≤◌, List, ℕ, sym, ap, false, arith, slice_index, Some}
 use Rattle.life_base.specs.Text.{trim}
 use Rattle.life_mc.specs.Reading.{is_leaf_byte, broken_by_square}
 use Rattle.life_mc.specs.Standing.{quad_words}

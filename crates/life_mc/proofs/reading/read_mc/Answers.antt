@@ -1,5 +1,4 @@
-use Rattle.std.proofs.Common.{◌≡◌, ◌⊎◌, ◌++◌, ◌∷◌, [], true, false, cond, List, ℕ, map, Err, sym, ◌∙◌, ap, subst, inl, inr}
-use Rattle.std.specs.Prelude.{Some}
+use Rattle.std.proofs.Common.{◌≡◌, ◌⊎◌, ◌++◌, ◌∷◌, [], true, false, cond, List, ℕ, map, Err, sym, ◌∙◌, ap, subst, inl, inr, Some}
 use Rattle.life_base.specs.Text.{lines_of, numbered_from}
 use Rattle.life_base.specs.Refusal.{fault_at, OrMemory}
 use Rattle.life_base.specs.declared.fault.Fault.{Fault}

@@ -1,6 +1,5 @@
-use Rattle.std.proofs.Common.{◌≡◌, ◌++◌, pos, ◌∙◌, arith, to_z, of_z, w64}
+use Rattle.std.proofs.Common.{◌≡◌, ◌++◌, pos, ◌∙◌, arith, to_z, of_z, w64, take_all}
 use Rattle.std.proofs.lemmas.Int.{ints}
-use Rattle.std.proofs.lemmas.List.{take_all}
 use Rattle.life_quad.specs.declared.listing.Placed.{Placed}
 use Rattle.life_quad.specs.Bands.{pieces, row_cells}
 use Rattle.life_quad.proofs.CellListLemmas.{cell_more}

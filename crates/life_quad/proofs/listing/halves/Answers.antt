@@ -1,6 +1,5 @@
-use Rattle.std.proofs.Common.{◌-◌, ◌^◌, sym, ◌∙◌, ap, subst}
+use Rattle.std.proofs.Common.{◌-◌, ◌^◌, sym, ◌∙◌, ap, subst, take_all}
 use Rattle.std.specs.List.{All}
-use Rattle.std.proofs.lemmas.List.{take_all}
 use Rattle.std.proofs.lemmas.List.Elements.{All-nil}
 use Rattle.life_quad.specs.Bands.{IsPlaced, pieces, northern, southern, upper, lower}
 use Rattle.life_quad.proofs.CellListLemmas.{quarters_more}

@@ -1,8 +1,7 @@
-use Rattle.std.proofs.Common.{◌≡◌, ℕ, ◌+◌, ℤ, neg_ℤ, ◌≤ℤ◌, Result, OnOk, ◌-◌, ◌^◌, ◌≤◌, ◌+ℤ◌, pos, ap, arith, to_z, of_z, w64}
+use Rattle.std.proofs.Common.{◌≡◌, ℕ, ◌+◌, ℤ, neg_ℤ, ◌≤ℤ◌, Result, OnOk, ◌-◌, ◌^◌, ◌≤◌, ◌+ℤ◌, pos, ap, arith, to_z, of_z, w64, IfErr, IsErrAnd}
 use Rattle.std.proofs.lemmas.Result.{on_ok_weaker}
 use Rattle.std.proofs.lemmas.Int.{ints}
 use Rattle.std.proofs.Math.Pow.{pow_mono}
-use Rattle.std.specs.Prelude.{IfErr, IsErrAnd}
 use Rattle.life_base.specs.declared.kind.Kind.{Kind}
 use Rattle.life_base.specs.declared.kind.Kind.TheVariants.{Memory}
 use Rattle.life_base.specs.Tree.{Tree, depth}

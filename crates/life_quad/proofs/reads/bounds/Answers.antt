@@ -1,6 +1,5 @@
-use Rattle.std.proofs.Common.{◌≡◌, Result, IfOk, suc, ◌+◌, ◌-◌, ◌^◌, arith, ◌∙◌, ap, subst}
+use Rattle.std.proofs.Common.{◌≡◌, Result, IfOk, suc, ◌+◌, ◌-◌, ◌^◌, arith, ◌∙◌, ap, subst, IfErr, IsErrAnd}
 use Rattle.std.proofs.lemmas.Int.{ints}
-use Rattle.std.specs.Prelude.{IfErr, IsErrAnd}
 use Rattle.life_base.specs.declared.kind.Kind.{Kind}
 use Rattle.life_base.specs.declared.kind.Kind.TheVariants.{Memory}
 use Rattle.life_base.specs.Tree.{depth, half_side}

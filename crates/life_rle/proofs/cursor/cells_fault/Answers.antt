@@ -1,5 +1,4 @@
-use Rattle.std.proofs.Common.{◌≡◌, true, false, sym, arith, rules, pos, ◌+ℤ◌}
-use Rattle.std.specs.Prelude.{int_le}
+use Rattle.std.proofs.Common.{◌≡◌, true, false, sym, arith, rules, pos, ◌+ℤ◌, int_le}
 use Rattle.std.proofs.lemmas.Int.{ints}
 use Rattle.life_rle.specs.States.{is_state_of}
 use Rattle.life_rle.proofs.RowLimits.{fault-by}

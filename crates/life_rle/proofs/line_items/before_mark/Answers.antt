@@ -1,5 +1,4 @@
-use Rattle.std.proofs.Common.{sym}
-use Rattle.std.specs.Prelude.{◌==◌}
+use Rattle.std.proofs.Common.{sym, ◌==◌}
 use Rattle.life_rle.proofs.MarkPlace.{front-Some, front-None}
 use Rattle.life_rle.proofs.line_items.before_mark.Goals as goal
 

@@ -1,5 +1,4 @@
-use Rattle.std.proofs.Common.{◌≡◌, ◌≤◌, length, take}
-use Rattle.std.specs.Prelude.{filter}
+use Rattle.std.proofs.Common.{◌≡◌, ◌≤◌, length, take, filter}
 use Rattle.life_rle.specs.Runs.{is_run_end}
 use Rattle.life_rle.proofs.line_items.run_ends.Given as goal
 

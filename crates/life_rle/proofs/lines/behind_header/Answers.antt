@@ -1,5 +1,4 @@
-use Rattle.std.proofs.Common.{◌≡◌, ◌⊎◌, List, [], Ok, Err, sym, ap, ◌∙◌, inl, inr, subst}
-use Rattle.std.proofs.lemmas.List.{append-nil}
+use Rattle.std.proofs.Common.{◌≡◌, ◌⊎◌, List, [], Ok, Err, sym, ap, ◌∙◌, inl, inr, subst, append-nil}
 use Rattle.std.proofs.lemmas.Result.{err_from_is_err_and}
 use Rattle.life_base.proofs.Results.{on_err_any}
 use Rattle.life_base.specs.declared.kind.Kind.{Kind}

@@ -1,5 +1,4 @@
-use Rattle.std.proofs.Common.{◌≡◌, ◌^◌, ◌-◌, ℕ, true, false, Ok, Result, List, sym, ap, ◌∙◌, arith, ℤ, pos, neg_ℤ, ◌≤ℤ◌, w64}
-use mir.Val.{to_z, of_z}
+use Rattle.std.proofs.Common.{◌≡◌, ◌^◌, ◌-◌, ℕ, true, false, Ok, Result, List, sym, ap, ◌∙◌, arith, ℤ, pos, neg_ℤ, ◌≤ℤ◌, w64, to_z, of_z}
 use Rattle.std.proofs.lemmas.Int.{ints, to_z-of_z}
 use Rattle.life_base.specs.declared.kind.Kind.{Kind}
 use Rattle.life_base.specs.declared.cell.TheConstants.{MAX_LEVEL}

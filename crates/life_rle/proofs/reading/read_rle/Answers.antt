@@ -1,5 +1,5 @@
-use Rattle.std.proofs.Common.{◌≡◌, ◌⊎◌, ◌++◌, ◌∷◌, [], ◌+◌, true, false, List, ℕ, map, length, Bor, Err, sym, ◌∙◌, ap, subst, inl, inr, append_assoc, arith, rules}
-use Rattle.std.proofs.lemmas.List.{length-append, map-append}
+use Rattle.std.proofs.Common.{◌≡◌, ◌⊎◌, ◌++◌, ◌∷◌, [], ◌+◌, true, false, List, ℕ, map, length, Bor, Err, sym, ◌∙◌, ap, subst, inl, inr, append_assoc, arith, rules, length-append}
+use Rattle.std.proofs.lemmas.List.{map-append}
 use Rattle.std.proofs.lemmas.Grind.{common_steps}
 use Rattle.std.proofs.lemmas.Result.{err_from_is_err_and}
 use Rattle.life_base.specs.Text.{lines_of, numbered_from}

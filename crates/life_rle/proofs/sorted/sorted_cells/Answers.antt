@@ -1,5 +1,4 @@
-use Rattle.std.proofs.Common.{◌≡◌, ◌+◌, List, ◌∷◌, [], Bool, true, false, drop, get_or, refl, sym, ap, ◌∙◌}
-use Rattle.std.specs.Prelude.{◌&&◌, pos}
+use Rattle.std.proofs.Common.{◌≡◌, ◌+◌, List, ◌∷◌, [], Bool, true, false, drop, get_or, refl, sym, ap, ◌∙◌, ◌&&◌, pos}
 use Rattle.std.proofs.lemmas.List.{at_drop_more, at_drop_all}
 use Rattle.life_base.specs.declared.cell.Cell.{Cell}
 use Rattle.life_base.specs.declared.cell.TheConstants.{MAX_LEVEL}

@@ -1,8 +1,7 @@
-use Rattle.std.proofs.Common.{◌∷◌, [], ◌++◌, ℕ, List, sym, ap, ◌∙◌, subst}
+use Rattle.std.proofs.Common.{◌∷◌, [], ◌++◌, ℕ, List, sym, ap, ◌∙◌, subst, flat_map}
 use Rattle.life_base.specs.declared.bounds.Bounds.{Bounds}
 use Rattle.life_rle.specs.Writer.{IsInPlane, Follow}
 use Rattle.life_rle.proofs.Sorting.{sorted-IsInPlane, sorted-Follow, box-top}
-use Rattle.std.specs.Prelude.{flat_map}
 use Rattle.std.proofs.lemmas.Result.{IfOk-weaker}
 use Rattle.life_rle.specs.declared.position.Position.{Position}
 use Rattle.life_rle.specs.Written.{position_text, header_text, item_lines, items_from, lines_in_box, span}

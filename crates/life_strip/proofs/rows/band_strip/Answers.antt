@@ -1,5 +1,4 @@
-use Rattle.std.proofs.Common.{◌≡◌, ℕ, arith, refl, subst}
-use Rattle.std.specs.Prelude.{IfSome}
+use Rattle.std.proofs.Common.{◌≡◌, ℕ, arith, refl, subst, IfSome}
 use Rattle.life_base.specs.Tree.{Tree}
 use Rattle.life_quad.specs.Refused.{SomePart}
 use Rattle.life_quad.proofs.GrowsLemmas.{grows-err, grows-ok}

@@ -1,5 +1,4 @@
-use Rattle.std.proofs.Common.{◌≡◌, ◌^◌, ◌≤◌, ◌-◌, ◌∙◌, length, Some, sym, ap, arith}
-use Rattle.std.specs.Prelude.{slice_get, option_copied}
+use Rattle.std.proofs.Common.{◌≡◌, ◌^◌, ◌≤◌, ◌-◌, ◌∙◌, length, Some, sym, ap, arith, slice_get, option_copied}
 use Rattle.std.proofs.Math.Pow.{pow_mono}
 use Rattle.std.proofs.lemmas.Option.{get_or_from_slice_get}
 use Rattle.life_base.specs.declared.cell.TheConstants.{MAX_LEVEL}

@@ -1,5 +1,4 @@
-use Rattle.std.proofs.Common.{◌≡◌, ℕ, ◌+◌, ◌-◌, ◌<◌, ◌++◌, ◌∷◌, [], List, length, get_or, Option, Some, None, length-append, arith, sym, ◌∙◌, ap, refl, subst}
-use Rattle.std.specs.Prelude.{slice_get, option_copied, option_to_list, IsSome, MatchOption}
+use Rattle.std.proofs.Common.{◌≡◌, ℕ, ◌+◌, ◌-◌, ◌<◌, ◌++◌, ◌∷◌, [], List, length, get_or, Option, Some, None, length-append, arith, sym, ◌∙◌, ap, refl, subst, slice_get, option_copied, option_to_list, IsSome, MatchOption}
 use Rattle.std.proofs.Math.Seq.{get_or-append_seam}
 use Rattle.std.proofs.lemmas.Option.{same_Some, get_or_from_slice_get, slice_get_within}
 use Rattle.life_strip.specs.declared.spans.Strip.{Strip}

@@ -1,7 +1,6 @@
-use Rattle.std.proofs.Common.{◌≡◌, pos, ℕ, List, ◌<◌, ◌+◌, suc, length, take, get_or, sym, ◌∙◌, subst, refl, arith, w64, to_z, of_z}
-use Rattle.std.specs.Prelude.{All, IsTrue}
+use Rattle.std.proofs.Common.{◌≡◌, pos, ℕ, List, ◌<◌, ◌+◌, suc, length, take, get_or, sym, ◌∙◌, subst, refl, arith, w64, to_z, of_z, All, IsTrue, take_all}
 use Rattle.std.proofs.lemmas.Int.{ints}
-use Rattle.std.proofs.lemmas.List.{take_all, drop_all}
+use Rattle.std.proofs.lemmas.List.{drop_all}
 use Rattle.std.proofs.lemmas.List.Elements.{All-push}
 use Rattle.std.proofs.Math.Seq.{take-suc}
 use Rattle.life_base.specs.declared.cell.Cell.{Cell}

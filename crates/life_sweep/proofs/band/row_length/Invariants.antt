@@ -1,5 +1,4 @@
-use Rattle.std.proofs.Common.{◌≡◌, take}
-use Rattle.std.specs.Prelude.{All}
+use Rattle.std.proofs.Common.{◌≡◌, take, All}
 use Rattle.life_base.specs.declared.cell.Cell.{Cell}
 use Rattle.life_sweep.proofs.band.row_length.Given as goal
 

@@ -1,5 +1,4 @@
-use Rattle.std.proofs.Common.{◌<◌, subst}
-use Rattle.std.specs.Prelude.{All}
+use Rattle.std.proofs.Common.{◌<◌, subst, All}
 use Rattle.std.proofs.lemmas.List.Elements.{All-head, All-tail}
 use Rattle.life_base.specs.declared.cell.Cell.{Cell}
 use Rattle.life_sweep.proofs.column.take.Goals as goal

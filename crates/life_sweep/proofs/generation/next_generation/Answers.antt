@@ -1,5 +1,4 @@
-use Rattle.std.proofs.Common.{ℕ, ◌<◌, inl, inr, List, Some, sym, ◌∙◌, subst, ap, arith, true≢false}
-use Rattle.std.specs.Prelude.{All}
+use Rattle.std.proofs.Common.{ℕ, ◌<◌, inl, inr, List, Some, sym, ◌∙◌, subst, ap, arith, true≢false, All}
 use Rattle.std.proofs.lemmas.Result.{IfOk-weaker, IfErr-weaker, err_from_is_err_and}
 use Rattle.life_base.specs.Refusal.{fault_of}
 use Rattle.life_base.specs.Tree.{tree_cell}

@@ -1,5 +1,4 @@
-use Rattle.std.proofs.Common.{◌≡◌, ℕ, ◌+◌, ◌*◌, ◌<◌, slice_index}
-use Rattle.std.specs.Prelude.{IsTrue}
+use Rattle.std.proofs.Common.{◌≡◌, ℕ, ◌+◌, ◌*◌, ◌<◌, slice_index, IsTrue}
 use Rattle.std.specs.Int.{bit_at}
 use Rattle.life_table.specs.Index.{Stay}
 use Rattle.life_table.specs.Meaning.{has_state}

@@ -1,5 +1,4 @@
-use Rattle.std.proofs.Common.{◌≡◌, ◌<◌, length, ap, sym, ◌∙◌, subst, arith}
-use Rattle.std.specs.Prelude.{IsTrue, slice_get, IfSome, Some}
+use Rattle.std.proofs.Common.{◌≡◌, ◌<◌, length, ap, sym, ◌∙◌, subst, arith, IsTrue, slice_get, IfSome, Some}
 use Rattle.std.proofs.lemmas.Option.{slice_get-get_or}
 use Rattle.life_table.specs.Meaning.{HasState}
 use Rattle.life_table.specs.declared.table.Var.{Var}

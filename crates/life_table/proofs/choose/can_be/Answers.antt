@@ -1,5 +1,4 @@
-use Rattle.std.proofs.Common.{◌≡◌, ap, sym, ◌∙◌, subst, eq-eqb}
-use Rattle.std.specs.Prelude.{IsTrue, slice_get, IfSome, Some}
+use Rattle.std.proofs.Common.{◌≡◌, ap, sym, ◌∙◌, subst, eq-eqb, IsTrue, slice_get, IfSome, Some}
 use Rattle.std.proofs.lemmas.Option.{slice_get-get_or}
 use Rattle.life_table.specs.Meaning.{HasState, state_of}
 use Rattle.life_table.specs.declared.table.Var.{Var}

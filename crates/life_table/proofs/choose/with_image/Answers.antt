@@ -1,5 +1,4 @@
-use Rattle.std.proofs.Common.{◌≡◌, ℕ, ◌+◌, ◌++◌, ◌∷◌, [], true, false, length, take, ap, sym, ◌∙◌, subst, arith, slice_index}
-use Rattle.std.proofs.lemmas.List.{take_all, length-take-le}
+use Rattle.std.proofs.Common.{◌≡◌, ℕ, ◌+◌, ◌++◌, ◌∷◌, [], true, false, length, take, ap, sym, ◌∙◌, subst, arith, slice_index, take_all, length-take-le}
 use Rattle.life_table.specs.Found.{Consistent}
 use Rattle.life_table.specs.Meaning.{GivesAs}
 use Rattle.life_table.proofs.Adding.{adds_none}

@@ -1,5 +1,4 @@
-use Rattle.std.proofs.Common.{◌≡◌, true, false, ap, sym, ◌∙◌, subst, slice_index}
-use Rattle.std.specs.Prelude.{slice_get, Some, IfSome}
+use Rattle.std.proofs.Common.{◌≡◌, true, false, ap, sym, ◌∙◌, subst, slice_index, slice_get, Some, IfSome}
 use Rattle.std.proofs.lemmas.Nat.Bits.{shr_and_one}
 use Rattle.std.proofs.lemmas.Option.{slice_get-get_or}
 use Rattle.life_table.specs.Meaning.{HasState, has_state}

@@ -1,8 +1,7 @@
 use Rattle.std.proofs.Common.{◌≡◌, ℕ, ◌+◌, ◌-◌, ◌*◌, ◌/◌, ◌<◌, ◌∷◌, List, length, length-drop, map, take, drop, get_or, slice_index, ap, sym, ◌∙◌, subst, arith}
 use Rattle.std.proofs.lemmas.Nat.Bits.{shr_and_one}
 use Rattle.life_table.specs.Found.{Adds, SomeGives}
-use Rattle.life_table.specs.Meaning.{GivesAs}
-use Rattle.life_table.specs.Meaning.{state_of}
+use Rattle.life_table.specs.Meaning.{GivesAs, state_of}
 use Rattle.life_table.specs.declared.found.Found.{Found}
 use Rattle.life_table.specs.declared.table.Entry.{Entry}
 use Rattle.life_table.specs.declared.table.Entry.TheVariants as entries

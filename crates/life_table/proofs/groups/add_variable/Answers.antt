@@ -1,6 +1,5 @@
-use Rattle.std.proofs.Common.{◌≡◌, ◌≢◌, ℕ, ◌<◌, ap, sym, ◌∙◌, subst, inl, inr, arith, take, get_or, length}
+use Rattle.std.proofs.Common.{◌≡◌, ◌≢◌, ℕ, ◌<◌, ap, sym, ◌∙◌, subst, inl, inr, arith, take, get_or, length, get_or-take, length-take-le}
 use Rattle.std.proofs.lemmas.Bool.Decides.{eqb_tells}
-use Rattle.std.proofs.lemmas.List.{get_or-take, length-take-le}
 use Rattle.life_table.specs.Taking.{add_to}
 use Rattle.life_table.specs.declared.groups.Group.{Group}
 use Rattle.life_table.proofs.Grouping.{no_group, added_at, added_end}

@@ -1,5 +1,4 @@
-use Rattle.std.proofs.Common.{ap, arith, length}
-use Rattle.std.proofs.lemmas.Nat.{pow_pos}
+use Rattle.std.proofs.Common.{ap, arith, length, pow_pos}
 use Rattle.life_table.specs.Taking.{free_count}
 use Rattle.life_table.proofs.Free.{each_free}
 use Rattle.life_table.proofs.groups.free_after.Goals as goal

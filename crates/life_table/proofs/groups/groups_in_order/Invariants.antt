@@ -1,5 +1,4 @@
-use Rattle.std.proofs.Common.{◌+◌, ◌≤◌, take}
-use Rattle.std.specs.Prelude.{All}
+use Rattle.std.proofs.Common.{◌+◌, ◌≤◌, take, All}
 use Rattle.life_table.specs.Taking.{IsGrouped}
 use Rattle.life_table.proofs.groups.groups_in_order.Given as goal
 

@@ -1,5 +1,4 @@
-use Rattle.std.proofs.Common.{◌+◌, take}
-use Rattle.std.specs.Prelude.{All}
+use Rattle.std.proofs.Common.{◌+◌, take, All}
 use Rattle.life_table.specs.Meaning.{GivesNothing}
 use Rattle.life_table.specs.Site.{centre_of, others_of}
 use Rattle.life_table.proofs.index.answer_among.Given as goal

@@ -1,5 +1,4 @@
-use Rattle.std.proofs.Common.{rules, ◌≡◌, ◌++◌, ◌∷◌, ◌+◌, ◌-◌, ◌^◌, min, length, [], List, ℕ, Bool, map, sym, ◌∙◌, ap, subst, inl, inr, append_assoc, refl, true}
-use Rattle.std.specs.Prelude.{Err, None, Some}
+use Rattle.std.proofs.Common.{rules, ◌≡◌, ◌++◌, ◌∷◌, ◌+◌, ◌-◌, ◌^◌, min, length, [], List, ℕ, Bool, map, sym, ◌∙◌, ap, subst, inl, inr, append_assoc, refl, true, Err, None, Some}
 use Rattle.std.proofs.lemmas.List.{map-append}
 use Rattle.std.proofs.lemmas.Result.{err_from_is_err_and, IfOk-weaker, MatchResult-weaker}
 use Rattle.life_base.specs.Text.{lines_of, numbered_from}

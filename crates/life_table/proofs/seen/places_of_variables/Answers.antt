@@ -1,7 +1,6 @@
-use Rattle.std.proofs.Common.{ap, ◌∙◌, subst, inl, inr, arith, set, length-set, IsTrue, slice_index}
+use Rattle.std.proofs.Common.{ap, ◌∙◌, subst, inl, inr, arith, set, length-set, IsTrue, slice_index, get_or-set_same, get_or-set_other}
 use Rattle.std.specs.Int.{bit_at}
 use Rattle.std.proofs.lemmas.Bool.Decides.{eqb_tells}
-use Rattle.std.proofs.lemmas.List.{get_or-set_same, get_or-set_other}
 use Rattle.life_table.specs.Meaning.{has_state}
 use Rattle.life_table.proofs.Seeing.{same_there}
 use Rattle.life_table.proofs.seen.places_of_variables.Goals as goal

@@ -1,5 +1,4 @@
-use Rattle.std.proofs.Common.{◌≡◌, take}
-use Rattle.std.specs.Prelude.{count_by}
+use Rattle.std.proofs.Common.{◌≡◌, take, count_by}
 use Rattle.life_table.specs.Index.{is_among}
 use Rattle.life_table.proofs.some_order.count_among.Given as goal
 

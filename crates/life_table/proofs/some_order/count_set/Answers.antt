@@ -1,7 +1,6 @@
-use Rattle.std.proofs.Common.{◌≡◌, ◌+◌, ◌-◌, ◌<◌, length, set, length-set, slice_index, ap, ◌∙◌, subst, inl, inr, arith, bit_and, bit_or}
+use Rattle.std.proofs.Common.{◌≡◌, ◌+◌, ◌-◌, ◌<◌, length, set, length-set, slice_index, ap, ◌∙◌, subst, inl, inr, arith, bit_and, bit_or, get_or-set_other}
 use Rattle.std.specs.Int.{bit_at}
 use Rattle.std.proofs.lemmas.Bool.Decides.{eqb_tells}
-use Rattle.std.proofs.lemmas.List.{get_or-set_other}
 use Rattle.life_table.proofs.Indexing.{bits_put, bits_stay, and_both}
 use Rattle.life_table.proofs.some_order.count_set.Goals as goal
 

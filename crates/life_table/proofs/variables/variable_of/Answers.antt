@@ -1,5 +1,4 @@
-use Rattle.std.proofs.Common.{◌≡◌, ℕ, ◌-◌, List, length, take, drop, refl, sym, ◌∙◌}
-use Rattle.std.specs.Prelude.{◌==◌, Option, Some, None, option_map}
+use Rattle.std.proofs.Common.{◌≡◌, ℕ, ◌-◌, List, length, take, drop, refl, sym, ◌∙◌, ◌==◌, Option, Some, None, option_map}
 use Rattle.std.specs.List.{before_first, after_first}
 use Rattle.life_base.specs.Text.{trim}
 use Rattle.life_table.specs.Reading.{variable_states, variable_of}

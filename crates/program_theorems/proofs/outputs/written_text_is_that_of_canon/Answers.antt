@@ -1,5 +1,4 @@
-use Rattle.std.proofs.Common.{List, ℕ, ◌++◌, ap, ◌∙◌}
-use Rattle.std.specs.Prelude.{Some}
+use Rattle.std.proofs.Common.{List, ℕ, ◌++◌, ap, ◌∙◌, Some}
 use Rattle.theorems.proofs.FileLaw.{map_ok}
 use Rattle.theorems.proofs.StreamLaw.{appended, one_text}
 use Rattle.program_theorems.proofs.AnswerLaw.{given_second, written_canonical}

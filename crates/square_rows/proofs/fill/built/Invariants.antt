@@ -1,4 +1,4 @@
-use Rattle.std.specs.Prelude.{ℤ}
+use Rattle.std.proofs.Common.{ℤ}
 use Rattle.life_quad.specs.Grows.{Keeps}
 use Rattle.life_strip.specs.Filling.{IsFilling}
 use Rattle.life_strip.specs.Given.{IsBehind, IsNext}

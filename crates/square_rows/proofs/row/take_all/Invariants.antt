@@ -1,4 +1,4 @@
-use Rattle.std.specs.Prelude.{All}
+use Rattle.std.proofs.Common.{All}
 use Rattle.square_rows.proofs.row.take_all.Given as goal
 
 -- the store knows each square of the list

@@ -1,6 +1,5 @@
-use Rattle.std.proofs.Common.{subst}
+use Rattle.std.proofs.Common.{subst, IfOk}
 use Rattle.std.proofs.lemmas.Result.{IfOk-weaker}
-use Rattle.std.specs.Prelude.{IfOk}
 use Rattle.clap.specs.Words.{AddsSubcommand, with_subcommand}
 use Rattle.command_line.specs.CommandLine.{ReadsAs}
 use Rattle.command_line.proofs.LineLemmas.{reads-subcommand}

@@ -1,5 +1,4 @@
-use Rattle.std.proofs.Common.{◌∙◌, ap, inl, inr, refl, sym}
-use Rattle.std.specs.Prelude.{Some}
+use Rattle.std.proofs.Common.{◌∙◌, ap, inl, inr, refl, sym, Some}
 use Rattle.clap.specs.Words.{found_of, rows_of}
 use Rattle.command_line.specs.Plans.{HasNoForm}
 use Rattle.command_line.proofs.MatchesLemmas.{such_word}

@@ -1,5 +1,4 @@
-use Rattle.std.proofs.Common.{◌++◌, codes, subst}
-use Rattle.std.proofs.lemmas.List.{append_assoc}
+use Rattle.std.proofs.Common.{◌++◌, codes, subst, append_assoc}
 use Rattle.std.proofs.lemmas.Result.{err_from_is_err_and}
 use Rattle.life_base.proofs.WritingLemmas.{prefix-grows}
 use Rattle.life_base.specs.Writing.{WritesPrefix, WritesText}

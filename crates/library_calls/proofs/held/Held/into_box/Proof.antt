@@ -1,9 +1,6 @@
 -- The pointer and what it owns make the box again.
-use Rattle.library_calls.proofs.Pointer.{◌≡◌, [], ◌∷◌, refl, sym, ap, ◌∙◌, ftrue, full_share, id⊢, fact, tables, yes, ptr_val, rawptr_Lawful, nothing}
-use Rattle.library_calls.proofs.Pointer.{called, Stays, stay_dropped, walk_of, ends_at, says, alloc_all, pass_all, free_all, look_at, get, sets, ‵, raw, ◌⊛◌}
-use Rattle.library_calls.proofs.Pointer.{◌$◌, ◌∵◌, !, qed, done, move, drop, use1, split, join, suffices, enter, of_opd, and_then, no_more, returns, proved}
-use Rattle.library_calls.proofs.Pointer.{framed, Some, ghosts, dict, owned, word, word_fits, boxed, boxed_laws}
-use Rattle.library_calls.proofs.Pointer.{content, content_laws, handle, handle_laws, handle_drop, asks, gives, found}
+use Rattle.std.proofs.Common.{Option, true, is_some}
+use Rattle.library_calls.proofs.Pointer.{◌≡◌, [], ◌∷◌, refl, sym, ap, ◌∙◌, ftrue, full_share, id⊢, fact, tables, yes, ptr_val, rawptr_Lawful, nothing, called, Stays, stay_dropped, walk_of, ends_at, says, alloc_all, pass_all, free_all, look_at, get, sets, ‵, raw, ◌⊛◌, ◌$◌, ◌∵◌, !, qed, done, move, drop, use1, split, join, suffices, enter, of_opd, and_then, no_more, returns, proved, framed, Some, ghosts, dict, owned, word, word_fits, boxed, boxed_laws, content, content_laws, handle, handle_laws, handle_drop, asks, gives, found}
 use denote.Laws.{Is, shows}
 use denote.Steps.{heard, peeks}
 use denote.Triple.Call.{calls_at_last}
@@ -14,7 +11,6 @@ use types.Run.{stop, fld, first, blocks, exec}
 use Rattle.std.proofs.alloc.Global.TheLaws as global_laws
 use Rattle.std.proofs.boxed.Box.from_raw.Met as from_raw_met
 use Rattle.std.proofs.impls.GlobalAllocator.TheImpl.Met as allocator
-use Rattle.std.specs.Prelude.{Option, true, is_some}
 use Rattle.std.specs.contracts.alloc.Global as global
 use Rattle.std.specs.contracts.boxed.Box.from_raw as from_raw
 use Rattle.library_calls.specs.declared.session.Session.{Session}

@@ -1,8 +1,7 @@
 -- A null pointer owns nothing.
-use Rattle.library_calls.proofs.Pointer.{[], ◌∷◌, refl, ftrue, null_ptr, nothing, ends_at, says, alloc_all, pass_all, free_all, look_at, sets, ‵, ◌⊛◌}
-use Rattle.library_calls.proofs.Pointer.{◌$◌, ◌∵◌, !, qed, done, keep, join, suffices, agg, enter, and_then, no_more, returns, proved, word, word_fits, holds}
+use Rattle.std.proofs.Common.{None}
+use Rattle.library_calls.proofs.Pointer.{[], ◌∷◌, refl, ftrue, null_ptr, nothing, ends_at, says, alloc_all, pass_all, free_all, look_at, sets, ‵, ◌⊛◌, ◌$◌, ◌∵◌, !, qed, done, keep, join, suffices, agg, enter, and_then, no_more, returns, proved, word, word_fits, holds}
 use types.Run.{lit}
-use Rattle.std.specs.Prelude.{None}
 use Rattle.library_calls.specs.contracts.held.Held.nothing as f
 use Rattle.library_calls.proofs.held.Held.nothing.Statement.{statement}
 use Rattle.library_calls.proofs.held.Held.nothing.Code as code

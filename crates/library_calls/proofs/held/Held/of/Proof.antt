@@ -1,9 +1,5 @@
 -- The pointer of a box keeps what the box owns.
-use Rattle.library_calls.proofs.Pointer.{[], ◌∷◌, refl, ap, ftrue, full_share, id⊢, tables, yes, rawptr_Lawful, nothing, called, framed, Stays}
-use Rattle.library_calls.proofs.Pointer.{stay_dropped, ends_at, says, alloc_all, pass_all, free_all, look_at, get, sets, ‵, raw, ◌⊛◌, ◌$◌, ◌∵◌, !, qed}
-use Rattle.library_calls.proofs.Pointer.{done, keep, drop, use1, split, join, suffices, agg, enter, of_opd, and_then, no_more, returns, proved, Some, ghosts}
-use Rattle.library_calls.proofs.Pointer.{dict, owned, word, word_fits, boxed, boxed_lowers, boxed_laws}
-use Rattle.library_calls.proofs.Pointer.{content, content_laws, handle, handle_laws, handle_drop, holds, asks, gives}
+use Rattle.library_calls.proofs.Pointer.{[], ◌∷◌, refl, ap, ftrue, full_share, id⊢, tables, yes, rawptr_Lawful, nothing, called, framed, Stays, stay_dropped, ends_at, says, alloc_all, pass_all, free_all, look_at, get, sets, ‵, raw, ◌⊛◌, ◌$◌, ◌∵◌, !, qed, done, keep, drop, use1, split, join, suffices, agg, enter, of_opd, and_then, no_more, returns, proved, Some, ghosts, dict, owned, word, word_fits, boxed, boxed_lowers, boxed_laws, content, content_laws, handle, handle_laws, handle_drop, holds, asks, gives}
 use seplogic.Ra.Ura.{Ura}
 use base.Fml.{fsep}
 use base.Logic.{emp, emp∗, sep}

@@ -1,5 +1,4 @@
-use Rattle.std.proofs.Common.{◌≡◌, ℕ, ◌<◌, List, length, sym, subst, arith}
-use Rattle.std.specs.Prelude.{OnOk}
+use Rattle.std.proofs.Common.{◌≡◌, ℕ, ◌<◌, List, length, sym, subst, arith, OnOk}
 use Rattle.std.proofs.lemmas.Bool.Decides.{nat_tests}
 use Rattle.life_canon.specs.Taking.{IsEnd, bytes_of, taken}
 use Rattle.life_canon.proofs.FrontFacts.{whole-end, kept-end, kept-going, rest-lines, rest-fault, no-length}

@@ -1,5 +1,4 @@
-use Rattle.std.proofs.Common.{◌≡◌, ◌⊎◌, ℕ, suc, true, false, ◌+◌, ◌≤◌, ◌^◌, max, List, ◌++◌, map, ℤ, refl, inl, inr, sym, ap, ◌∙◌, subst}
-use Rattle.std.specs.Prelude.{All}
+use Rattle.std.proofs.Common.{◌≡◌, ◌⊎◌, ℕ, suc, true, false, ◌+◌, ◌≤◌, ◌^◌, max, List, ◌++◌, map, ℤ, refl, inl, inr, sym, ap, ◌∙◌, subst, All}
 use Rattle.std.specs.Global.{Vec}
 use Rattle.std.proofs.lemmas.Result.{IfOk-weaker, err_from_is_err_and}
 use Rattle.life_base.specs.Lines.{LinesRead}

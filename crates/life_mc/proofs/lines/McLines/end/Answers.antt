@@ -1,5 +1,4 @@
-use Rattle.std.proofs.Common.{◌≡◌, ℕ, true, false, List, subst, ◌∙◌}
-use Rattle.std.specs.Prelude.{Option, Some, None, MatchOption, IfOk}
+use Rattle.std.proofs.Common.{◌≡◌, ℕ, true, false, List, subst, ◌∙◌, Option, Some, None, MatchOption, IfOk}
 use Rattle.std.specs.Option.{ok_or}
 use Rattle.life_base.specs.declared.cell.TheConstants.{MAX_LEVEL}
 use Rattle.life_base.specs.declared.kind.Kind.TheVariants.{NoHeader}

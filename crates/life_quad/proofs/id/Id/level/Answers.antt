@@ -1,5 +1,4 @@
-use Rattle.std.proofs.Common.{◌≡◌, arith, sym, ◌∙◌, ap, get_or, ◌-◌, ◌+◌, suc, nat_lt, true, false}
-use Rattle.std.specs.Prelude.{if◌then◌else◌}
+use Rattle.std.proofs.Common.{◌≡◌, arith, sym, ◌∙◌, ap, get_or, ◌-◌, ◌+◌, suc, nat_lt, true, false, if◌then◌else◌}
 use Rattle.life_base.proofs.Squares.{depth-blank}
 use Rattle.life_base.specs.Tree.{depth}
 use Rattle.life_quad.proofs.CallLemmas.{state_content, blank_content, small_level, node_level}

@@ -1,6 +1,5 @@
-use Rattle.std.proofs.Common.{◌≡◌, suc, List, Some, arith, sym, ◌∙◌, ap, slice_get, ◌-◌, ◌<◌, ◌≤◌, length, subst, map}
+use Rattle.std.proofs.Common.{◌≡◌, suc, List, Some, arith, sym, ◌∙◌, ap, slice_get, ◌-◌, ◌<◌, ◌≤◌, length, subst, map, All}
 use Rattle.std.proofs.lemmas.Option.{slice_get_within}
-use Rattle.std.specs.Prelude.{All}
 use Rattle.life_quad.specs.Store.{Nodes, Knows, squares, square_of, small_of, id_of}
 use Rattle.life_quad.specs.declared.id.Id.{Id}
 use Rattle.life_quad.specs.StoreLaws.{small_node}

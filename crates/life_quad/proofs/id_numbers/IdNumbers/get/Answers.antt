@@ -1,5 +1,4 @@
-use Rattle.std.proofs.Common.{◌≢◌, subst}
-use Rattle.std.specs.Prelude.{AllPairs}
+use Rattle.std.proofs.Common.{◌≢◌, subst, AllPairs}
 use Rattle.life_quad.specs.IdNumbers.{Numbered}
 use Rattle.life_quad.proofs.PlaceLemmas.{distinct}
 use Rattle.life_quad.proofs.id_numbers.IdNumbers.get.Goals as goal

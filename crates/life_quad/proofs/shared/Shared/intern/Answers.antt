@@ -1,6 +1,5 @@
-use Rattle.std.proofs.Common.{◌≡◌, ◌+◌, ◌∷◌, [], ◌++◌, length, Contains, arith, true, false, refl, sym, ◌∙◌, ap, subst, Ok, Err, length-append}
+use Rattle.std.proofs.Common.{◌≡◌, ◌+◌, ◌∷◌, [], ◌++◌, length, Contains, arith, true, false, refl, sym, ◌∙◌, ap, subst, Ok, Err, length-append, if◌then◌else◌, is_some, is_ok, not}
 use Rattle.std.proofs.lemmas.List.{same_from_push}
-use Rattle.std.specs.Prelude.{if◌then◌else◌, is_some, is_ok, not}
 use Rattle.life_base.specs.declared.kind.Kind.TheVariants.{Memory}
 use Rattle.life_quad.specs.IdMap.{value_of}
 use Rattle.life_quad.proofs.StoreLemmas.{levels-push}

@@ -1,9 +1,8 @@
-use Rattle.std.proofs.Common.{sym, ◌∙◌, subst, Ok}
+use Rattle.std.proofs.Common.{sym, ◌∙◌, subst, Ok, Contains}
 use Rattle.life_quad.specs.IdMap.{value_of}
 use Rattle.life_quad.specs.Store.{Nodes, squares, small_square, id_of, IsSmall, Answers}
 use Rattle.life_quad.specs.contracts.shared.Shared.{the_view}
 use Rattle.life_quad.proofs.CallLemmas.{small_there, unseen}
-use Rattle.std.specs.Prelude.{Contains}
 use Rattle.life_quad.proofs.shared.Shared.mark.Goals as goal
 
 pub returns-then-get : goal.returns-then-get

@@ -1,5 +1,4 @@
-use Rattle.std.proofs.Common.{ℕ, ℤ, pos, nat_abs, ◌+ℤ◌, ◌≡◌, ◌+◌, ◌^◌, ◌++◌, ◌∷◌, [], sym, ◌∙◌, ap, subst, arith}
-use Rattle.std.specs.Prelude.{if◌then◌else◌}
+use Rattle.std.proofs.Common.{ℕ, ℤ, pos, nat_abs, ◌+ℤ◌, ◌≡◌, ◌+◌, ◌^◌, ◌++◌, ◌∷◌, [], sym, ◌∙◌, ap, subst, arith, if◌then◌else◌}
 use Rattle.std.proofs.lemmas.Int.{ints}
 use Rattle.std.proofs.lemmas.Result.{on_ok_weaker}
 use Rattle.life_base.specs.Tree.{Tree, depth}

@@ -1,7 +1,5 @@
-use Rattle.std.proofs.Common.{◌≡◌, ◌<◌, refl, sym, subst, arith, w64, to_z, of_z, pos, ◌+ℤ◌, take, drop}
-use Rattle.std.specs.Prelude.{All}
+use Rattle.std.proofs.Common.{◌≡◌, ◌<◌, refl, sym, subst, arith, w64, to_z, of_z, pos, ◌+ℤ◌, take, drop, All, take-append-drop}
 use Rattle.std.proofs.lemmas.Int.{ints}
-use Rattle.std.proofs.lemmas.List.{take-append-drop}
 use Rattle.std.proofs.lemmas.List.Elements.{All-take, All-drop}
 use Rattle.life_base.specs.declared.cell.Cell.{Cell}
 use Rattle.life_sweep.specs.Generation.{after}

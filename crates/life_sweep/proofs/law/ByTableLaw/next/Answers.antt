@@ -1,5 +1,4 @@
-use Rattle.std.proofs.Common.{◌<◌, length, set, sym, ◌∙◌, subst, arith, length-set}
-use Rattle.std.specs.Prelude.{◌↔◌}
+use Rattle.std.proofs.Common.{◌<◌, length, set, sym, ◌∙◌, subst, arith, length-set, ◌↔◌}
 use Rattle.std.proofs.lemmas.List.Elements.{All-set}
 use Rattle.std.proofs.lemmas.Slice.Eq.{bytes_eq-Decides}
 use Rattle.life_table.specs.Meaning.{Answer, Becomes}

@@ -1,5 +1,4 @@
-use Rattle.std.proofs.Common.{◌≡◌, ◌+◌, pos, ◌+ℤ◌, List, [], ◌∷◌, ◌++◌, sym, ◌∙◌, ap, subst, arith}
-use Rattle.std.specs.Prelude.{Option}
+use Rattle.std.proofs.Common.{◌≡◌, ◌+◌, pos, ◌+ℤ◌, List, [], ◌∷◌, ◌++◌, sym, ◌∙◌, ap, subst, arith, Option}
 use Rattle.std.proofs.lemmas.Int.{ints}
 use Rattle.life_strip.specs.Given.{IsBehind, IsNext, IsOnPlane, state_by}
 use Rattle.life_strip.proofs.GivenLemmas.{runs_grow}

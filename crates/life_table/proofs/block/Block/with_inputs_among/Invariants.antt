@@ -1,5 +1,4 @@
-use Rattle.std.proofs.Common.{◌≡◌, ℕ, ◌<◌, ◌≤◌, List, length, take, slice_index}
-use Rattle.std.specs.Prelude.{count_by}
+use Rattle.std.proofs.Common.{◌≡◌, ℕ, ◌<◌, ◌≤◌, List, length, take, slice_index, count_by}
 use Rattle.std.specs.Int.{bit_at}
 use Rattle.life_table.specs.Index.{is_among, MayBeBehind}
 use Rattle.life_table.proofs.block.Block.with_inputs_among.Given as goal

@@ -1,5 +1,4 @@
-use Rattle.std.proofs.Common.{◌≡◌, ℕ, ◌<◌, ◌∷◌, List}
-use Rattle.std.specs.Prelude.{Contains}
+use Rattle.std.proofs.Common.{◌≡◌, ℕ, ◌<◌, ◌∷◌, List, Contains}
 use Rattle.std.specs.Int.{bit_at}
 use Rattle.life_table.specs.Index.{MayFit}
 use Rattle.life_table.specs.Orders.{orders}

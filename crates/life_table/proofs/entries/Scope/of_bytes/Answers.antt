@@ -1,5 +1,4 @@
-use Rattle.std.proofs.Common.{◌≡◌, ℕ, ◌+◌, ◌<◌, List, [], ◌∷◌, length, map, drop, get_or, false, sym, ap, ◌∙◌}
-use Rattle.std.specs.Prelude.{Option}
+use Rattle.std.proofs.Common.{◌≡◌, ℕ, ◌+◌, ◌<◌, List, [], ◌∷◌, length, map, drop, get_or, false, sym, ap, ◌∙◌, Option}
 use Rattle.std.proofs.Math.ListN.{drop_of_length-le}
 use Rattle.life_base.specs.Text.{is_whitespace}
 use Rattle.life_table.specs.Reading.{entry_of, all_some}

@@ -1,5 +1,4 @@
-use Rattle.std.proofs.Common.{◌≡◌, ℕ, ◌+◌, ◌<◌, ◌∷◌, [], List, take, length, length-set, slice_index, ap, sym, ◌∙◌, subst, true, arith}
-use Rattle.std.specs.Prelude.{count_by}
+use Rattle.std.proofs.Common.{◌≡◌, ℕ, ◌+◌, ◌<◌, ◌∷◌, [], List, take, length, length-set, slice_index, ap, sym, ◌∙◌, subst, true, arith, count_by}
 use Rattle.life_table.specs.Index.{is_among}
 use Rattle.life_table.proofs.SomeOrder.{among_before, among_pushed, counted_more}
 use Rattle.life_table.proofs.some_order.Counts.of.Goals as goal

@@ -1,5 +1,4 @@
-use Rattle.std.proofs.Common.{◌≡◌, ℕ, ◌<◌, ◌≤◌, ◌∷◌, [], take, length, slice_index, true}
-use Rattle.std.specs.Prelude.{count_by}
+use Rattle.std.proofs.Common.{◌≡◌, ℕ, ◌<◌, ◌≤◌, ◌∷◌, [], take, length, slice_index, true, count_by}
 use Rattle.life_table.specs.Index.{is_among}
 use Rattle.life_table.proofs.some_order.Counts.of.Given as goal
 
